@@ -33,12 +33,13 @@ enum cevandle_code {
 #define CEVANDLE_NONE UINT64_MAX
 
 /* The sizes of the memory: at most 16 processors, 64 pages of 64 words, 32 locks and 32 flags. Its addresses are the numbers
- * below pages times words. cevandle_judge takes up to 2^20 addresses: pages times words, each at most 2^20. */
+ * below pages times words. cevandle_judge takes up to 2^20 addresses (pages times words, each at most 2^20), 2^16 locks and
+ * 2^16 flags. */
 typedef struct cevandle_sizes {
     uint32_t processors, pages, words, locks, flags;
 } cevandle_sizes;
 
-/* What an event did: docs/CHECKING.md has when to log each. */
+/* What an event did: docs/LOGGING.md has when to log each. */
 enum cevandle_kind {
     CEVANDLE_LOAD = 0,    /* number: the address; value: the word answered */
     CEVANDLE_STORE = 1,   /* number: the address; value: the word stored */

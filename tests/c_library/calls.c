@@ -92,6 +92,20 @@ static void loads(void)
     count("happens-before owes less", all.verdict == CEVANDLE_FAITHFUL && all.race.first == 4 && all.race.second == 5);
 }
 
+static void many_locks(void)
+{
+    const cevandle_sizes sizes = {2, 1, 1, 1u << 16, 1u << 16};
+    const cevandle_event events[] = {
+        by(0, CEVANDLE_ASK, 65535, 0),   by(0, CEVANDLE_ACQUIRE, 65535, 0), by(0, CEVANDLE_STORE, 0, 9),
+        by(0, CEVANDLE_SET, 65535, 0),   by(1, CEVANDLE_WATCH, 65535, 0),   by(1, CEVANDLE_AWAIT, 65535, 0),
+        by(1, CEVANDLE_LOAD, 0, 9),      by(1, CEVANDLE_ASK, 65535, 0),     by(1, CEVANDLE_ACQUIRE, 65535, 0)};
+    cevandle_verdict found;
+    count("the last of 2^16 flags", cevandle_judge(sizes, rules(CEVANDLE_RACE_FREE, 0, 0), events, 8, &found) == CEVANDLE_DONE
+                                        && found.verdict == CEVANDLE_FAITHFUL && found.race.second == CEVANDLE_NONE);
+    count("the last of 2^16 locks", cevandle_judge(sizes, rules(CEVANDLE_RACE_FREE, 0, 0), events, 9, &found) == CEVANDLE_DONE
+                                        && found.verdict == CEVANDLE_UNFAITHFUL && found.lie.why == CEVANDLE_HELD_BY && found.lie.other == 0);
+}
+
 static void reasons(void)
 {
     const uint32_t model = CEVANDLE_LAZY_RELEASE;
@@ -150,8 +164,8 @@ static void refusals(cevandle_event *many)
     sizes[0].processors = 17;
     sizes[1].pages = (1u << 19) + 1;
     sizes[2].words = (1u << 19) + 1;
-    sizes[3].locks = 33;
-    sizes[4].flags = 33;
+    sizes[3].locks = (1u << 16) + 1;
+    sizes[4].flags = (1u << 16) + 1;
     sizes[5].pages = UINT32_MAX;
     for (int i = 0; i < 6; i++) {
         refuses("bad sizes", CEVANDLE_BAD_SIZES, sizes[i], rules(9, 9, 9), bad, 1);
@@ -340,6 +354,7 @@ int main(int words, char **word)
     }
     faithful_histories();
     loads();
+    many_locks();
     reasons();
     refusals(many);
     races(many);

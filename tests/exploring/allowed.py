@@ -62,6 +62,16 @@ class Beginning:
         return tuple(map(tuple, rows)), frozenset(pasts.items()), tuple(map(tuple, state))
 
 
+def after(script, events):
+    """The beginning with these events; None if the rules don't allow it."""
+    beginning = Beginning(script)
+    for event in events:
+        beginning = next((it for it in beginning.nexts() if it.events[-1] == event), None)
+        if beginning is None:
+            return None
+    return beginning
+
+
 def all_allowed(script, most):
     """What the loads of each processor answer, of each whole run; None if there are more than so many beginnings."""
     start = Beginning(script)

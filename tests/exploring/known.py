@@ -4,7 +4,7 @@ import random
 import scripts
 import texts
 from allowed import all_allowed
-from schedules import Enumeration, Memory, enumerate_all, first_race
+from schedules import Enumerated, Enumeration, Memory, enumerate_all, first_race
 
 MESSAGE = "cluster 2 1 2 0 1/p 0/store 0 5/set 0/p 1/await 0/load 0/show 0/"
 COUNTER = "cluster 2 1 1 1/p 0/acquire 0/add 0 1/release 0/p 1/acquire 0/add 0 1/release 0/show 0/"
@@ -88,6 +88,47 @@ def is_allowed_as_by_hand(row):
     script = scripts.read(text.replace("/", "\n"))
     results = texts.results_of(script, all_allowed(script, 10000), "loads")
     return sorted(texts.outcome_line(it).strip() for it in results) == sorted(wanted)
+
+
+# Events of a racy script, whether they are a run that the rules allow, and an address and a word that it is asked for.
+RUNS = [
+    (["event 0 0 store 0 1", "event 1 1 store 1 1", "event 2 0 load 1 0", "event 3 1 load 0 0"], True, {0: 1}),
+    # On one flat memory the load answers the other's store; by the rules that isn't in its past.
+    (["event 0 0 store 0 1", "event 1 1 store 1 1", "event 2 0 load 1 1", "event 3 1 load 0 0"], False, {0: 1}),
+    # No run ends so.
+    (["event 0 0 store 0 1", "event 1 1 store 1 1", "event 2 0 load 1 0", "event 3 1 load 0 0"], False, {0: 2}),
+]
+ENDS = ["event 4 0 arrive", "event 5 1 arrive", "event 6 0 depart", "event 7 1 depart", "event 8 0 load 0 1"]
+
+
+def is_run_as_by_hand(row):
+    """Whether the text that tells the run is let through exactly if it is one that ends so, and not without its last event."""
+    lines, holds, asked = row
+    script = scripts.read(BUFFERING.replace("/", "\n"))
+    events = [*lines, *ENDS]
+    replies = "p0 1 p1 0" if "event 2 0 load 1 1" in lines else "p0 0 p1 0"
+    front = ["verdict racy", *events[:4], "race", *events[1:3], "states 9", "until by the rules", f"  words 0 1 replies {replies}"]
+
+    def is_let_through(told):
+        text = "".join(line + "\n" for line in [*front, *told, "beginnings 9"])
+        try:
+            texts.judge_until_by_rules(script, Enumerated(), texts.read_until_by_rules(text)[1], asked)
+        except texts.Wrong:
+            return False
+        return True
+
+    return is_let_through(events) == holds and not is_let_through(events[:-1])
+
+
+def is_never_as_by_hand(asked, holds):
+    """Whether it is let through that no run ends so, exactly if none does."""
+    script = scripts.read(BUFFERING.replace("/", "\n"))
+    found = Enumerated(allowed=all_allowed(script, 10000))
+    try:
+        texts.judge_until_by_rules(script, found, texts.Until("never"), asked)
+    except texts.Wrong:
+        return not holds
+    return holds
 
 
 def is_allowed_as_flat(seed):
@@ -253,6 +294,10 @@ def trials():
         yield f"{detail} by hand", is_told_as_by_hand(detail)
     for row in ALLOWED:
         yield f"allowed by hand: {row[0]}", is_allowed_as_by_hand(row)
+    for row in RUNS:
+        yield f"a run by the rules: {row}", is_run_as_by_hand(row)
+    for word in (0, 1, 2):
+        yield f"never {word} by the rules", is_never_as_by_hand({0: word}, word != 1)
     for seed in range(200):
         yield f"a walk of script {seed}", is_one_walk(seed)
     for seed in range(100):

@@ -2,6 +2,7 @@
 import re
 from dataclasses import dataclass
 
+from allowed import after
 from schedules import Event, Memory, first_race
 
 NUMBERS = {"load": 2, "store": 2, "ask": 1, "acquire": 1, "release": 1, "arrive": 0, "depart": 0,
@@ -83,6 +84,28 @@ def read_allowed(lines, answer):
     answer.allowed_all = count[2] is None
     answer.allowed = [read_outcome(lines.next("  (words .*)")[1]) for _ in range(int(count[1]))]
     lines.next(r"beginnings [1-9][0-9]*")
+
+
+@dataclass
+class Until:
+    """What the rules say of a run that ends with some words."""
+    answer: str  # "shown", "never", "undecided"
+    outcome: tuple = None  # (words, replies) of the run
+    events: list = None  # its events
+
+
+def read_until_by_rules(text):
+    """What the text on a racy script's race says, and what stands behind that of a run by the rules."""
+    front, states, rest = text.partition("\nstates ")
+    number, _, behind = rest.partition("\n")
+    lines = Lines(behind)
+    until = Until(lines.next("until (?:(never|undecided) )?by the rules")[1] or "shown")
+    if until.answer == "shown":
+        until.outcome = read_outcome(lines.next("  (words .*)")[1])
+        until.events = read_events(lines)
+    lines.next(r"beginnings (0|[1-9][0-9]*)")
+    lines.end()
+    return read(front + states + number + "\n", by_rules=False), until
 
 
 def read_hang(lines, answer, pattern):
@@ -239,6 +262,28 @@ def judge_allowed(script, found, answer, detail):
     """What the rules allow has to be what the enumeration by them finds, unless that has too many beginnings."""
     if found.allowed is not None:
         expect_all(answer.allowed, answer.allowed_all, results_of(script, found.allowed, detail))
+
+
+def ends_with(words, asked):
+    """Whether these words, of each shown address in turn, have what is asked for, wherever its address is shown."""
+    return all(asked.get(address, word) == word for address, word in words)
+
+
+def judge_until_by_rules(script, found, until, asked):
+    """A run has to be one that the rules allow, with what it shows, and end with what is asked for; and none may be missed."""
+    if until.answer == "shown":
+        run = after(script, until.events)
+        if run is None or not run.memory.is_whole():
+            raise Wrong(f"{event_lines(until.events)} is no run that the rules allow")
+        if shown_of(script, tuple(map(tuple, run.memory.replies))) != until.outcome:
+            raise Wrong(f"{until.outcome} isn't what the run shows")
+        if not ends_with(until.outcome[0], asked):
+            raise Wrong(f"{until.outcome} where {asked} is asked for")
+    elif found.allowed is not None:
+        if until.answer == "undecided":
+            raise Wrong("undecided by the rules")
+        if any(ends_with(shown_of(script, replies)[0], asked) for replies in found.allowed):
+            raise Wrong(f"never by the rules, which allow a run that ends with {asked}")
 
 
 def expect_all(outcomes, are_all, wanted):

@@ -17,8 +17,9 @@ from of_schedules import by_turns, note, on_threads, seeds_of
 
 # How many schedules a script has whose journals are falsified.
 SCHEDULES = 3
-# Pages, and words of a page: as many addresses as a trace has at most.
-WIDE = 1 << 10
+# Pages, and words of a page: as many addresses as a trace has at most. Locks, and flags: as many as it has at most.
+WIDE, MANY = 1 << 10, 1 << 16
+FLAGGING = ("set", "watch", "await")
 # What a journal is called that isn't falsified, and one with other replies all along.
 AS_IT_IS, FLAT = "journals", "all replies of one flat memory"
 
@@ -61,8 +62,22 @@ def falsified_ways(draws, script, events):
         yield FLAT, flat
 
 
+def with_many(script, events):
+    """The script with as many locks and flags as a trace has at most, and its trace with these moved apart: the last lock and
+    the last flag are the last there can be."""
+    apart = {**dict.fromkeys(locksets.LOCKING, script.locks), **dict.fromkeys(FLAGGING, script.flags)}
+
+    def moved(event):
+        if event.kind not in apart:
+            return event
+        count = apart[event.kind]
+        return replace(event, numbers=(MANY - 1 - (count - 1 - event.numbers[0]) * (MANY // max(count, 1)),))
+
+    return replace(script, locks=MANY, flags=MANY), tuple(map(moved, events))
+
+
 def widened(script, events):
-    """The script with as many pages and words as a trace has at most, and its trace with these moved apart."""
+    """The same with as many pages and words as a trace has at most, also moved apart."""
     of_page, of_word = WIDE // script.pages, WIDE // script.words
 
     def moved(event):
@@ -73,7 +88,8 @@ def widened(script, events):
             first *= of_page
         return event if first is None else replace(event, numbers=(first, *rest))
 
-    return replace(script, pages=WIDE, words=WIDE), tuple(map(moved, events))
+    many, trace = with_many(script, events)
+    return replace(many, pages=WIDE, words=WIDE), tuple(map(moved, trace))
 
 
 class Case:
@@ -99,7 +115,7 @@ class Case:
             self.found.turn("traces", turns.TRACES, answer, check)
 
     def try_wide(self, events, rules):
-        """Compares what the program says of the trace with its pages and words moved apart."""
+        """Compares what the program says of the trace with its pages, words, locks and flags moved apart."""
         script, moved = widened(self.script, events)
         verdict = verdicts.find(script, moved, rules)
         answer = self.program.call(verdicts.text_of(script, moved), "check", *rules.words())
@@ -136,6 +152,7 @@ class Case:
         traces = [("journals", script, events), ("a lock forgotten", script, locksets.forgetful(draws, events)),
                   ("and ordered by accident", replace(script, locks=spare + 1),
                    locksets.forgetful(draws, events, spare, script.processors))]
+        traces += [(f"{sort}, of many", *with_many(sizes, trace)) for sort, sizes, trace in traces if trace is not None]
         for sort, sizes, trace in traces:
             if trace is not None:
                 text = verdicts.text_of(sizes, trace)

@@ -35,9 +35,9 @@ JSON = (("result", ("race-free", "racy")), ("search", ("race-free", "racy", "und
 TOLD = ("faithful", "no trace", "a lie")
 # Of traces with as many addresses as there may be.
 WIDE = ("faithful", "ill formed", "unexplained", "miscounted", "racy")
-# Of --locksets, of a journal and of one of which a section forgets its lock.
+# Of --locksets, of a journal and of one of which a section forgets its lock; and with as many locks as there may be.
 LOCKSETS = [("journals", "nothing told"), ("journals", "no race-free trace"), *(
-    (sort, what) for sort in ("a lock forgotten", "and ordered by accident")
+    (sort, what) for sort in ("a lock forgotten", "and ordered by accident", "and ordered by accident, of many")
     for what in ("told", "nothing told", "no race-free trace"))]
 COUNTED = ("reports", "racy", "cut", "events", "fetches")
 

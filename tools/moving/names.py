@@ -4,7 +4,7 @@ import re
 from reading import antt, rattle
 from reading.moves import Refused
 from .places import users_of
-from .texts import code, move_files, move_paths, others, place_of, sub
+from .texts import code, file_of, move_files, move_paths, others, place_of, sub
 
 # A `use` line of a type's constructors: the module, and the type.
 CONSTRUCTORS = re.compile(r"\buse Rattle\.([^\s{;]+)\.([^\s{;.]+)\.\{")
@@ -58,9 +58,10 @@ def taken(scopes, wanted, move):
 
 
 def speak_of(files, crate, old, new, alone):
-    """Has documents call it by its new name, within backticks; if others have the old name too, a person has to."""
+    """Has documents call it by its new name, within backticks; if others have the old name too, or if it is a plain word, as
+    clauses have for names, a person has to."""
     pages = [path for path in others(files) if path.endswith(".md")]
-    if alone:
+    if alone and not re.fullmatch(r"[a-z]+", old):
         sub(files, pages, rf"(?<=`){re.escape(old)}(?=`)", new)
         return
     for path in pages:
@@ -199,7 +200,7 @@ def function(files, move):
     if same != 1:
         paths = [home]
         print(f"by hand: fn {crate} {path}: {same} functions there have that name; calls were renamed in {home} alone")
-    called = (rf"(?<=fn ){old}\b(?=[<(])|(?<=::){old}\b(?=[(<,;}}:])|(?<![\w.]){old}\b(?=\()"
+    called = (rf"(?<=fn ){old}\b(?=[<(])|(?<=::){old}\b(?=[(<,;}}]|::<)|(?<![\w.]){old}\b(?=\()"
               rf"|(?<=\.){old}(?=(?:::<[^>]*>)?\()")
     sub(files, paths, called, new)
     if not above or not above[-1][0].isupper():
@@ -211,15 +212,22 @@ def function(files, move):
 
 
 def goals(files, crate, old, new):
-    """Renames goals and their facts that begin with a function's name, in what is written of proofs; says each line that
-    has one. (What stands behind it is often a variable's name, and stays.)"""
-    named = re.compile(rf"(?<=\bc\.){old}(?=[-.\s)]|$)|(?<=in_ok-){old}\b|(?<=After-){old}\b|^((?:abbrev |pub )*){old}(?=-)")
-    part = re.compile(rf"(?<=[.-]){old}(?=[-.\s)]|$)")
+    """Renames the part of goals and of their facts that is a function's name, in what is written of proofs. Where the
+    function that a proof is of has a variable of that name, only what is surely a call is renamed."""
+    begins = (rf"(?<=\bc\.){old}(?=[-+.\s)]|$)|(?<=\bgoal\.){old}(?=[-+.\s)]|$)|(?<=After-){old}(?=[-+.,\s)}};]|$)"
+              rf"|(?<![^\n]){old}(?=[-+])|(?<=^pub ){old}(?=[-+])|(?<=^abbrev pub ){old}(?=[-+])|(?<=Goals\.{{){old}(?=[-+])")
+    inside = rf"(?<=\.){old}(?=[-+])|(?<=[-+])(?<!clause-){old}(?=[-+.,\s)}};]|$)|(?<=, ){old}(?=[-+][^{{}}\n]*}}$)"
+    call, part = re.compile(f"(?m){begins}"), re.compile(f"(?m){begins}|{inside}")
     for path in code(files, crate):
-        if re.search(r"/proofs/.*/(Answers|Invariants|Proof)\.antt$", path) and old in files.texts[path]:
-            lines = files.texts[path].splitlines(keepends=True)
-            for at, line in enumerate(lines):
-                if not line.startswith("use ") and (named.search(line) or part.search(line)):
-                    lines[at] = named.sub(lambda found: (found[1] or "") + new, line)
-                    print(f"by hand: {path}:{at + 1}: a goal of {old}, now {new}: {lines[at].strip()[:110]}")
-            files.texts[path] = "".join(lines)
+        if re.search(r"/proofs/.*/(Answers|Invariants|Proof)\.antt$", path) and part.search(files.texts[path]):
+            files.texts[path] = (call if has_variable(files, path, old) else part).sub(new, files.texts[path])
+
+
+def has_variable(files, path, name):
+    """Whether the function that a file of proofs/ is of has a variable of that name."""
+    crate, _, place = place_of(path)
+    function, above = place[-2], [it for it in place[:-2] if not it[0].isupper()]
+    text = next((files.texts[at] for at in (file_of(crate, "src", above), f"crates/{crate}/src/main.rt") if at in files.texts), "")
+    variable = re.compile(rf"(?<!fn )(?<![\w.:]){name}\b(?!\s*(?:\(|::|!))")
+    return any(it.kind == "fn" and it.name == function and variable.search(rattle.masked(text)[it.start:it.end])
+               for it in rattle.items(text))

@@ -74,7 +74,8 @@ class Move:
         if folder == "specs" and parts[:1] and parts[0] in GENERATED:
             to, rest = self.source(crate, parts[1:])
             return to, folder, [parts[0], *rest]
-        if folder == "proofs" and parts[:1] and not parts[0][0].isupper():
+        is_room = self.kind == "file" and self.words[1].startswith("proofs/")
+        if folder == "proofs" and parts[:1] and not parts[0][0].isupper() and not is_room:
             to, parts = self.source(crate, parts)
             return to, folder, parts
         if self.kind == "crate" and crate == self.words[0]:

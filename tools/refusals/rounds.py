@@ -153,7 +153,7 @@ def result(edit, told):
 
 
 def try_round(crate, group, seed):
-    """What the edits of a group come to. Where the check says nothing of them, each is tried alone."""
+    """What the edits of a group come to. What its check doesn't show of them, smaller groups do."""
     texts, why = texts_of([edit.path for edit in group], crate.folder)
     if not why:
         ran = check(crate, texts, seed)
@@ -161,13 +161,24 @@ def try_round(crate, group, seed):
         why = fault_of(ran, told, texts)
     if why and len(group) == 1:
         return [Result(group[0], AMISS, why=why)]
-    if not why:
-        turned = {path for edit in group for path in edit.paths(told)}
-        results = [result(edit, told) for edit in group]
-        is_clear = set(told.unproved()) <= turned and all(it.kind == REFUSED for it in results)
-        if is_clear or len(group) == 1:
-            return results
-    return [it for edit in group for it in try_round(crate, [edit], seed)]
+    if why:
+        return halves(crate, group, seed)
+    results = [result(edit, told) for edit in group]
+    if len(group) == 1:
+        return results
+    # (what is open beside the turned functions may be another edit's doing)
+    turned = {path for edit in group for path in edit.paths(told)}
+    if not set(told.unproved()) <= turned:
+        return halves(crate, group, seed)
+    left = [edit for edit, it in zip(group, results) if it.kind != REFUSED]
+    again = try_round(crate, left, seed) if 0 < len(left) < len(group) else halves(crate, left, seed) if left else []
+    return [it for it in results if it.kind == REFUSED] + again
+
+
+def halves(crate, group, seed):
+    """The same of each half of a group of several."""
+    middle = len(group) // 2
+    return [it for half in (group[:middle], group[middle:]) for it in try_round(crate, half, seed)]
 
 
 def edits_to_try(crate, names=()):

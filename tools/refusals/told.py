@@ -6,6 +6,8 @@ from typing import NamedTuple
 from .functions import around, functions_of
 
 STATUS = re.compile(r"(?:fn|impl|struct|enum|const|trait|type) (\S+): (proved|not proved|no proof|.+?)(?:: .*)?")
+# What is said of a function that was not tried, since another one is open.
+WAITS = re.compile(r"(?:fn|impl|struct|enum|const|trait|type) (\S+): (?:no proof: it (?:calls|passes|uses)|not proved; it waits for) .*")
 ERROR = re.compile(r"(?:\./)?(proofs/\S+?)\.antt:\d+:\d+: error: (?:`([^`]*)`: )?(.*)")
 NOTE = re.compile(r"note: (src/\S+):(\d+):\d+: .*\(`([^`]*)`\)")
 UNPROVED = re.compile(r"did not prove (.*)")
@@ -38,6 +40,7 @@ class Told:
         self.goals, self.unread = [], []
         statuses = [found for line in self.lines if (found := STATUS.fullmatch(line))]
         self.status = {found[1]: found[2] for found in statuses}
+        self.waiting = {found[1] for line in self.lines if (found := WAITS.fullmatch(line))}
         for line in self.lines:
             self.read(line)
 
@@ -75,8 +78,9 @@ class Told:
         return [path for path in self.status if function.is_told_as(path, stem)]
 
     def unproved(self):
-        """The functions and types that are not proved."""
-        return [path for path, status in self.status.items() if status != "proved"]
+        """The functions and types that are not proved, but for those that were not tried. One may be proved with a remark:
+        that it may wait, or that its callers give what it asks."""
+        return [path for path, status in self.status.items() if not status.startswith("proved") and path not in self.waiting]
 
     def refusal(self, paths):
         """The goal of a contract of these functions that refuses them, the plainest; None where none does."""

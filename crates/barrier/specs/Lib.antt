@@ -1,1 +1,1 @@
-pub mod Episodes
+pub mod BarrierEpisodes

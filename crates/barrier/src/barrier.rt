@@ -3,8 +3,8 @@ ghost use Rattle.std.specs.Prelude.{ℕ, ◌≡◌, ◌≤◌, ◌<◌, ◌+◌,
 ghost use Rattle.std.specs.Prelude.{count_by};
 ghost use Rattle.std.specs.List.{list_all};
 ghost use Rattle.base.specs.Prelude.{most_processors};
-ghost use Rattle.vtime.specs.Times.{join};
-ghost use Rattle.barrier.specs.Episodes.{unmet_episodes, is_here, episode_full, episode_with_arrival, episode_arrived, episode_departed, HasGathered, Gathers};
+ghost use Rattle.vtime.specs.TicksAndJoins.{join};
+ghost use Rattle.barrier.specs.BarrierEpisodes.{unmet_barrier_episodes, is_here_for_barrier_episode, barrier_episode_full, barrier_episode_with_one_more, barrier_episode_arrived, barrier_episode_departed, HasGatheredForBarrierEpisode, GathersForBarrierEpisode};
 
 use base::MOST_PROCESSORS;
 use smallvec::SmallVec;
@@ -40,9 +40,9 @@ pub struct Barrier {
 impl Model for Barrier {
     ghost use Rattle.std.specs.Prelude.{◌≡◌, ◌≤◌, length};
     ghost use Rattle.base.specs.Limits.{most_processors};
-    ghost use Rattle.barrier.specs.Episodes.{Episodes};
+    ghost use Rattle.barrier.specs.BarrierEpisodes.{BarrierEpisodes};
 
-    ghost Value = { Episodes };
+    ghost Value = { BarrierEpisodes };
 
     ghost view = { λ b. record { stages = b.stages.items; gathered = b.gathered; last = b.last } };
 
@@ -57,8 +57,8 @@ impl Barrier {
     pub fn new(alloc: Global, processors: usize) -> Self
         requires some { 1 ≤ processors }
         requires most { processors ≤ most_processors }
-        ensures value { result ≡ unmet_episodes processors }
-        ensures gathers { HasGathered result [] }
+        ensures value { result ≡ unmet_barrier_episodes processors }
+        ensures gathers { HasGatheredForBarrierEpisode result [] }
     {
         Barrier {
             stages: SmallVec::from_elem(alloc, Stage::Away, processors).unwrap(),
@@ -72,20 +72,20 @@ impl Barrier {
     pub fn arrive(&mut self, processor: usize, time: &VTime) -> bool
         requires away { slice_get self.old.stages processor ≡ Some Stage.Away }
         requires long { length time.now ≡ length self.old.stages }
-        ensures barrier { self.new ≡ episode_arrived self.old processor time.now }
+        ensures barrier { self.new ≡ barrier_episode_arrived self.old processor time.now }
         ensures complete { IsTrue result ↔
-            (count_by is_here self.old.stages + 1 ≡ length self.old.stages) }
-        ensures full { result ≡ episode_full (episode_with_arrival self.old processor time.now) }
+            (count_by is_here_for_barrier_episode self.old.stages + 1 ≡ length self.old.stages) }
+        ensures full { result ≡ barrier_episode_full (barrier_episode_with_one_more self.old processor time.now) }
         ensures same_length { length self.new.stages ≡ length self.old.stages }
 
         // Whichever arrivals led here, the time of a complete episode is the join of them all.
         ensures gathers { (times : List (List ℕ)) →
-            HasGathered self.old times →
-            Gathers result self.new time.now times }
+            HasGatheredForBarrierEpisode self.old times →
+            GathersForBarrierEpisode result self.new time.now times }
     {
         self.stages[processor] = Stage::Here;
         self.gathered.join(time);
-        let full = all_here(self.stages.as_slice());
+        let full = barrier_all_here(self.stages.as_slice());
         if full {
             mem::swap(&mut self.last, &mut self.gathered);
             self.gathered.clear();
@@ -99,8 +99,8 @@ impl Barrier {
     pub fn completes(&self, processor: usize) -> bool
         requires { slice_get self.now.stages processor ≡ Some Stage.Away }
         ensures complete { IsTrue result ↔
-            (count_by is_here self.now.stages + 1 ≡ length self.now.stages) }
-        ensures full { (time : List ℕ) → result ≡ episode_full (episode_with_arrival self.now processor time) }
+            (count_by is_here_for_barrier_episode self.now.stages + 1 ≡ length self.now.stages) }
+        ensures full { (time : List ℕ) → result ≡ barrier_episode_full (barrier_episode_with_one_more self.now processor time) }
     {
         count_here(self.stages.as_slice()) + 1 == self.stages.len()
     }
@@ -144,22 +144,22 @@ impl Barrier {
     /// Lets a processor that is ready depart.
     pub fn depart(&mut self, processor: usize)
         requires { slice_get self.old.stages processor ≡ Some Stage.Free }
-        ensures barrier { self.new ≡ episode_departed self.old processor }
-        ensures gathers { (times : List (List ℕ)) → HasGathered self.old times
-            → HasGathered self.new times }
+        ensures barrier { self.new ≡ barrier_episode_departed self.old processor }
+        ensures gathers { (times : List (List ℕ)) → HasGatheredForBarrierEpisode self.old times
+            → HasGatheredForBarrierEpisode self.new times }
     {
         self.stages[processor] = Stage::Away;
     }
 }
 
 fn count_here(stages: &[Stage]) -> usize
-    ensures { result ≡ count_by is_here stages.now }
+    ensures { result ≡ count_by is_here_for_barrier_episode stages.now }
 {
     stages.iter().filter(|stage| **stage == Stage::Here).count()
 }
 
-fn all_here(stages: &[Stage]) -> bool
-    ensures { result ≡ list_all is_here stages.now }
+fn barrier_all_here(stages: &[Stage]) -> bool
+    ensures { result ≡ list_all is_here_for_barrier_episode stages.now }
 {
     stages.iter().all(|stage| *stage == Stage::Here)
 }

@@ -1,10 +1,10 @@
 pub mod SlicesAndCounts
 pub mod SliceSets
 pub mod LastWritten
-pub mod Records
-pub mod MarkedHarvests
+pub mod RecordWrites
+pub mod MarkedWrites
 pub mod Unmarked
-pub mod Joined
+pub mod JoinedLists
 pub mod OnceWithout
 pub mod FilteredInOrder
 pub mod Filters

@@ -79,52 +79,52 @@ slice_push_induction {A} P start step xs = go [] xs start
     go front (x ∷ rest) h = rw append_assoc at (go (front ++ x ∷ []) rest (step front x h))
 
 -- the front up to an item, with it
-pub take-suc_at : {A : Type 0} (xs : List A) (k : ℕ) (x : A) → slice_get xs k ≡ Some x
+pub slice_take-suc_at : {A : Type 0} (xs : List A) (k : ℕ) (x : A) → slice_get xs k ≡ Some x
     → take (suc k) xs ≡ take k xs ++ x ∷ []
-take-suc_at [] k x h = absurd (none-some x h)
-take-suc_at (y ∷ xs) zero x h = ap (λ z. z ∷ []) (same_Some y x h)
-take-suc_at (y ∷ xs) (suc k) x h = ap (λ zs. y ∷ zs) (take-suc_at xs k x h)
+slice_take-suc_at [] k x h = absurd (none-some x h)
+slice_take-suc_at (y ∷ xs) zero x h = ap (λ z. z ∷ []) (same_Some y x h)
+slice_take-suc_at (y ∷ xs) (suc k) x h = ap (λ zs. y ∷ zs) (slice_take-suc_at xs k x h)
 
 -- counts add up
-pub count_by-append : {A : Type 0} (p : A → Bool) (xs ys : List A)
+pub slice_count_by-append : {A : Type 0} (p : A → Bool) (xs ys : List A)
     → count_by p (xs ++ ys) ≡ count_by p xs + count_by p ys
-count_by-append p xs ys = sum_by-append (λ x. cond (p x) 1 0) xs ys
+slice_count_by-append p xs ys = sum_by-append (λ x. cond (p x) 1 0) xs ys
 
 -- a longer front counts at least as many
-pub count_by-mono : {A : Type 0} (p : A → Bool) (xs : List A) (i k : ℕ) → i ≤ k
+pub slice_count_by-mono : {A : Type 0} (p : A → Bool) (xs : List A) (i k : ℕ) → i ≤ k
     → count_by p (take i xs) ≤ count_by p (take k xs)
-count_by-mono p xs i k h = rw (take-take i k xs h) at (sum_by-take-le (λ x. cond (p x) 1 0) (take k xs) i)
+slice_count_by-mono p xs i k h = rw (take-take i k xs h) at (sum_by-take-le (λ x. cond (p x) 1 0) (take k xs) i)
 
 -- a front counts at most as many as the list
-pub count_by-take-le : {A : Type 0} (p : A → Bool) (xs : List A) (i : ℕ) → count_by p (take i xs) ≤ count_by p xs
-count_by-take-le p xs i = sum_by-take-le (λ x. cond (p x) 1 0) xs i
+pub slice_count_by-take-le : {A : Type 0} (p : A → Bool) (xs : List A) (i : ℕ) → count_by p (take i xs) ≤ count_by p xs
+slice_count_by-take-le p xs i = sum_by-take-le (λ x. cond (p x) 1 0) xs i
 
 -- a counted item counts one
-pub count_by-suc_at : {A : Type 0} (p : A → Bool) (xs : List A) (k : ℕ) (x : A) → slice_get xs k ≡ Some x → p x ≡ true
+pub slice_count_by-suc_at : {A : Type 0} (p : A → Bool) (xs : List A) (k : ℕ) (x : A) → slice_get xs k ≡ Some x → p x ≡ true
     → count_by p (take (suc k) xs) ≡ suc (count_by p (take k xs))
-count_by-suc_at p xs k x at is =
+slice_count_by-suc_at p xs k x at is =
     let one : count_by p (x ∷ []) ≡ 1 = rw is in
-    let sum = count_by-append p (take k xs) (x ∷ []) in
-    rw (take-suc_at xs k x at) (omega arith)
+    let sum = slice_count_by-append p (take k xs) (x ∷ []) in
+    rw (slice_take-suc_at xs k x at) (omega arith)
 
 -- a front past a counted item counts more than the front up to it
-pub count_by-past : {A : Type 0} (p : A → Bool) (xs : List A) (i k : ℕ) (x : A) → slice_get xs i ≡ Some x → p x ≡ true
+pub slice_count_by-past : {A : Type 0} (p : A → Bool) (xs : List A) (i k : ℕ) (x : A) → slice_get xs i ≡ Some x → p x ≡ true
     → i < k → count_by p (take i xs) < count_by p (take k xs)
-count_by-past p xs i k x at is h =
-    let more = count_by-suc_at p xs i x at is in
-    let up = count_by-mono p xs (suc i) k h in
+slice_count_by-past p xs i k x at is h =
+    let more = slice_count_by-suc_at p xs i x at is in
+    let up = slice_count_by-mono p xs (suc i) k h in
     omega arith
 
 -- the list counts more than the front up to a counted item
-pub count_by-within : {A : Type 0} (p : A → Bool) (xs : List A) (i : ℕ) (x : A) → slice_get xs i ≡ Some x → p x ≡ true
+pub slice_count_by-within : {A : Type 0} (p : A → Bool) (xs : List A) (i : ℕ) (x : A) → slice_get xs i ≡ Some x → p x ≡ true
     → count_by p (take i xs) < count_by p xs
-count_by-within p xs i x at is =
-    let more = count_by-suc_at p xs i x at is in
-    let up = count_by-take-le p xs (suc i) in
+slice_count_by-within p xs i x at is =
+    let more = slice_count_by-suc_at p xs i x at is in
+    let up = slice_count_by-take-le p xs (suc i) in
     omega arith
 
 -- the counted item at place k has n counted ones before it
-pub record CountedAt {A : Type 0} (p : A → Bool) (xs : List A) (n : ℕ) : Type 0 where
+pub record SliceCountedAt {A : Type 0} (p : A → Bool) (xs : List A) (n : ℕ) : Type 0 where
   pub place : ℕ
   pub item : A
   pub at : slice_get xs place ≡ Some item
@@ -132,10 +132,10 @@ pub record CountedAt {A : Type 0} (p : A → Bool) (xs : List A) (n : ℕ) : Typ
   pub before : count_by p (take place xs) ≡ n
 
 -- of each number below the count there is a counted item
-pub counted : {A : Type 0} (p : A → Bool) (xs : List A) (n : ℕ) → n < count_by p xs → CountedAt p xs n
-counted {A} p xs n = slice_push_induction (λ ys. n < count_by p ys → CountedAt p ys n) (λ h. absurd (omega arith)) step xs
+pub slice_counted_at : {A : Type 0} (p : A → Bool) (xs : List A) (n : ℕ) → n < count_by p xs → SliceCountedAt p xs n
+slice_counted_at {A} p xs n = slice_push_induction (λ ys. n < count_by p ys → SliceCountedAt p ys n) (λ h. absurd (omega arith)) step xs
   where
-    longer : (ys : List A) (y : A) → CountedAt p ys n → CountedAt p (ys ++ y ∷ []) n
+    longer : (ys : List A) (y : A) → SliceCountedAt p ys n → SliceCountedAt p (ys ++ y ∷ []) n
     longer ys y c =
         let lt = slice_get_within ys c.place c.item c.at in
         let le : c.place ≤ length ys = omega arith in
@@ -148,9 +148,9 @@ counted {A} p xs n = slice_push_induction (λ ys. n < count_by p ys → CountedA
         }
 
     now : (ys : List A) (y : A) (b : Bool) → p y ≡ b → n < count_by p (ys ++ y ∷ []) → count_by p ys ≤ n
-        → CountedAt p (ys ++ y ∷ []) n
+        → SliceCountedAt p (ys ++ y ∷ []) n
     now ys y true e h le =
-        let sum = count_by-append p ys (y ∷ []) in
+        let sum = slice_count_by-append p ys (y ∷ []) in
         let one : count_by p (y ∷ []) ≡ 1 = rw e in
         record {
           place = length ys;
@@ -160,11 +160,11 @@ counted {A} p xs n = slice_push_induction (λ ys. n < count_by p ys → CountedA
           before = rw take-append_seam (omega arith);
         }
     now ys y false e h le =
-        let sum = count_by-append p ys (y ∷ []) in
+        let sum = slice_count_by-append p ys (y ∷ []) in
         let none : count_by p (y ∷ []) ≡ 0 = rw e in
         absurd (omega arith)
 
-    step : (ys : List A) (y : A) → (n < count_by p ys → CountedAt p ys n) → n < count_by p (ys ++ y ∷ [])
-        → CountedAt p (ys ++ y ∷ []) n
+    step : (ys : List A) (y : A) → (n < count_by p ys → SliceCountedAt p ys n) → n < count_by p (ys ++ y ∷ [])
+        → SliceCountedAt p (ys ++ y ∷ []) n
     step ys y ih h =
         elim (cases_lt n (count_by p ys)) [ inl lt ↦ longer ys y (ih lt) | inr le ↦ now ys y (p y) refl h le ]

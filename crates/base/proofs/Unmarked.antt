@@ -1,11 +1,11 @@
 -- Pages of which no word is marked, and their harvests.
 use Rattle.std.proofs.Common.{ℕ, suc, ◌≡◌, List, [], ◌∷◌, Bool, true, false, length, replicate, ap, refl, arith}
-use Rattle.base.specs.MarkedRecords.{harvest}
+use Rattle.base.specs.AppliedRecords.{harvest}
 
 -- where no word is marked, nothing is harvested
-pub harvest_unmarked : (i : ℕ) (words : List ℕ) → harvest i words (replicate (length words) false) ≡ []
-harvest_unmarked i [] = refl
-harvest_unmarked i (w ∷ words) = harvest_unmarked (suc i) words
+pub unmarked_harvests_nothing : (i : ℕ) (words : List ℕ) → harvest i words (replicate (length words) false) ≡ []
+unmarked_harvests_nothing i [] = refl
+unmarked_harvests_nothing i (w ∷ words) = unmarked_harvests_nothing (suc i) words
 
 -- and where nothing is harvested, no word is marked
 pub unmarked_harvest : (i : ℕ) (words : List ℕ) (marks : List Bool) → length marks ≡ length words

@@ -1,5 +1,5 @@
 pub mod InOrderOnce
-pub mod LastWritten
-pub mod MarkedRecords
+pub mod LastWrite
+pub mod AppliedRecords
 pub mod Limits
 pub mod Prelude

@@ -1,8 +1,8 @@
 -- What each work answers.
 use Rattle.std.specs.Prelude.{ℕ, List, codes, ◌≡◌, ◌↔◌, IsTrue, MatchOption, ◌+◌, length}
 use Rattle.journal.specs.Log.{Log}
-use Rattle.journal.specs.FlatMemory.{Replays as replays}
-use Rattle.journal.specs.RacesFrom.{RaceFreeFrom, IsFirstRaceFrom}
+use Rattle.journal.specs.ReplayMemory.{Replays as replays}
+use Rattle.journal.specs.RacesFromBase.{RaceFreeFromBase, IsFirstRaceFromBase}
 use Rattle.journal.specs.Traffic.{messages, records, words}
 use Rattle.bench.specs.declared.work.Work.{Work}
 use Rattle.bench.specs.declared.work.Work.TheVariants as work
@@ -12,7 +12,7 @@ use Rattle.bench.specs.declared.work.WorkAnswer.TheVariants.{Events, FirstRace, 
 -- the answer is of this work on the journal
 abbrev pub IsAnswerOf : Work → Log → WorkAnswer → Type 0
 IsAnswerOf work.FirstRace j (FirstRace o) =
-    MatchOption o (RaceFreeFrom j.base j.events) (λ r. IsFirstRaceFrom j.base j.events r.0 r.1)
+    MatchOption o (RaceFreeFromBase j.base j.events) (λ r. IsFirstRaceFromBase j.base j.events r.0 r.1)
 IsAnswerOf work.Replay j (Replays r) = IsTrue r ↔ replays j.base.memory j.events
 IsAnswerOf work.Traffic j (Traffic t) =
     (t.messages ≡ j.base.spent.messages + messages j.events)

@@ -5,7 +5,7 @@
 //! stored to it since its last fetch, and loads and stores two neighbouring words of it, which the next
 //! turns of the lock leave alone until all of the page had theirs.
 ghost use Rattle.std.specs.Prelude.{◌≡◌, ◌^◌, ◌≤◌, ◌<◌, IfOk, length};
-ghost use Rattle.journal.specs.Prelude.{AddressInRange};
+ghost use Rattle.journal.specs.Prelude.{EventAddressInRange};
 
 use journal::{Event, Journal, Kind};
 use std::alloc::{AllocError, Global};
@@ -75,7 +75,7 @@ fn writers_of(round: usize) -> u32
 /// The fetch of the round's page; where there is nothing to fetch, one more load.
 fn fetch_of(round: usize) -> Kind
     requires { round ≤ 2 ^ 20 }
-    ensures { AddressInRange 4096 result }
+    ensures { EventAddressInRange 4096 result }
 {
     match writers_of(round) {
         0 => Kind::Load(first_address_of(round), value_before(round)),
@@ -91,7 +91,7 @@ fn fetch_of(round: usize) -> Kind
 /// What the round's event of this number does.
 fn kind_of(round: usize, number: usize) -> Kind
     requires { round ≤ 2 ^ 20 }
-    ensures { AddressInRange 4096 result }
+    ensures { EventAddressInRange 4096 result }
 {
     let lock = page_of(round);
     let address = first_address_of(round);
@@ -111,7 +111,7 @@ fn kind_of(round: usize, number: usize) -> Kind
 fn event_at(place: usize) -> Event
     requires { place ≤ 2 ^ 21 }
     ensures processor { result.processor < 8 }
-    ensures address { AddressInRange 4096 result.kind }
+    ensures address { EventAddressInRange 4096 result.kind }
 {
     let round = place / 8;
     Event {

@@ -1,15 +1,15 @@
 -- What a cut does to the book.
 use Rattle.std.specs.Prelude.{◌≡◌}
-use Rattle.journal.specs.CutFaults.{WasCut}
+use Rattle.journal.specs.JournalCuts.{JournalWasCut}
 use Rattle.journal.specs.declared.cut.CutFault.{CutFault}
 use Rattle.journal.specs.declared.cut.CutFault.TheVariants.{Racy, NoEpisode, BaseFull, NoMemory}
 use Rattle.book.specs.declared.refused.Refused.{Refused}
 use Rattle.book.specs.declared.refused.Refused.TheVariants as refused
-use Rattle.book.specs.State.{State}
+use Rattle.book.specs.BookState.{BookState}
 
 -- its journal was cut, and all else stays
-pub record WasBookCut (old new : State) : Type 0 where
-  pub journal : WasCut old.journal new.journal
+pub record WasBookCut (old new : BookState) : Type 0 where
+  pub journal : JournalWasCut old.journal new.journal
   pub others : new ≡ record old { journal = new.journal }
 
 -- the refusal of a cut

@@ -2,13 +2,13 @@
 use Rattle.std.specs.Prelude.{◌+◌, ◌^◌, ◌≤◌, length, map}
 use Rattle.std.specs.Option.{option_map}
 use Rattle.base.specs.Limits.{most_events}
-use Rattle.journal.specs.Closing.{awaited_kind}
+use Rattle.journal.specs.ClosingKinds.{closing_awaits_kind}
 use Rattle.book.specs.declared.protocol.Protocol.TheInside.{Inside}
-use Rattle.book.specs.State.{State}
+use Rattle.book.specs.BookState.{BookState}
 
 -- the journal's room, as contracts see it, is that for what is owing to `finish`
-abbrev pub book_state : Inside → State
-book_state b = record {
+abbrev pub book_invariant_state : Inside → BookState
+book_invariant_state b = record {
   words = b.words;
   journal = record b.journal { room = b.owing };
   closed = b.closed;
@@ -16,7 +16,7 @@ book_state b = record {
   locks = b.locks;
   barrier = b.barrier;
   flags = b.flags.items;
-  awaits = map (option_map awaited_kind) b.awaits.items;
+  awaits = map (option_map closing_awaits_kind) b.awaits.items;
   transit = b.transit;
 }
 

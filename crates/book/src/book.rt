@@ -3,23 +3,23 @@ ghost use Rattle.std.specs.Prelude.{◌≡◌, ◌≢◌, ℕ, ◌+◌, ◌*◌,
 ghost use Rattle.std.specs.Prelude.{OnOk, OnErr, IfErr, IfOk, List, ◌++◌, map, length, count_by, slice_get, slice_index};
 ghost use Rattle.std.specs.Arc.{arc_value};
 ghost use Rattle.base.specs.Prelude.{most_events, most_in_block, most_processors, Has, most_locks};
-ghost use Rattle.journal.specs.Prelude.{Sizes, Ready, IsCutFault, IsDeadlock, closing_kind, did};
+ghost use Rattle.journal.specs.Prelude.{Sizes, Ready, IsJournalCutRefusal, IsDeadlock, closing_kind, did};
 ghost use Rattle.journal.specs.declared.event.Event.{Event as AnEvent};
-ghost use Rattle.interval.specs.Prelude.{SentPagesRise, is_closing_of_page};
+ghost use Rattle.interval.specs.Prelude.{SentIntervalPagesRise, is_kept_closing_of_page};
 ghost use Rattle.transit.specs.Prelude.{letter};
-ghost use Rattle.book.specs.Prelude.{brought_by_message, WasBookCut, AllowsFlush, AllowsClosing, AllowsAskCall, AllowsReleaseCall, AllowsSomeTakeCall};
-ghost use Rattle.book.specs.Prelude.{IsProcessorOfCall, transition_new_book, transition_handed_in, transition_handed_last, transition_watched, transition_set, transition_asked};
-ghost use Rattle.book.specs.Prelude.{transition_released, transition_arrived, EndsClosed, EndsHandedIn, IsFullRefusal, Represents, IsRoomRefusal};
-ghost use Rattle.book.specs.Prelude.{HasClosedBeforeWaiting, IsBlockOfCalls, MayCallToClose, transition_closed, IsToldBySome, LetsWaitingOn, TransitionTakes};
+ghost use Rattle.book.specs.Prelude.{brought_by_message, WasBookCut, AllowsFlushCall, AllowsClosingCall, AllowsAskCall, AllowsReleaseCall, AllowsSomeTakeCall};
+ghost use Rattle.book.specs.Prelude.{IsProcessorOfAllowedCall, transition_new_book, transition_handed_in, transition_handed_last, transition_watched, transition_set, transition_asked};
+ghost use Rattle.book.specs.Prelude.{transition_released, transition_arrived, BookEndsClosed, BookEndsHandedIn, IsFullRefusal, Represents, IsRoomRefusal};
+ghost use Rattle.book.specs.Prelude.{HasClosedBeforeBookWaits, IsBlockOfAllowedCalls, AllowsCallThatCloses, transition_closed, RepresentsSomeHistory, LetsBookWaitEnd, TransitionTakes};
 
+use crate::done_waiting::all_wait_in_vain;
 use crate::empty::{empty_history, empty_locks, empty_timestamps};
-use crate::messages::{grant_to, has_come, post_all, receive};
-use crate::protocol::{Protocol, leave, with_set};
+use crate::journal_room::{append_in_journal_room, make_journal_room};
+use crate::mail::{grant_mail_to, mail_has_come, post_all_mail, receive_mail};
+use crate::protocol::{Protocol, leave, protocol_flag_with_set};
 use crate::refused::Refused;
-use crate::room::{append_all, make_room};
 use crate::trims::trim;
 use crate::waiters::Waiters;
-use crate::waiting::all_wait_in_vain;
 use barrier::Barrier;
 use base::{MOST_EVENTS, MOST_IN_BLOCK};
 use journal::{Awaited, Closing, CutFault, Event, Journal, Kind};
@@ -43,9 +43,9 @@ pub struct Book {
 const _: () = prove!(size_of::<Book>() == 8);
 
 impl Model for Book {
-    ghost use Rattle.book.specs.State.{State};
+    ghost use Rattle.book.specs.BookState.{BookState};
 
-    ghost Value = { State };
+    ghost Value = { BookState };
 
     ghost view = { λ b. b.parts.value };
 }
@@ -98,28 +98,28 @@ impl Book {
     /// Hands in a block of loads, stores and fetches of `processor`, which is empty if `processor` waits.
     /// JournalFull exactly if the journal would have more than 2^20 events.
     pub fn hand_in(&mut self, processor: usize, block: &[Event]) -> Result<(), Refused>
-        requires call { AllowsFlush self.old processor block.now }
+        requires call { AllowsFlushCall self.old processor block.now }
         requires short { length block.now ≤ most_in_block }
-        ensures { EndsHandedIn block.now self.old self.new result }
+        ensures { BookEndsHandedIn block.now self.old self.new result }
     {
         let parts = &mut *self.parts;
-        make_room(&mut parts.journal, parts.owing, block.len())?;
-        append_all(&mut parts.journal, block);
+        make_journal_room(&mut parts.journal, parts.owing, block.len())?;
+        append_in_journal_room(&mut parts.journal, block);
         Ok(())
     }
 
     /// Hands in a block as `hand_in` does, and answers a copy of the whole journal after it.
     pub fn audit(&mut self, processor: usize, block: &[Event]) -> Result<Journal, Refused>
-        requires call { AllowsFlush self.old processor block.now }
+        requires call { AllowsFlushCall self.old processor block.now }
         requires short { length block.now ≤ most_in_block }
-        ensures call { EndsHandedIn block.now self.old self.new result }
+        ensures call { BookEndsHandedIn block.now self.old self.new result }
         ensures copy { IfOk result (λ j. j ≡ record self.new.journal { room = j.room }) }
     {
         let parts = &mut *self.parts;
-        make_room(&mut parts.journal, parts.owing, block.len())?;
+        make_journal_room(&mut parts.journal, parts.owing, block.len())?;
         let mut copy = parts.journal.copy_with_room(block.len())?;
-        append_all(&mut parts.journal, block);
-        append_all(&mut copy, block);
+        append_in_journal_room(&mut parts.journal, block);
+        append_in_journal_room(&mut copy, block);
         Ok(copy)
     }
 
@@ -132,10 +132,10 @@ impl Book {
         block: &[Event],
         records: Vec<Arc<Record>>,
     ) -> Result<(), Refused>
-        requires call { MayCallToClose (closing_kind closing) self.old processor block.now }
+        requires call { AllowsCallThatCloses (closing_kind closing) self.old processor block.now }
         requires short { length block.now ≤ most_in_block }
-        requires rising { SentPagesRise (map arc_value records.items) }
-        ensures { EndsClosed block.now (λ b. transition_closed (closing_kind closing) b processor (map arc_value records.items))
+        requires rising { SentIntervalPagesRise (map arc_value records.items) }
+        ensures { BookEndsClosed block.now (λ b. transition_closed (closing_kind closing) b processor (map arc_value records.items))
             self.old self.new result }
     {
         match closing {
@@ -156,10 +156,10 @@ impl Book {
         block: &[Event],
         records: Vec<Arc<Record>>,
     ) -> Result<(), Refused>
-        requires call { AllowsClosing self.old processor block.now }
+        requires call { AllowsClosingCall self.old processor block.now }
         requires short { length block.now ≤ most_in_block }
-        requires rising { SentPagesRise (map arc_value records.items) }
-        ensures { EndsClosed block.now (λ b. transition_watched b processor flag (map arc_value records.items))
+        requires rising { SentIntervalPagesRise (map arc_value records.items) }
+        ensures { BookEndsClosed block.now (λ b. transition_watched b processor flag (map arc_value records.items))
             self.old self.new result }
     {
         let parts = &mut *self.parts;
@@ -176,17 +176,17 @@ impl Book {
         block: &[Event],
         records: Vec<Arc<Record>>,
     ) -> Result<(), Refused>
-        requires call { AllowsClosing self.old processor block.now }
+        requires call { AllowsClosingCall self.old processor block.now }
         requires flag { flag < length self.old.flags }
         requires short { length block.now ≤ most_in_block }
-        requires rising { SentPagesRise (map arc_value records.items) }
-        ensures { EndsClosed block.now (λ b. transition_set b processor flag (map arc_value records.items))
+        requires rising { SentIntervalPagesRise (map arc_value records.items) }
+        ensures { BookEndsClosed block.now (λ b. transition_set b processor flag (map arc_value records.items))
             self.old self.new result }
     {
         let parts = &mut *self.parts;
         let interval = parts.open_interval(processor, records);
         parts.close(processor, Closing::Set(flag), block, interval)?;
-        let time = with_set(&parts.flags[flag], &parts.times[processor]);
+        let time = protocol_flag_with_set(&parts.flags[flag], &parts.times[processor]);
         parts.flags[flag] = Some(time);
         Ok(())
     }
@@ -203,12 +203,12 @@ impl Book {
     ) -> Result<(), Refused>
         requires call { AllowsAskCall self.old processor lock block.now }
         requires short { length block.now ≤ most_in_block }
-        requires rising { SentPagesRise (map arc_value records.items) }
-        ensures { EndsClosed block.now (λ b. transition_asked b processor lock (map arc_value records.items))
+        requires rising { SentIntervalPagesRise (map arc_value records.items) }
+        ensures { BookEndsClosed block.now (λ b. transition_asked b processor lock (map arc_value records.items))
             self.old self.new result }
     {
         let parts = &mut *self.parts;
-        make_room(&mut parts.journal, parts.owing, block.len() + 1)?;
+        make_journal_room(&mut parts.journal, parts.owing, block.len() + 1)?;
         let grant = parts.grant_if_free(processor, lock)?;
         let interval = parts.open_interval(processor, records);
         parts.close(processor, Closing::Ask(lock), block, interval)?;
@@ -230,16 +230,16 @@ impl Book {
     ) -> Result<(), Refused>
         requires call { AllowsReleaseCall self.old processor lock block.now }
         requires short { length block.now ≤ most_in_block }
-        requires rising { SentPagesRise (map arc_value records.items) }
-        ensures { EndsClosed block.now (λ b. transition_released b processor lock (map arc_value records.items))
+        requires rising { SentIntervalPagesRise (map arc_value records.items) }
+        ensures { BookEndsClosed block.now (λ b. transition_released b processor lock (map arc_value records.items))
             self.old self.new result }
     {
         let parts = &mut *self.parts;
-        make_room(&mut parts.journal, parts.owing, block.len() + 1)?;
+        make_journal_room(&mut parts.journal, parts.owing, block.len() + 1)?;
         let interval = parts.open_interval(processor, records);
         let time = parts.closing_time(processor);
         let locks = &parts.locks;
-        let grant = grant_to(
+        let grant = grant_mail_to(
             locks.next(lock),
             &parts.closed,
             &parts.times,
@@ -263,21 +263,21 @@ impl Book {
         block: &[Event],
         records: Vec<Arc<Record>>,
     ) -> Result<(), Refused>
-        requires call { AllowsClosing self.old processor block.now }
+        requires call { AllowsClosingCall self.old processor block.now }
         requires short { length block.now ≤ most_in_block }
-        requires rising { SentPagesRise (map arc_value records.items) }
-        ensures { EndsClosed block.now (λ b. transition_arrived b processor (map arc_value records.items))
+        requires rising { SentIntervalPagesRise (map arc_value records.items) }
+        ensures { BookEndsClosed block.now (λ b. transition_arrived b processor (map arc_value records.items))
             self.old self.new result }
     {
         let parts = &mut *self.parts;
-        make_room(&mut parts.journal, parts.owing, block.len() + 1)?;
+        make_journal_room(&mut parts.journal, parts.owing, block.len() + 1)?;
         let interval = parts.open_interval(processor, records);
         let time = parts.closing_time(processor);
         let departures = parts.departures_with(&interval, &time)?;
         parts.close(processor, Closing::Arrive, block, interval)?;
         parts.barrier.arrive(processor, &time);
         if let Some(messages) = departures {
-            post_all(&mut parts.transit, messages);
+            post_all_mail(&mut parts.transit, messages);
         }
         Ok(())
     }
@@ -301,12 +301,12 @@ impl Book {
         let Some(awaited) = parts.awaits[processor] else {
             unreachable!("the processor waits")
         };
-        if !has_come(&parts.flags, &parts.transit, processor, awaited) {
+        if !mail_has_come(&parts.flags, &parts.transit, processor, awaited) {
             return Err(Refused::NotYet);
         }
-        make_room(&mut parts.journal, parts.owing, 1)?;
+        make_journal_room(&mut parts.journal, parts.owing, 1)?;
         let (closed, flags) = (&parts.closed, &parts.flags);
-        let message = receive(
+        let message = receive_mail(
             &mut parts.transit,
             closed,
             flags,
@@ -326,12 +326,12 @@ impl Book {
 
     /// Hands in the last block of `processor` at the end, past the limit. It takes no memory.
     pub fn last(&mut self, processor: usize, block: &[Event])
-        requires call { AllowsFlush self.old processor block.now }
+        requires call { AllowsFlushCall self.old processor block.now }
         requires room { length block.now ≤ self.old.journal.room }
         ensures { self.new ≡ transition_handed_last self.old block.now }
     {
         let parts = &mut *self.parts;
-        append_all(&mut parts.journal, block);
+        append_in_journal_room(&mut parts.journal, block);
         parts.owing -= block.len();
     }
 
@@ -342,7 +342,7 @@ impl Book {
     pub fn cut(&mut self) -> Result<(), CutFault>
         ensures ok { OnOk result (WasBookCut self.old self.new) }
         ensures err { OnErr result (self.new ≡ self.old) }
-        ensures fault { IfErr result (IsCutFault self.old.journal) }
+        ensures fault { IfErr result (IsJournalCutRefusal self.old.journal) }
     {
         let parts = &mut *self.parts;
         parts.journal.cut()
@@ -365,13 +365,13 @@ impl Book {
         let Some(awaited) = parts.awaits[processor] else {
             unreachable!("the processor waits")
         };
-        has_come(&parts.flags, &parts.transit, processor, awaited)
+        mail_has_come(&parts.flags, &parts.transit, processor, awaited)
     }
 
     /// Whether the history is a deadlock: each processor waits, and what it waits for has come for none. It takes no
     /// memory.
     pub fn is_deadlocked(&self) -> bool
-        requires told { IsToldBySome self.now }
+        requires told { RepresentsSomeHistory self.now }
         ensures { (s : Sizes) (h : List AnEvent) → Represents s h self.now → IsTrue result ↔ IsDeadlock s h }
     {
         let parts = &*self.parts;
@@ -384,10 +384,10 @@ impl Book {
     /// after an ask, a watch, and an arrival that completes nothing, and the same however many processors there are
     /// after a release.
     pub fn let_on(&self, processor: usize, kind: Kind) -> Waiters
-        requires closed { HasClosedBeforeWaiting self.now processor kind }
+        requires closed { HasClosedBeforeBookWaits self.now processor kind }
         ensures ready { (s : Sizes) (h : List AnEvent) (q : ℕ) → Represents s h self.now → Has result q → Ready s h q }
         ensures all { (s : Sizes) (h block : List AnEvent) (q : ℕ) → Represents s (did (h ++ block) processor kind) self.now
-            → IsBlockOfCalls s processor block → LetsWaitingOn s h block processor kind q → Has result q }
+            → IsBlockOfAllowedCalls s processor block → LetsBookWaitEnd s h block processor kind q → Has result q }
         ensures within { (q : ℕ) → Has result q → q < length self.now.awaits }
     {
         let parts = &*self.parts;
@@ -413,8 +413,8 @@ impl Book {
     /// How many notices of the page a take by `processor` would bring now: none if `processor` waits for nothing, or
     /// if what it waits for isn't there. It takes no memory.
     pub fn due(&self, processor: usize, page: usize) -> usize
-        requires call { IsProcessorOfCall self.now processor }
-        ensures { result ≡ count_by (is_closing_of_page page) (brought_by_message self.now processor) }
+        requires call { IsProcessorOfAllowedCall self.now processor }
+        ensures { result ≡ count_by (is_kept_closing_of_page page) (brought_by_message self.now processor) }
     {
         let parts = &*self.parts;
         match parts.awaits[processor] {
@@ -430,9 +430,9 @@ impl Book {
     /// there, becomes the number for page n, as `due` answers it. Pages past the slice's end are not counted.
     /// It takes no memory, and costs in the order of the slice and of what a take would bring.
     pub fn count_due(&self, processor: usize, counts: &mut [usize])
-        requires call { IsProcessorOfCall self.now processor }
+        requires call { IsProcessorOfAllowedCall self.now processor }
         ensures each { EachIndex counts.new (λ n. slice_index counts.new n
-            ≡ count_by (is_closing_of_page n) (brought_by_message self.now processor)) }
+            ≡ count_by (is_kept_closing_of_page n) (brought_by_message self.now processor)) }
         ensures same_length { length counts.new ≡ length counts.old }
     {
         let parts = &*self.parts;

@@ -2,9 +2,9 @@
 ghost use Rattle.std.specs.Prelude.{◌≡◌, ◌≤◌, IfOk, None, map, replicate};
 ghost use Rattle.std.specs.Option.{option_map};
 ghost use Rattle.base.specs.Prelude.{most_processors};
-ghost use Rattle.journal.specs.Prelude.{new_log, awaited_kind};
-ghost use Rattle.interval.specs.Prelude.{Closings};
-ghost use Rattle.lockq.specs.LockQueues.{unheld_lock};
+ghost use Rattle.journal.specs.Prelude.{new_log, closing_awaits_kind};
+ghost use Rattle.interval.specs.Prelude.{KeptClosings};
+ghost use Rattle.lockq.specs.LockQueues.{lock_queue_unheld};
 ghost use Rattle.book.specs.Prelude.{transition_no_closings};
 
 use interval::Closed;
@@ -38,9 +38,12 @@ pub(crate) fn empty_timestamps(
     requires some { 1 ≤ processors }
     requires most { processors ≤ most_processors }
     ensures times { IfOk result (λ it. it.0.items ≡ replicate processors (replicate processors 0)) }
-    ensures awaits { IfOk result (λ it. map (option_map awaited_kind) it.1.items ≡ replicate processors None) }
+    ensures awaits { IfOk result (λ it. map (option_map closing_awaits_kind) it.1.items ≡ replicate processors None) }
 {
-    Ok((empty_times(alloc, processors)?, nothing(alloc, processors)?))
+    Ok((
+        empty_times(alloc, processors)?,
+        empty_places(alloc, processors)?,
+    ))
 }
 
 /// Free locks, flags that are not set, and no message.
@@ -53,12 +56,12 @@ pub(crate) fn empty_locks(
     requires some { 1 ≤ processors }
     requires most { processors ≤ most_processors }
     ensures processors { IfOk result (λ it. it.0.processors ≡ processors) }
-    ensures locks { IfOk result (λ it. it.0.locks ≡ replicate locks (unheld_lock processors)) }
+    ensures locks { IfOk result (λ it. it.0.locks ≡ replicate locks (lock_queue_unheld processors)) }
     ensures flags { IfOk result (λ it. it.1.items ≡ replicate flags None) }
     ensures transit { IfOk result (λ it. it.2 ≡ replicate processors None) }
 {
     let locks = Locks::new(alloc, locks, processors)?;
-    let flags = nothing(alloc, flags)?;
+    let flags = empty_places(alloc, flags)?;
     Ok((locks, flags, Transit::new(alloc, processors)?))
 }
 
@@ -76,7 +79,7 @@ fn empty_times(alloc: Global, processors: usize) -> Result<Vec<VTime>, AllocErro
 }
 
 /// So many places that hold nothing.
-fn nothing<T: Drop>(alloc: Global, places: usize) -> Result<Vec<Option<T>>, AllocError>
+fn empty_places<T: Drop>(alloc: Global, places: usize) -> Result<Vec<Option<T>>, AllocError>
     ensures { IfOk result (λ all. all.items ≡ replicate places None) }
 {
     let mut all = Vec::with_capacity(alloc, places)?;

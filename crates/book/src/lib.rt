@@ -6,7 +6,7 @@
 //!
 //! **What contracts see**: a [`Book`] as its parts' own values in one record, `State`. Each call's new value is a
 //! function of the old one (specs/Transitions). A call may be made if some history that the book represents allows it
-//! (specs/Calls, specs/Told).
+//! (specs/AllowedCalls, specs/RepresentedHistory).
 //!
 //! **What is proved**: each call computes its function, or is refused and changes nothing. If a history represents the
 //! book before a call, that history with the call's events represents it after ([`laws`]); after a cut the same history
@@ -16,15 +16,15 @@
 #![tactic(auto)]
 
 mod book;
+mod done_waiting;
 mod empty;
+mod journal_room;
 pub mod laws;
-mod messages;
+mod mail;
 mod protocol;
 mod refused;
-mod room;
 mod trims;
 mod waiters;
-mod waiting;
 
 pub use book::Book;
 pub use refused::Refused;

@@ -4,20 +4,20 @@ ghost use Rattle.std.specs.Prelude.{slice_get, slice_set, slice_index};
 ghost use Rattle.std.specs.Arc.{arc_value};
 ghost use Rattle.std.specs.Option.{option_map};
 ghost use Rattle.base.specs.Prelude.{most_in_block};
-ghost use Rattle.journal.specs.Prelude.{awaited_kind, closing_kind};
-ghost use Rattle.vtime.specs.Times.{tick};
-ghost use Rattle.interval.specs.Prelude.{SentPagesRise, KeepsClosingsBetween, pushed};
-ghost use Rattle.lockq.specs.LockQueues.{lock_at};
+ghost use Rattle.journal.specs.Prelude.{closing_awaits_kind, closing_kind};
+ghost use Rattle.vtime.specs.TicksAndJoins.{tick};
+ghost use Rattle.interval.specs.Prelude.{SentIntervalPagesRise, HasKeptClosingsBetween, kept_closings_pushed};
+ghost use Rattle.lockq.specs.LockQueues.{lock_queue_at};
 ghost use Rattle.transit.specs.Prelude.{letter};
-ghost use Rattle.book.specs.Prelude.{AllowsClosing, IsOpenToCall, AllowsNoticesOfCall, transition_open_interval, transition_closed_by, transition_if_free};
-ghost use Rattle.book.specs.Prelude.{transition_grant, transition_barrier_left, transition_flag_joined, transition_departures_to, state_time_of, EndsClosed};
+ghost use Rattle.book.specs.Prelude.{AllowsClosingCall, IsOpenForAllowedCall, AllowsNoticesOfCall, transition_open_interval, transition_closed_by, transition_if_free};
+ghost use Rattle.book.specs.Prelude.{transition_grant, transition_barrier_left, transition_flag_joined, transition_departures_to, book_state_time_of, BookEndsClosed};
 
 mod counting;
 mod named;
 
-use crate::messages::departures;
+use crate::journal_room::{append_in_journal_room, make_journal_room};
+use crate::mail::departure_mail;
 use crate::refused::Refused;
-use crate::room::{append_all, make_room};
 use barrier::{Barrier, Stage};
 use interval::{Closed, Interval};
 use journal::{Awaited, Closing, Event, Journal};
@@ -45,12 +45,12 @@ pub(crate) struct Protocol {
 }
 
 impl Model for Protocol {
-    ghost use Rattle.book.specs.State.{State};
-    ghost use Rattle.book.specs.BookInvariant.{book_state, BookInvariant};
+    ghost use Rattle.book.specs.BookState.{BookState};
+    ghost use Rattle.book.specs.BookInvariant.{book_invariant_state, BookInvariant};
 
-    ghost Value = { State };
+    ghost Value = { BookState };
 
-    ghost view = { book_state };
+    ghost view = { book_invariant_state };
 
     ghost invariant = { BookInvariant };
 }
@@ -65,14 +65,14 @@ impl Protocol {
     ) -> Result<Option<Vec<Message>>, AllocError>
         requires owner { interval.now.owner < length self.now.closed.next }
         requires processor { interval.now.owner < length self.now.times }
-        requires pages { SentPagesRise interval.now.records }
+        requires pages { SentIntervalPagesRise interval.now.records }
         requires away { slice_get self.now.barrier.stages interval.now.owner ≡ Some Stage.Away }
         requires own_long { length own.now ≡ length self.now.barrier.stages }
         requires long { length self.now.barrier.stages ≡ length self.now.closed.first }
         requires all { (r : ℕ) → r < length self.now.times
             → AllowsNoticesOfCall self.now.closed (slice_set self.now.times interval.now.owner own.now) r }
         ensures { IfOk result (λ o. option_map (λ ms. map letter ms.items) o ≡ transition_departures_to
-            (pushed self.now.closed interval.now) self.now.barrier
+            (kept_closings_pushed self.now.closed interval.now) self.now.barrier
             (slice_set self.now.times interval.now.owner own.now) interval.now.owner own.now) }
     {
         let barrier = &self.barrier;
@@ -82,7 +82,7 @@ impl Protocol {
         }
         let alloc = *self.times.allocator();
         let time = barrier.time_with(own);
-        let all = departures(alloc, &self.closed, &self.times, interval, own, &time)?;
+        let all = departure_mail(alloc, &self.closed, &self.times, interval, own, &time)?;
         Ok(Some(all))
     }
 
@@ -95,9 +95,9 @@ impl Protocol {
     ) -> Result<Option<Message>, AllocError>
         requires lock { lock < length self.now.locks.locks }
         requires processor { processor < length self.now.times }
-        requires keeps { KeepsClosingsBetween self.now.closed (state_time_of self.now processor) (lock_at self.now.locks lock).time }
+        requires keeps { HasKeptClosingsBetween self.now.closed (book_state_time_of self.now processor) (lock_queue_at self.now.locks lock).time }
         ensures { IfOk result (λ m. option_map letter m
-            ≡ transition_if_free (lock_at self.now.locks lock).holder (transition_grant self.now processor (lock_at self.now.locks lock).time)) }
+            ≡ transition_if_free (lock_queue_at self.now.locks lock).holder (transition_grant self.now processor (lock_queue_at self.now.locks lock).time)) }
     {
         let locks = &self.locks;
         if locks.holder(lock).is_some() {
@@ -111,7 +111,7 @@ impl Protocol {
 
     /// The open interval of `processor`, with what it stored.
     pub(crate) fn open_interval(&self, processor: usize, records: Vec<Arc<Record>>) -> Interval
-        requires { IsOpenToCall self.now processor }
+        requires { IsOpenForAllowedCall self.now processor }
         ensures { result ≡ transition_open_interval self.now processor (map arc_value records.items) }
     {
         Interval {
@@ -123,9 +123,9 @@ impl Protocol {
 
     /// The timestamp that `processor` will have when it has closed its interval.
     pub(crate) fn closing_time(&self, processor: usize) -> VTime
-        requires open { IsOpenToCall self.now processor }
-        requires fits { slice_index (state_time_of self.now processor) processor + 1 < 2 ^ 64 }
-        ensures { result ≡ tick (state_time_of self.now processor) processor }
+        requires open { IsOpenForAllowedCall self.now processor }
+        requires fits { slice_index (book_state_time_of self.now processor) processor + 1 < 2 ^ 64 }
+        ensures { result ≡ tick (book_state_time_of self.now processor) processor }
     {
         let mut time = self.times[processor].copy();
         time.tick(processor);
@@ -141,15 +141,15 @@ impl Protocol {
         block: &[Event],
         interval: Interval,
     ) -> Result<(), Refused>
-        requires call { AllowsClosing self.old processor block.now }
+        requires call { AllowsClosingCall self.old processor block.now }
         requires short { length block.now ≤ most_in_block }
         requires open { interval ≡ transition_open_interval self.old processor interval.records }
-        requires rising { SentPagesRise interval.records }
-        ensures { EndsClosed block.now (λ b. transition_closed_by b processor (closing_kind closing) interval.records) self.old self.new result }
+        requires rising { SentIntervalPagesRise interval.records }
+        ensures { BookEndsClosed block.now (λ b. transition_closed_by b processor (closing_kind closing) interval.records) self.old self.new result }
     {
-        make_room(&mut self.journal, self.owing, block.len() + 1)?;
+        make_journal_room(&mut self.journal, self.owing, block.len() + 1)?;
         self.closed.push(interval)?;
-        append_all(&mut self.journal, block);
+        append_in_journal_room(&mut self.journal, block);
         let kind = closing.kind();
         self.journal.append(Event { processor, kind });
         self.times[processor].tick(processor);
@@ -159,7 +159,7 @@ impl Protocol {
 }
 
 /// The time of a flag after one more set.
-pub(crate) fn with_set(kept: &Option<VTime>, time: &VTime) -> VTime
+pub(crate) fn protocol_flag_with_set(kept: &Option<VTime>, time: &VTime) -> VTime
     requires { IfSome kept.now (λ t. length t ≡ length time.now) }
     ensures { result ≡ transition_flag_joined kept.now time.now }
 {
@@ -176,7 +176,7 @@ pub(crate) fn with_set(kept: &Option<VTime>, time: &VTime) -> VTime
 /// The barrier's part of a take.
 pub(crate) fn leave(barrier: &mut Barrier, awaited: Awaited, processor: usize)
     requires { awaited ≡ Awaited.Departure → slice_get barrier.old.stages processor ≡ Some Stage.Free }
-    ensures { barrier.new ≡ transition_barrier_left (awaited_kind awaited) barrier.old processor }
+    ensures { barrier.new ≡ transition_barrier_left (closing_awaits_kind awaited) barrier.old processor }
 {
     match awaited {
         Awaited::Departure => barrier.depart(processor),

@@ -1,6 +1,6 @@
 //! Trims of the closed intervals.
 ghost use Rattle.std.specs.Prelude.{◌≡◌, ℕ, ◌<◌, List, Some, length, slice_get};
-ghost use Rattle.book.specs.Prelude.{least, transition_trimmed_by, AllowsTrimOfCall};
+ghost use Rattle.book.specs.Prelude.{transition_least, transition_trimmed_by, AllowsTrimOfCall};
 
 use interval::Closed;
 use vtime::VTime;
@@ -9,7 +9,7 @@ use vtime::VTime;
 fn least(times: &[VTime], q: usize) -> u64
     requires some { 0 < length times.now }
     requires long { (i : ℕ) (t : List ℕ) → slice_get times.now i ≡ Some t → q < length t }
-    ensures { result ≡ least times.now q }
+    ensures { result ≡ transition_least times.now q }
 {
     let mut least = times[0].entry(q);
     for time in times {

@@ -16,35 +16,35 @@ abbrev pub given_sizes : GivenSizes → Sizes
 given_sizes s = record { processors = s.processors; pages = s.pages; words = s.words; locks = s.locks; flags = s.flags }
 
 -- the kinds of events, in the order of their numbers
-abbrev pub kinds_of : GivenEvent → List Kind
-kinds_of e =
+abbrev pub given_kinds_of : GivenEvent → List Kind
+given_kinds_of e =
     Load e.number e.value ∷ (Store e.number e.value ∷ (Fetch e.writers e.number e.records e.words ∷ (Ask e.number
     ∷ (Acquire e.number ∷ (Release e.number ∷ (Arrive ∷ (Depart ∷ (Set e.number ∷ (Watch e.number ∷ (Await e.number
     ∷ []))))))))))
 
 -- the kind that its number names
-abbrev pub kind_of : GivenEvent → Kind
-kind_of e = slice_index_or (kinds_of e) e.kind (Await e.number)
+abbrev pub given_kind_of : GivenEvent → Kind
+given_kind_of e = slice_index_or (given_kinds_of e) e.kind (Await e.number)
 
-abbrev pub event_of : GivenEvent → Event
-event_of e = record { processor = e.processor; kind = kind_of e }
+abbrev pub given_event_of : GivenEvent → Event
+given_event_of e = record { processor = e.processor; kind = given_kind_of e }
 
 -- there is such a kind
-abbrev pub HasKind : GivenEvent → Type 0
-HasKind e = e.kind < 11
+abbrev pub HasGivenKind : GivenEvent → Type 0
+HasGivenKind e = e.kind < 11
 
-abbrev pub HaveKinds : List GivenEvent → Type 0
-HaveKinds es = All HasKind es
+abbrev pub HaveGivenKinds : List GivenEvent → Type 0
+HaveGivenKinds es = All HasGivenKind es
 
 -- the model that its number names
-abbrev pub model_of : ℕ → MemoryModel
-model_of m = slice_index_or (model.RaceFree ∷ (model.HappensBefore ∷ (model.LazyRelease ∷ []))) m model.Sequential
+abbrev pub given_model_of : ℕ → MemoryModel
+given_model_of m = slice_index_or (model.RaceFree ∷ (model.HappensBefore ∷ (model.LazyRelease ∷ []))) m model.Sequential
 
-abbrev pub rules_of : GivenRules → Rules
-rules_of r = record { model = model_of r.model; lax = r.lax == 1; ends_at_race = r.ends_at_race == 1 }
+abbrev pub given_rules_of : GivenRules → Rules
+given_rules_of r = record { model = given_model_of r.model; lax = r.lax == 1; ends_at_race = r.ends_at_race == 1 }
 
 -- each number has a meaning
-pub record AreRules (r : GivenRules) : Type 0 where
+pub record AreGivenRules (r : GivenRules) : Type 0 where
   pub model : r.model < 4
   pub lax : r.lax < 2
   pub ends_at_race : r.ends_at_race < 2

@@ -1,8 +1,8 @@
 pub mod Given
 pub mod CallFaults
-pub mod Told
-pub mod Judging
-pub mod Histories
+pub mod ToldVerdicts
+pub mod GivenJudged
+pub mod GivenHistories
 pub mod ToldExploration
-pub mod Exploring
+pub mod GivenTexts
 pub mod Prelude

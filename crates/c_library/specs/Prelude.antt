@@ -1,12 +1,12 @@
 -- The words that contracts name, passed on from one place. Declares nothing.
-pub use Rattle.c_library.specs.Given.{HaveKinds, AreRules, HasKind, event_of, given_sizes, kind_of, model_of, rules_of}
-pub use Rattle.c_library.specs.CallFaults.{IsCodeOf, code_of}
-pub use Rattle.c_library.specs.Told.{earlier_of, number_or_none, other_of, told_ill_formed, told_lie, told_miscounted}
-pub use Rattle.c_library.specs.Told.{told_of, told_race, told_traffic, told_unexplained}
-pub use Rattle.c_library.specs.Judging.{IsJudgeFault, IsToldOf}
-pub use Rattle.c_library.specs.Histories.{AreEventsWithin, IsEventWithin, IsHistoryFault, IsHistoryIn, IsRaceTold}
-pub use Rattle.c_library.specs.Histories.{IsReplayTold, IsReplayed}
-pub use Rattle.c_library.specs.ToldExploration.{awaited_by, hanging_number, kind_number, number_named, racing_number, told_access}
-pub use Rattle.c_library.specs.ToldExploration.{told_conflict, told_exploration, told_wait, told_waits, value_named}
-pub use Rattle.c_library.specs.Exploring.{IsExplorationTold, IsExploreFault, IsScriptFaultTold, IsScriptText, IsUnexplored}
-pub use Rattle.c_library.specs.Exploring.{script_fault_number, told_script_fault}
+pub use Rattle.c_library.specs.Given.{HaveGivenKinds, AreGivenRules, HasGivenKind, given_event_of, given_sizes, given_kind_of, given_model_of, given_rules_of}
+pub use Rattle.c_library.specs.CallFaults.{IsCallFaultCode, call_fault_code}
+pub use Rattle.c_library.specs.ToldVerdicts.{told_verdict_earlier, told_verdict_number, told_verdict_other, told_verdict_ill_formed, told_verdict_lie, told_verdict_miscounted}
+pub use Rattle.c_library.specs.ToldVerdicts.{told_verdict_of, told_verdict_race, told_verdict_traffic, told_verdict_unexplained}
+pub use Rattle.c_library.specs.GivenJudged.{IsGivenJudgedFault, IsGivenJudgedTold}
+pub use Rattle.c_library.specs.GivenHistories.{AreGivenHistoryEvents, IsGivenHistoryEvent, IsGivenHistoryFault, IsGivenHistory, IsGivenHistoryRaceTold}
+pub use Rattle.c_library.specs.GivenHistories.{IsGivenHistoryReplayTold, IsGivenHistoryReplayed}
+pub use Rattle.c_library.specs.ToldExploration.{told_exploration_awaited_by, told_exploration_hanging, told_exploration_kind, told_exploration_number, told_exploration_racing, told_exploration_access}
+pub use Rattle.c_library.specs.ToldExploration.{told_exploration_conflict, told_exploration, told_exploration_wait, told_exploration_waits, told_exploration_value}
+pub use Rattle.c_library.specs.GivenTexts.{IsGivenTextTold, IsGivenTextCallFault, IsGivenTextFaultTold, IsGivenTextOfScript, IsGivenTextUnexplored}
+pub use Rattle.c_library.specs.GivenTexts.{given_text_fault_number, given_text_fault_told}

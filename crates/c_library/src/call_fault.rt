@@ -1,7 +1,7 @@
 //! Why a call did nothing.
 ghost use Rattle.std.specs.Prelude.{◌≡◌};
 ghost use Rattle.c_library.specs.declared.call_fault.CallFault.TheVariants.{NoMemory};
-ghost use Rattle.c_library.specs.Prelude.{code_of};
+ghost use Rattle.c_library.specs.Prelude.{call_fault_code};
 
 use std::alloc::AllocError;
 
@@ -27,7 +27,7 @@ pub enum CallFault {
 impl CallFault {
     /// The number that C is told.
     pub fn code(self) -> u32
-        ensures { result ≡ code_of self }
+        ensures { result ≡ call_fault_code self }
     {
         match self {
             CallFault::BadSizes => 1,

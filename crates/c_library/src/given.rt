@@ -1,8 +1,8 @@
 //! What C hands in, and what it stands for.
 ghost use Rattle.std.specs.Prelude.{◌≡◌, ◌↔◌, ◌<◌, ◌≤◌, All, IfErr, IfOk, IsTrue, length, map};
 ghost use Rattle.base.specs.Prelude.{most_held};
-ghost use Rattle.judge.specs.Prelude.{AreSizesSmall, sizes_of};
-ghost use Rattle.c_library.specs.Prelude.{HaveKinds, AreRules, HasKind, event_of, given_sizes, kind_of, model_of, rules_of};
+ghost use Rattle.judge.specs.Prelude.{AreJudgedSizesSmall, judged_sizes_of};
+ghost use Rattle.c_library.specs.Prelude.{HaveGivenKinds, AreGivenRules, HasGivenKind, given_event_of, given_sizes, given_kind_of, given_model_of, given_rules_of};
 
 use journal::{Event, Kind, MOST_HELD};
 use judge::{MemoryModel, Sizes};
@@ -60,7 +60,7 @@ pub struct GivenRules {
 impl GivenSizes {
     /// The sizes that they stand for.
     pub fn sizes(&self) -> Sizes
-        ensures { sizes_of result ≡ given_sizes self.now }
+        ensures { judged_sizes_of result ≡ given_sizes self.now }
     {
         Sizes {
             processors: self.processors as usize,
@@ -75,7 +75,7 @@ impl GivenSizes {
 impl GivenRules {
     /// Whether each number has a meaning.
     pub fn are_known(&self) -> bool
-        ensures { IsTrue result ↔ AreRules self.now }
+        ensures { IsTrue result ↔ AreGivenRules self.now }
     {
         self.model < 4 && self.lax < 2 && self.ends_at_race < 2
     }
@@ -83,7 +83,7 @@ impl GivenRules {
     /// The model that they name.
     fn model(&self) -> MemoryModel
         requires { self.now.model < 4 }
-        ensures { result ≡ model_of self.now.model }
+        ensures { result ≡ given_model_of self.now.model }
     {
         match self.model {
             0 => MemoryModel::RaceFree,
@@ -95,8 +95,8 @@ impl GivenRules {
 
     /// The rules that they stand for.
     pub fn rules(&self) -> Rules
-        requires { AreRules self.now }
-        ensures { result ≡ rules_of self.now }
+        requires { AreGivenRules self.now }
+        ensures { result ≡ given_rules_of self.now }
     {
         Rules {
             model: self.model(),
@@ -109,15 +109,15 @@ impl GivenRules {
 impl GivenEvent {
     /// Whether its kind is one of those.
     pub fn has_kind(&self) -> bool
-        ensures { IsTrue result ↔ HasKind self.now }
+        ensures { IsTrue result ↔ HasGivenKind self.now }
     {
         self.kind < 11
     }
 
     /// What it did.
     fn kind(&self) -> Kind
-        requires { HasKind self.now }
-        ensures { result ≡ kind_of self.now }
+        requires { HasGivenKind self.now }
+        ensures { result ≡ given_kind_of self.now }
     {
         let number = self.number as usize;
         match self.kind {
@@ -142,8 +142,8 @@ impl GivenEvent {
 
     /// The event that it stands for.
     pub fn event(&self) -> Event
-        requires { HasKind self.now }
-        ensures { result ≡ event_of self.now }
+        requires { HasGivenKind self.now }
+        ensures { result ≡ given_event_of self.now }
     {
         Event {
             processor: self.processor as usize,
@@ -153,23 +153,23 @@ impl GivenEvent {
 }
 
 /// Whether each event's kind is one of those.
-pub fn have_kinds(events: &[GivenEvent]) -> bool
-    ensures { IsTrue result ↔ HaveKinds events.now }
+pub fn have_given_kinds(events: &[GivenEvent]) -> bool
+    ensures { IsTrue result ↔ HaveGivenKinds events.now }
 {
     events.iter().all(|event| event.has_kind())
 }
 
 /// Whether there are no more than can be judged.
-pub fn are_few(events: &[GivenEvent]) -> bool
+pub fn are_given_few(events: &[GivenEvent]) -> bool
     ensures { IsTrue result ↔ (length events.now ≤ most_held) }
 {
     events.len() <= MOST_HELD
 }
 
 /// The events that they stand for. The only error is running out of memory.
-pub fn events_of(alloc: Global, given: &[GivenEvent]) -> Result<Vec<Event>, AllocError>
-    requires { HaveKinds given.now }
-    ensures { IfOk result (λ v. v.items ≡ map event_of given.now) }
+pub fn given_events_of(alloc: Global, given: &[GivenEvent]) -> Result<Vec<Event>, AllocError>
+    requires { HaveGivenKinds given.now }
+    ensures { IfOk result (λ v. v.items ≡ map given_event_of given.now) }
 {
     let mut events = Vec::with_capacity(alloc, given.len())?;
     for event in given {

@@ -1,11 +1,11 @@
 //! The first race of a history.
 ghost use Rattle.std.specs.Prelude.{◌≡◌, ◌≢◌, ◌*◌, IfErr, IfOk};
-ghost use Rattle.c_library.specs.Prelude.{IsCodeOf, IsHistoryFault, IsRaceTold};
+ghost use Rattle.c_library.specs.Prelude.{IsCallFaultCode, IsGivenHistoryFault, IsGivenHistoryRaceTold};
 
 use crate::call_fault::CallFault;
 use crate::given::{GivenEvent, GivenSizes};
-use crate::histories::history;
-use crate::told::{ToldRace, told_race};
+use crate::given_history::given_history;
+use crate::told_verdict::{ToldRace, told_verdict_race};
 use journal::first_race_of;
 use std::alloc::Global;
 
@@ -22,13 +22,13 @@ fn first_race(
     sizes: GivenSizes,
     events: &[GivenEvent],
 ) -> Result<ToldRace, CallFault>
-    ensures told { IfOk result (IsRaceTold sizes events.now) }
-    ensures refused { IfErr result (IsHistoryFault sizes (sizes.pages * sizes.words) events.now) }
+    ensures told { IfOk result (IsGivenHistoryRaceTold sizes events.now) }
+    ensures refused { IfErr result (IsGivenHistoryFault sizes (sizes.pages * sizes.words) events.now) }
 {
     let addresses = addresses(sizes);
-    let history = history(alloc, sizes, addresses, events)?;
+    let history = given_history(alloc, sizes, addresses, events)?;
     let found = first_race_of(alloc, sizes.processors as usize, addresses, &history)?;
-    Ok(told_race(found))
+    Ok(told_verdict_race(found))
 }
 
 /// Writes the first race of the events, which need not be ones that a cluster can make; answers 0. Else it answers the code
@@ -40,9 +40,9 @@ pub extern "C" fn cevandle_first_race_nonnull(
     events: &[GivenEvent],
     told: &mut ToldRace,
 ) -> u32
-    ensures told { result ≡ 0 → IsRaceTold sizes events.now told.new }
+    ensures told { result ≡ 0 → IsGivenHistoryRaceTold sizes events.now told.new }
     ensures refused { result ≢ 0
-        → IsCodeOf (IsHistoryFault sizes (sizes.pages * sizes.words) events.now) result }
+        → IsCallFaultCode (IsGivenHistoryFault sizes (sizes.pages * sizes.words) events.now) result }
     ensures unwritten { result ≢ 0 → told.new ≡ told.old }
 {
     match first_race(alloc, sizes, events) {

@@ -2,17 +2,17 @@
 ghost use Rattle.std.specs.Prelude.{◌≡◌, ◌≢◌, ◌+◌, ◌<◌, ◌≤◌, IfErr, IfOk, IfSome, IsSome, ◌↔◌, length, replicate};
 ghost use Rattle.base.specs.Prelude.{most_held, most_processors};
 ghost use Rattle.journal.specs.Base.{no_base};
-ghost use Rattle.journal.specs.Prelude.{AddressesInRange, ProcessorsInRange, Replays, memory_after};
-ghost use Rattle.c_library.specs.Prelude.{IsCodeOf, IsHistoryFault, IsReplayTold, IsReplayed};
+ghost use Rattle.journal.specs.Prelude.{EventAddressesInRange, EventProcessorsInRange, Replays, memory_after};
+ghost use Rattle.c_library.specs.Prelude.{IsCallFaultCode, IsGivenHistoryFault, IsGivenHistoryReplayTold, IsGivenHistoryReplayed};
 
 use crate::call_fault::CallFault;
 use crate::given::{GivenEvent, GivenSizes};
-use crate::histories::history;
+use crate::given_history::given_history;
 use journal::{Event, Journal};
 use std::alloc::{AllocError, Global};
 
 /// The events in a journal of which nothing was cut off. The only error is running out of memory.
-fn journal_of(
+fn replaying_journal_of(
     alloc: Global,
     processors: usize,
     addresses: usize,
@@ -20,8 +20,8 @@ fn journal_of(
 ) -> Result<Journal, AllocError>
     requires few { length events.now ≤ most_held }
     requires few_processors { processors ≤ most_processors }
-    requires processors { ProcessorsInRange processors events.now }
-    requires addresses { AddressesInRange addresses events.now }
+    requires processors { EventProcessorsInRange processors events.now }
+    requires addresses { EventAddressesInRange addresses events.now }
     ensures events { IfOk result (λ j. j.events ≡ events.now) }
     ensures base { IfOk result (λ j. j.base ≡ no_base addresses) }
 {
@@ -43,12 +43,12 @@ fn replay_events(
 ) -> Result<Option<Vec<u32>>, AllocError>
     requires few { length events.now ≤ most_held }
     requires few_processors { processors ≤ most_processors }
-    requires processors { ProcessorsInRange processors events.now }
-    requires addresses { AddressesInRange addresses events.now }
+    requires processors { EventProcessorsInRange processors events.now }
+    requires addresses { EventAddressesInRange addresses events.now }
     ensures replays { IfOk result (λ o. IsSome o ↔ Replays (replicate addresses 0) events.now) }
     ensures memory { IfOk result (λ o. IfSome o (λ v. v.items ≡ memory_after (replicate addresses 0) events.now)) }
 {
-    let journal = journal_of(alloc, processors, addresses, events)?;
+    let journal = replaying_journal_of(alloc, processors, addresses, events)?;
     journal.replay()
 }
 
@@ -59,10 +59,10 @@ fn replay(
     room: usize,
     events: &[GivenEvent],
 ) -> Result<Option<Vec<u32>>, CallFault>
-    ensures told { IfOk result (IsReplayed sizes room events.now) }
-    ensures refused { IfErr result (IsHistoryFault sizes room events.now) }
+    ensures told { IfOk result (IsGivenHistoryReplayed sizes room events.now) }
+    ensures refused { IfErr result (IsGivenHistoryFault sizes room events.now) }
 {
-    let history = history(alloc, sizes, room, events)?;
+    let history = given_history(alloc, sizes, room, events)?;
     let words = replay_events(alloc, sizes.processors as usize, room, &history)?;
     Ok(words)
 }
@@ -77,8 +77,8 @@ pub extern "C" fn cevandle_replay_nonnull(
     memory: &mut [u32],
     replays: &mut u32,
 ) -> u32
-    ensures told { result ≡ 0 → IsReplayTold sizes events.now memory.old memory.new replays.new }
-    ensures refused { result ≢ 0 → IsCodeOf (IsHistoryFault sizes (length memory.old) events.now) result }
+    ensures told { result ≡ 0 → IsGivenHistoryReplayTold sizes events.now memory.old memory.new replays.new }
+    ensures refused { result ≢ 0 → IsCallFaultCode (IsGivenHistoryFault sizes (length memory.old) events.now) result }
     ensures memory_unwritten { result ≢ 0 → memory.new ≡ memory.old }
     ensures replays_unwritten { result ≢ 0 → replays.new ≡ replays.old }
 {

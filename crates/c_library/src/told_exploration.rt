@@ -1,9 +1,9 @@
 //! What C is told of a script's schedules.
 ghost use Rattle.std.specs.Prelude.{◌≡◌, slice_index_or};
-ghost use Rattle.c_library.specs.Prelude.{awaited_by, hanging_number, kind_number, number_named, racing_number, told_access};
-ghost use Rattle.c_library.specs.Prelude.{told_conflict, told_exploration, told_wait, told_waits, value_named};
+ghost use Rattle.c_library.specs.Prelude.{told_exploration_awaited_by, told_exploration_hanging, told_exploration_kind, told_exploration_number, told_exploration_racing, told_exploration_access};
+ghost use Rattle.c_library.specs.Prelude.{told_exploration_conflict, told_exploration, told_exploration_wait, told_exploration_waits, told_exploration_value};
 
-use crate::told::NONE;
+use crate::told_verdict::NONE;
 use explore::{Explored, Hanging, Verdict};
 use journal::{Event, Kind, MOST_PROCESSORS};
 
@@ -76,8 +76,8 @@ const NO_WAIT: ToldWait = ToldWait {
 };
 
 /// The number of a kind.
-fn kind_number(kind: Kind) -> u64
-    ensures { result ≡ kind_number kind }
+fn told_exploration_kind(kind: Kind) -> u64
+    ensures { result ≡ told_exploration_kind kind }
 {
     match kind {
         Kind::Load(..) => 0,
@@ -95,8 +95,8 @@ fn kind_number(kind: Kind) -> u64
 }
 
 /// The address, page, lock or flag that a kind names.
-fn number_named(kind: Kind) -> u64
-    ensures { result ≡ number_named kind }
+fn told_exploration_number(kind: Kind) -> u64
+    ensures { result ≡ told_exploration_number kind }
 {
     match kind {
         Kind::Load(number, _)
@@ -113,8 +113,8 @@ fn number_named(kind: Kind) -> u64
 }
 
 /// The word that a kind names.
-fn value_named(kind: Kind) -> u64
-    ensures { result ≡ value_named kind }
+fn told_exploration_value(kind: Kind) -> u64
+    ensures { result ≡ told_exploration_value kind }
 {
     match kind {
         Kind::Load(_, value) | Kind::Store(_, value) => value as u64,
@@ -123,29 +123,29 @@ fn value_named(kind: Kind) -> u64
 }
 
 /// The event of these at a place.
-fn told_access(events: &[Event], place: usize) -> ToldAccess
-    ensures { result ≡ told_access events.now place }
+fn told_exploration_access(events: &[Event], place: usize) -> ToldAccess
+    ensures { result ≡ told_exploration_access events.now place }
 {
     match events.get(place) {
         Some(event) => ToldAccess {
             place: place as u64,
             processor: event.processor as u64,
-            kind: kind_number(event.kind),
-            address: number_named(event.kind),
-            value: value_named(event.kind),
+            kind: told_exploration_kind(event.kind),
+            address: told_exploration_number(event.kind),
+            value: told_exploration_value(event.kind),
         },
         None => NO_ACCESS,
     }
 }
 
 /// The two that race.
-fn told_conflict(verdict: &Verdict) -> ToldConflict
-    ensures { result ≡ told_conflict verdict.now }
+fn told_exploration_conflict(verdict: &Verdict) -> ToldConflict
+    ensures { result ≡ told_exploration_conflict verdict.now }
 {
     match verdict {
         Verdict::Racy(racy) => ToldConflict {
-            first: told_access(&racy.events, racy.first),
-            second: told_access(&racy.events, racy.events.len().saturating_sub(1)),
+            first: told_exploration_access(&racy.events, racy.first),
+            second: told_exploration_access(&racy.events, racy.events.len().saturating_sub(1)),
         },
         _ => ToldConflict {
             first: NO_ACCESS,
@@ -155,20 +155,20 @@ fn told_conflict(verdict: &Verdict) -> ToldConflict
 }
 
 /// The event that would end a wait.
-fn told_wait(awaited: Option<Kind>) -> ToldWait
-    ensures { result ≡ told_wait awaited }
+fn told_exploration_wait(awaited: Option<Kind>) -> ToldWait
+    ensures { result ≡ told_exploration_wait awaited }
 {
     match awaited {
         Some(kind) => ToldWait {
-            kind: kind_number(kind),
-            number: number_named(kind),
+            kind: told_exploration_kind(kind),
+            number: told_exploration_number(kind),
         },
         None => NO_WAIT,
     }
 }
 
 /// What the processor waits for.
-fn awaited_at(waits: &[Option<Kind>], processor: usize) -> Option<Kind>
+fn told_exploration_awaited_at(waits: &[Option<Kind>], processor: usize) -> Option<Kind>
     ensures { result ≡ slice_index_or waits.now processor None }
 {
     if processor < waits.len() {
@@ -179,29 +179,29 @@ fn awaited_at(waits: &[Option<Kind>], processor: usize) -> Option<Kind>
 }
 
 /// What each processor that there may be waits for.
-fn told_waits(waits: &[Option<Kind>]) -> [ToldWait; MOST_PROCESSORS]
-    ensures { result ≡ told_waits waits.now }
+fn told_exploration_waits(waits: &[Option<Kind>]) -> [ToldWait; MOST_PROCESSORS]
+    ensures { result ≡ told_exploration_waits waits.now }
 {
     let mut told = [NO_WAIT; MOST_PROCESSORS];
     for processor in 0..MOST_PROCESSORS {
-        told[processor] = told_wait(awaited_at(waits, processor));
+        told[processor] = told_exploration_wait(told_exploration_awaited_at(waits, processor));
     }
     told
 }
 
 /// What each waits for where a schedule hangs.
-fn awaited_by(hanging: &Hanging) -> [ToldWait; MOST_PROCESSORS]
-    ensures { result ≡ awaited_by hanging.now }
+fn told_exploration_awaited_by(hanging: &Hanging) -> [ToldWait; MOST_PROCESSORS]
+    ensures { result ≡ told_exploration_awaited_by hanging.now }
 {
     match hanging {
-        Hanging::Hangs(hang) => told_waits(&hang.waits),
+        Hanging::Hangs(hang) => told_exploration_waits(&hang.waits),
         _ => [NO_WAIT; MOST_PROCESSORS],
     }
 }
 
 /// Whether the script races.
-fn racing_number(verdict: &Verdict) -> u64
-    ensures { result ≡ racing_number verdict.now }
+fn told_exploration_racing(verdict: &Verdict) -> u64
+    ensures { result ≡ told_exploration_racing verdict.now }
 {
     match verdict {
         Verdict::RaceFree => 0,
@@ -211,8 +211,8 @@ fn racing_number(verdict: &Verdict) -> u64
 }
 
 /// Whether a schedule of it hangs.
-fn hanging_number(hanging: &Hanging) -> u64
-    ensures { result ≡ hanging_number hanging.now }
+fn told_exploration_hanging(hanging: &Hanging) -> u64
+    ensures { result ≡ told_exploration_hanging hanging.now }
 {
     match hanging {
         Hanging::Never => 0,
@@ -226,12 +226,12 @@ pub fn told_exploration(found: &Explored) -> ToldExploration
     ensures { result ≡ told_exploration found.now }
 {
     ToldExploration {
-        verdict: racing_number(&found.verdict),
-        hangs: hanging_number(&found.hanging),
+        verdict: told_exploration_racing(&found.verdict),
+        hangs: told_exploration_hanging(&found.hanging),
         states: found.states as u64,
         outcomes: found.outcomes.len() as u64,
         are_all: if found.are_all { 1 } else { 0 },
-        race: told_conflict(&found.verdict),
-        waits: awaited_by(&found.hanging),
+        race: told_exploration_conflict(&found.verdict),
+        waits: told_exploration_awaited_by(&found.hanging),
     }
 }

@@ -1,7 +1,7 @@
 //! Why the schedules of a text weren't looked at.
 ghost use Rattle.std.specs.Prelude.{◌≡◌};
 ghost use Rattle.c_library.specs.declared.unexplored.Unexplored.TheVariants.{NoMemory};
-ghost use Rattle.c_library.specs.Prelude.{script_fault_number, told_script_fault};
+ghost use Rattle.c_library.specs.Prelude.{given_text_fault_number, given_text_fault_told};
 
 use lrc_script::fault::ScriptFault;
 use std::alloc::AllocError;
@@ -34,8 +34,8 @@ pub struct ToldScriptFault {
 }
 
 /// The number of a fault.
-fn script_fault_number(fault: ScriptFault) -> u64
-    ensures { result ≡ script_fault_number fault }
+fn unexplored_script_fault_number(fault: ScriptFault) -> u64
+    ensures { result ≡ given_text_fault_number fault }
 {
     match fault {
         ScriptFault::Truncated => 1,
@@ -54,11 +54,11 @@ fn script_fault_number(fault: ScriptFault) -> u64
 }
 
 /// The fault of a line.
-pub fn told_script_fault(line: usize, fault: ScriptFault) -> ToldScriptFault
-    ensures { result ≡ told_script_fault line fault }
+pub fn unexplored_script_fault(line: usize, fault: ScriptFault) -> ToldScriptFault
+    ensures { result ≡ given_text_fault_told line fault }
 {
     ToldScriptFault {
         line: line as u64,
-        kind: script_fault_number(fault),
+        kind: unexplored_script_fault_number(fault),
     }
 }

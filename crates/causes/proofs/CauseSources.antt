@@ -7,27 +7,27 @@ use Rattle.base.specs.InOrderOnce.{Has}
 use Rattle.journal.specs.declared.event.Event.{Event}
 use Rattle.journal.specs.declared.event.Kind.TheVariants.{Load, Store}
 use Rattle.journal.specs.DidEvent.{event}
-use Rattle.journal.specs.Events.{At}
-use Rattle.journal.specs.ExplainedAnswers.{IsAnswer, LatestStore, Untouched}
+use Rattle.journal.specs.Events.{EventAt}
+use Rattle.journal.specs.ExplainedAnswers.{IsAnswer, LatestExplainedAnswer, UntouchedExplainedAnswer}
 use Rattle.journal.specs.WellFormed.{Does}
-use Rattle.journal.proofs.Order.CountedAndNumbered.{numbered_at_within, numbered_at_same, numbered_does_same}
+use Rattle.journal.proofs.Order.EventPlacesAndCounts.{event_place_inside, event_place_same, event_place_does_same}
 use Rattle.judge.specs.Sources.Latest.{AreLatest, IsLatest}
-use Rattle.judge.proofs.sources.Answering.{answers_law, answering_untouched}
+use Rattle.judge.proofs.sources.Answering.{answering_law, answering_untouched}
 use Rattle.causes.specs.declared.origin.WordOrigin.{WordOrigin}
 use Rattle.causes.specs.declared.source.Source.{Source}
 use Rattle.causes.specs.declared.source.Source.TheVariants.{StoreAt}
-use Rattle.causes.specs.Origins.{IsOriginStore, NameOrigins, NamesOrigin, NamesOriginAt}
+use Rattle.causes.specs.Origins.{IsOriginOneOf, AreOriginsNamed, IsOriginNamed, IsOriginNamedAt}
 use Rattle.causes.specs.Source.{HasSource, IsSource, IsSourceAt}
 use Rattle.causes.proofs.Rows.{rows_next}
 
 -- the event at place i stores v
-abbrev pub IsSourceStore : List Event → ℕ → ℕ → Type 0
-IsSourceStore j i v = (e : Event) × At j i e × ((a : ℕ) × (e.kind ≡ Store a v))
+abbrev pub IsCauseSourceStore : List Event → ℕ → ℕ → Type 0
+IsCauseSourceStore j i v = (e : Event) × EventAt j i e × ((a : ℕ) × (e.kind ≡ Store a v))
 
 -- none of the first n places has a store of v
-abbrev pub NoSourceStores : List Event → List ℕ → ℕ → ℕ → Type 0
-NoSourceStores j places n v =
-    (m i : ℕ) (e : Event) → m < n → slice_get places m ≡ Some i → At j i e → (a : ℕ) → e.kind ≢ Store a v
+abbrev pub NoCauseSourceStores : List Event → List ℕ → ℕ → ℕ → Type 0
+NoCauseSourceStores j places n v =
+    (m i : ℕ) (e : Event) → m < n → slice_get places m ≡ Some i → EventAt j i e → (a : ℕ) → e.kind ≢ Store a v
 
 cause_source_stored_same : (a v b w : ℕ) → Store a v ≡ Store b w → v ≡ w
 cause_source_stored_same a v b w is = cc
@@ -35,34 +35,34 @@ cause_source_stored_same a v b w is = cc
 cause_source_address_same : (a v b w : ℕ) → Load a v ≡ Load b w → a ≡ b
 cause_source_address_same a v b w is = cc
 
-cause_source_value_same : (a v b w : ℕ) → Load a v ≡ Load b w → v ≡ w
-cause_source_value_same a v b w is = cc
+cause_source_load_same : (a v b w : ℕ) → Load a v ≡ Load b w → v ≡ w
+cause_source_load_same a v b w is = cc
 
 -- a latest store's event stands at its place
-pub cause_source_stands : (j : List Event) (k a q i : ℕ) (x : IsLatest j k a q i) → At j i (event x.store.by (Store a x.value))
-cause_source_stands j k a q i x = subst (λ n. At j n (event x.store.by (Store a x.value))) x.place x.store.stores
+pub cause_source_stands : (j : List Event) (k a q i : ℕ) (x : IsLatest j k a q i) → EventAt j i (event x.store.by (Store a x.value))
+cause_source_stands j k a q i x = subst (λ n. EventAt j n (event x.store.by (Store a x.value))) x.place x.store.stores
 
 -- each of the places is one of the journal
 pub cause_source_place_within : (j : List Event) (k a m i : ℕ) (places : List ℕ) → AreLatest j k a places
     → slice_get places m ≡ Some i → i < length j
 cause_source_place_within j k a m i places are at =
     let x = (are.has i).0 (m, at) in
-    numbered_at_within j i (event x.1.store.by (Store a x.1.value)) (cause_source_stands j k a x.0 i x.1)
+    event_place_inside j i (event x.1.store.by (Store a x.1.value)) (cause_source_stands j k a x.0 i x.1)
 
 -- a place of these whose event stores v is the source
 pub cause_source_found : (j : List Event) (k a v i : ℕ) (places : List ℕ) → AreLatest j k a places → Has places i
-    → IsSourceStore j i v → IsSource j k a v (StoreAt i)
+    → IsCauseSourceStore j i v → IsSource j k a v (StoreAt i)
 cause_source_found j k a v i places are has stores =
     let y = (are.has i).0 has in
     let x = y.1 in
     let stands = cause_source_stands j k a y.0 i x in
-    let same = numbered_at_same j i (event x.store.by (Store a x.value)) stores.0 stands stores.1 in
+    let same = event_place_same j i (event x.store.by (Store a x.value)) stores.0 stands stores.1 in
     let value = cause_source_stored_same a x.value stores.2.0 v (ap (λ (z : Event). z.kind) same ∙ stores.2.1) in
-    subst (λ w. (s : LatestStore j k a w) × (s.place ≡ i)) value (x.store, x.place)
+    subst (λ w. (s : LatestExplainedAnswer j k a w) × (s.place ≡ i)) value (x.store, x.place)
 
 -- where there is no place, nothing was stored before the load
 pub cause_source_is_nothing : (j : List Event) (k a : ℕ) (places : List ℕ) → AreLatest j k a places → length places ≡ 0
-    → Untouched j k a
+    → UntouchedExplainedAnswer j k a
 cause_source_is_nothing j k a places are none = answering_untouched j k a (λ q i x.
     let at = (are.has i).1 (q, x) in
     let lt = slice_get_within places at.0 i at.1 in
@@ -70,8 +70,8 @@ cause_source_is_nothing j k a places are none = answering_untouched j k a (λ q 
 
 -- where no place has a store of v, and there are places or v isn't 0, no load may answer v
 pub cause_source_unexplained : (j : List Event) (k a v : ℕ) (places : List ℕ) → AreLatest j k a places
-    → NoSourceStores j places (length places) v → (length places ≡ 0 → v ≢ 0) → ¬ IsAnswer j k a v
-cause_source_unexplained j k a v places are none some answer = elim ((answers_law j k a v).0 answer) [
+    → NoCauseSourceStores j places (length places) v → (length places ≡ 0 → v ≢ 0) → ¬ IsAnswer j k a v
+cause_source_unexplained j k a v places are none some answer = elim ((answering_law j k a v).0 answer) [
   | inl x ↦ some (empty x.1) x.0
   | inr x ↦
       (let at = (are.has x.1).1 (x.0, x.2) in
@@ -89,7 +89,7 @@ cause_source_unexplained j k a v places are none some answer = elim ((answers_la
 
 -- the origin's store is the source, where it is one of the places and stored v
 pub cause_source_origin_found : (j : List Event) (k a v i : ℕ) (origin : Option WordOrigin) (places : List ℕ) → AreLatest j k a places
-    → IsOriginStore j places v origin i → IsSource j k a v (StoreAt i) × NamesOrigin j k a v origin (StoreAt i)
+    → IsOriginOneOf j places v origin i → IsSource j k a v (StoreAt i) × IsOriginNamed j k a v origin (StoreAt i)
 cause_source_origin_found j k a v i origin places are x = (
   cause_source_found j k a v i places are x.among x.stores,
   λ y is l place.
@@ -99,31 +99,31 @@ cause_source_origin_found j k a v i origin places are x = (
 
 -- where it is none of these, the load may not answer it
 pub cause_source_origin_others : (j : List Event) (k a v : ℕ) (origin : Option WordOrigin) (places : List ℕ) (s : Source)
-    → AreLatest j k a places → ((i : ℕ) → ¬ IsOriginStore j places v origin i) → NamesOrigin j k a v origin s
+    → AreLatest j k a places → ((i : ℕ) → ¬ IsOriginOneOf j places v origin i) → IsOriginNamed j k a v origin s
 cause_source_origin_others j k a v origin places s are none x is l place =
     absurd (none x.store (record {
       origin_is = x;
       is = is;
       store = refl;
       among = (are.has x.store).1 (l.by, record { value = v; store = l; place = place; by = refl });
-      stores = (event l.by (Store a v), subst (λ n. At j n (event l.by (Store a v))) place l.stores, (a, refl));
+      stores = (event l.by (Store a v), subst (λ n. EventAt j n (event l.by (Store a v))) place l.stores, (a, refl));
     }))
 
 -- what the event e at place k loads is loaded there
-pub cause_source_loads : (j : List Event) (k a v : ℕ) (e : Event) → At j k e → e.kind ≡ Load a v → Does j k e.processor (Load a v)
-cause_source_loads j k a v e at is = subst (λ kind. At j k (event e.processor kind)) is at
+pub cause_source_loads : (j : List Event) (k a v : ℕ) (e : Event) → EventAt j k e → e.kind ≡ Load a v → Does j k e.processor (Load a v)
+cause_source_loads j k a v e at is = subst (λ kind. EventAt j k (event e.processor kind)) is at
 
 -- the source of a load names the origin
 pub cause_source_origin_in : (j : List Event) (k p a v : ℕ) (origin : Option WordOrigin) (s : Source) → Does j k p (Load a v)
-    → NamesOrigin j k a v origin s → NamesOriginAt j k origin (Some s)
+    → IsOriginNamed j k a v origin s → IsOriginNamedAt j k origin (Some s)
 cause_source_origin_in j k p a v origin s here names q b w x does some =
-    let same = (numbered_does_same j k p q (Load a v) (Load b w) here does).1 in
-    subst (NamesOrigin j k b w origin) (same_Some s x some)
-    (subst (λ c. NamesOrigin j k c w origin s) (cause_source_address_same a v b w same)
-    (subst (λ c. NamesOrigin j k a c origin s) (cause_source_value_same a v b w same) names))
+    let same = (event_place_does_same j k p q (Load a v) (Load b w) here does).1 in
+    subst (IsOriginNamed j k b w origin) (same_Some s x some)
+    (subst (λ c. IsOriginNamed j k c w origin s) (cause_source_address_same a v b w same)
+    (subst (λ c. IsOriginNamed j k a c origin s) (cause_source_load_same a v b w same) names))
 
 -- an event that is no load names none
-pub cause_source_origin_out : (j : List Event) (k : ℕ) (origin : Option WordOrigin) → NamesOriginAt j k origin None
+pub cause_source_origin_out : (j : List Event) (k : ℕ) (origin : Option WordOrigin) → IsOriginNamedAt j k origin None
 cause_source_origin_out j k origin p a v x does some = absurd (none_is x some)
   where
     none_is : (y : Source) → None ≡ Some y → ⊥
@@ -131,19 +131,19 @@ cause_source_origin_out j k origin p a v x does some = absurd (none_is x some)
 
 -- one event more
 pub cause_source_named_next : (j : List Event) (origins : List (Option WordOrigin)) (rows : List (Option Source)) (n : ℕ)
-    → (o : Option Source) → length rows ≡ n → NameOrigins j origins rows
-    → ((x : Option WordOrigin) → slice_get origins n ≡ Some x → NamesOriginAt j n x o) → NameOrigins j origins (rows ++ o ∷ [])
+    → (o : Option Source) → length rows ≡ n → AreOriginsNamed j origins rows
+    → ((x : Option WordOrigin) → slice_get origins n ≡ Some x → IsOriginNamedAt j n x o) → AreOriginsNamed j origins (rows ++ o ∷ [])
 cause_source_named_next j origins rows n o long are now k x source there to =
-    rows_next (λ (m : ℕ) (y : Option Source). (z : Option WordOrigin) → slice_get origins m ≡ Some z → NamesOriginAt j m z y)
+    rows_next (λ (m : ℕ) (y : Option Source). (z : Option WordOrigin) → slice_get origins m ≡ Some z → IsOriginNamedAt j m z y)
     rows n o long (λ m y at z here. are m z y here at) now k source to x there
 
 -- a place more
 pub cause_source_none_next : (j : List Event) (places : List ℕ) (n v i : ℕ) → slice_get places n ≡ Some i
-    → ¬ IsSourceStore j i v → NoSourceStores j places n v → NoSourceStores j places (n + 1) v
+    → ¬ IsCauseSourceStore j i v → NoCauseSourceStores j places n v → NoCauseSourceStores j places (n + 1) v
 cause_source_none_next j places n v i at away before m l f lt to there a is = elim (cases_eq m n) [
   | inl same ↦
       (let one : i ≡ l = same_Some i l (sym at ∙ sym (ap (slice_get places) same) ∙ to) in
-      away (f, subst (λ x. At j x f) (sym one) there, (a, is)))
+      away (f, subst (λ x. EventAt j x f) (sym one) there, (a, is)))
   | inr isnt ↦ before m l f (omega arith) to there a is
 ]
 
@@ -154,11 +154,11 @@ cause_source_in_load j k p a v s here tells = record { loads = loads; others = �
   where
     loads : (q b w : ℕ) → Does j k q (Load b w) → HasSource j k b w (Some s)
     loads q b w does =
-        let same = (numbered_does_same j k p q (Load a v) (Load b w) here does).1 in
+        let same = (event_place_does_same j k p q (Load a v) (Load b w) here does).1 in
         record {
           source = s;
           is = refl;
           tells =
               subst (λ x. IsSource j k x w s) (cause_source_address_same a v b w same)
-              (subst (λ x. IsSource j k a x s) (cause_source_value_same a v b w same) tells);
+              (subst (λ x. IsSource j k a x s) (cause_source_load_same a v b w same) tells);
         }

@@ -9,19 +9,19 @@ use Rattle.base.proofs.SlicesAndCounts.{slice_push_cases, slice_get-append_left,
 use Rattle.journal.specs.declared.event.Event.{Event}
 use Rattle.journal.specs.declared.event.Kind.{Kind}
 use Rattle.journal.specs.declared.event.Kind.TheVariants.{Acquire, Release, Depart, Set, Await}
-use Rattle.journal.specs.Events.{At, count_of, is_arrive, is_depart}
+use Rattle.journal.specs.Events.{EventAt, event_count, event_arrives, event_departs}
 use Rattle.journal.specs.HappensBeforeEdges.{LetsThrough, Link, same, lets, meets}
-use Rattle.journal.proofs.Order.CountedAndNumbered.{numbered_at_same}
-use Rattle.journal.proofs.Passes.ReachedNextRaces.{count_next}
-use Rattle.causes.specs.Edges.{AreEdges, EdgeFromOther, EdgeLeadsOn}
+use Rattle.journal.proofs.Order.EventPlacesAndCounts.{event_place_same}
+use Rattle.journal.proofs.Passes.NextRaces.{next_race_count}
+use Rattle.causes.specs.Edges.{AreEdges, EdgeFromOther, EdgeLetsOn}
 
-edge_leads_lets_through : (a b : Kind) (n m : ℕ) → LetsThrough a b → EdgeLeadsOn a n b m
+edge_leads_lets_through : (a b : Kind) (n m : ℕ) → LetsThrough a b → EdgeLetsOn a n b m
 edge_leads_lets_through (Release l) (Acquire k) n m is = ap (λ x. Release x) is
 edge_leads_lets_through (Set f) (Await g) n m is = ap (λ x. Set x) is
 edge_leads_lets_through _ _ n m is = absurd is
 
 edge_leads_on_link : (j : List Event) (i k : ℕ) (e f : Event) (b : Kind) → f.kind ≡ b
-    → EdgeLeadsOn e.kind (count_of is_arrive (take i j) e.processor) b (count_of is_depart (take k j) f.processor)
+    → EdgeLetsOn e.kind (event_count event_arrives (take i j) e.processor) b (event_count event_departs (take k j) f.processor)
     → Link j i k e f
 edge_leads_on_link j i k e f (Acquire l) is on = lets (subst (λ a. LetsThrough a f.kind) (sym on) (subst (λ b. LetsThrough (Release l) b) (sym is) refl))
 edge_leads_on_link j i k e f (Await g) is on = lets (subst (λ a. LetsThrough a f.kind) (sym on) (subst (λ b. LetsThrough (Set g) b) (sym is) refl))
@@ -29,21 +29,21 @@ edge_leads_on_link j i k e f Depart is on = meets (record { arrives = on.0; depa
 edge_leads_on_link j i k e f _ is on = absurd on
 
 edge_leads_link_on : (j : List Event) (i k : ℕ) (e f : Event) → e.processor ≢ f.processor → Link j i k e f
-    → EdgeLeadsOn e.kind (count_of is_arrive (take i j) e.processor) f.kind (count_of is_depart (take k j) f.processor)
+    → EdgeLetsOn e.kind (event_count event_arrives (take i j) e.processor) f.kind (event_count event_departs (take k j) f.processor)
 edge_leads_link_on j i k e f apart (same is) = absurd (apart is)
 edge_leads_link_on j i k e f apart (lets is) =
-    edge_leads_lets_through e.kind f.kind (count_of is_arrive (take i j) e.processor) (count_of is_depart (take k j) f.processor) is
+    edge_leads_lets_through e.kind f.kind (event_count event_arrives (take i j) e.processor) (event_count event_departs (take k j) f.processor) is
 edge_leads_link_on j i k e f apart (meets m) =
-    subst (λ b. EdgeLeadsOn e.kind (count_of is_arrive (take i j) e.processor) b (count_of is_depart (take k j) f.processor))
+    subst (λ b. EdgeLetsOn e.kind (event_count event_arrives (take i j) e.processor) b (event_count event_departs (take k j) f.processor))
     (sym m.departs) (m.arrives, m.episode)
 
 -- the event e at place i has an edge to another processor's event f at place k
 abbrev pub LeadsTo : List Event → ℕ → ℕ → Event → Event → Type 0
 LeadsTo j i k e f =
     (e.processor ≢ f.processor)
-    × EdgeLeadsOn e.kind (count_of is_arrive (take i j) e.processor) f.kind (count_of is_depart (take k j) f.processor)
+    × EdgeLetsOn e.kind (event_count event_arrives (take i j) e.processor) f.kind (event_count event_departs (take k j) f.processor)
 
-pub leads : (j : List Event) (i k : ℕ) (e f : Event) → i < k → At j i e → At j k f → LeadsTo j i k e f
+pub leads : (j : List Event) (i k : ℕ) (e f : Event) → i < k → EventAt j i e → EventAt j k f → LeadsTo j i k e f
     → EdgeFromOther j i k
 leads j i k e f lt at to x = record {
   edge = record {
@@ -57,10 +57,10 @@ leads j i k e f lt at to x = record {
   apart = x.0;
 }
 
-pub edge_leads_led : (j : List Event) (i k : ℕ) (e f : Event) → At j i e → At j k f → EdgeFromOther j i k → LeadsTo j i k e f
+pub edge_leads_led : (j : List Event) (i k : ℕ) (e f : Event) → EventAt j i e → EventAt j k f → EdgeFromOther j i k → LeadsTo j i k e f
 edge_leads_led j i k e f at to x =
-    let from = numbered_at_same j i x.edge.from e x.edge.from_at at in
-    let into = numbered_at_same j k x.edge.to f x.edge.to_at to in
+    let from = event_place_same j i x.edge.from e x.edge.from_at at in
+    let into = event_place_same j k x.edge.to f x.edge.to_at to in
     subst (λ (y : Event). LeadsTo j i k y f) from (subst (λ (y : Event). LeadsTo j i k x.edge.from y) into
     (x.apart, edge_leads_link_on j i k x.edge.from x.edge.to x.apart x.edge.link))
 
@@ -71,17 +71,17 @@ pub record AreLeadingEdgesBelow (j : List Event) (k n : ℕ) (places : List ℕ)
   pub order : InOrder (λ i m. i < m) places
 
 -- at first there are none
-pub edges_start : (j : List Event) (k : ℕ) → AreLeadingEdgesBelow j k 0 []
-edges_start j k = record {
+pub edge_leads_start : (j : List Event) (k : ℕ) → AreLeadingEdgesBelow j k 0 []
+edge_leads_start j k = record {
   all = λ i lt x. absurd (omega arith);
   each = λ i at. absurd (none-some i at.1);
   order = λ m n i l lt at to. absurd (none-some i at);
 }
 
 -- a place more that has no edge
-pub edges_others : (j : List Event) (k n : ℕ) (places : List ℕ) → ¬ EdgeFromOther j n k → AreLeadingEdgesBelow j k n places
+pub edge_leads_others : (j : List Event) (k n : ℕ) (places : List ℕ) → ¬ EdgeFromOther j n k → AreLeadingEdgesBelow j k n places
     → AreLeadingEdgesBelow j k (n + 1) places
-edges_others j k n places away old = record {
+edge_leads_others j k n places away old = record {
   all = λ i lt x. elim (cases_eq i n) [
     | inl is ↦ absurd (away (subst (λ m. EdgeFromOther j m k) is x))
     | inr isnt ↦ old.all i (omega arith) x
@@ -91,9 +91,9 @@ edges_others j k n places away old = record {
 }
 
 -- and one that has
-pub edges_below_next : (j : List Event) (k n : ℕ) (places : List ℕ) → EdgeFromOther j n k → AreLeadingEdgesBelow j k n places
+pub edge_leads_next : (j : List Event) (k n : ℕ) (places : List ℕ) → EdgeFromOther j n k → AreLeadingEdgesBelow j k n places
     → AreLeadingEdgesBelow j k (n + 1) (places ++ n ∷ [])
-edges_below_next j k n places now old = record { all = all; each = each; order = order }
+edge_leads_next j k n places now old = record { all = all; each = each; order = order }
   where
     older : (i : ℕ) → Has places i → Has (places ++ n ∷ []) i
     older i at = (at.0, slice_get-append_left places (n ∷ []) at.0 (slice_get_within places at.0 i at.1) ∙ at.1)
@@ -123,40 +123,40 @@ edges_below_next j k n places now old = record { all = all; each = each; order =
     ]
 
 -- an edge leads forward
-pub edges_below_all : (j : List Event) (k n : ℕ) (places : List ℕ) → k ≡ n → AreLeadingEdgesBelow j k n places → AreEdges j k places
-edges_below_all j k n places is old = record {
+pub edge_leads_all : (j : List Event) (k n : ℕ) (places : List ℕ) → k ≡ n → AreLeadingEdgesBelow j k n places → AreEdges j k places
+edge_leads_all j k n places is old = record {
   has = λ i. ((λ at. (old.each i at).1), λ x. (let lt = x.edge.before in old.all i (omega arith) x));
   order = old.order;
 }
 
 -- no count of a journal's front is past its place
-pub edge_leads_count_within : (is : Kind → Bool) (j : List Event) (i p : ℕ) → i ≤ length j → count_of is (take i j) p ≤ i
+pub edge_leads_count_within : (is : Kind → Bool) (j : List Event) (i p : ℕ) → i ≤ length j → event_count is (take i j) p ≤ i
 edge_leads_count_within is j i p le =
     let all = count_by-le-length (λ (e : Event). (e.processor == p) && is e.kind) (take i j) in
     let long = length-take-le i j le in
     omega arith
 
 -- one or none is at most one
-pub edge_one_or_none : (b : Bool) → cond b 1 0 ≤ 1
-edge_one_or_none true = omega arith
-edge_one_or_none false = omega arith
+pub edge_leads_one_or_none : (b : Bool) → cond b 1 0 ≤ 1
+edge_leads_one_or_none true = omega arith
+edge_leads_one_or_none false = omega arith
 
 -- these are the counts of each of sixteen processors' events of some kinds before place i
-pub record AreCountsBefore (is : Kind → Bool) (j : List Event) (i : ℕ) (counts : List ℕ) : Type 0 where
+pub record AreLeadingEdgeCountsBefore (is : Kind → Bool) (j : List Event) (i : ℕ) (counts : List ℕ) : Type 0 where
   pub long : length counts ≡ 16
-  pub each : (q : ℕ) → q < 16 → slice_index counts q ≡ count_of is (take i j) q
+  pub each : (q : ℕ) → q < 16 → slice_index counts q ≡ event_count is (take i j) q
 
 -- one place on
-pub edge_leads_counts_next : {is : Kind → Bool} {j : List Event} {i : ℕ} {counts : List ℕ} (e : Event) (now : ℕ) → At j i e
-    → AreCountsBefore is j i counts → now ≡ slice_index counts e.processor + cond (is e.kind) 1 0
-    → AreCountsBefore is j (i + 1) (slice_set counts e.processor now)
+pub edge_leads_counts_next : {is : Kind → Bool} {j : List Event} {i : ℕ} {counts : List ℕ} (e : Event) (now : ℕ) → EventAt j i e
+    → AreLeadingEdgeCountsBefore is j i counts → now ≡ slice_index counts e.processor + cond (is e.kind) 1 0
+    → AreLeadingEdgeCountsBefore is j (i + 1) (slice_set counts e.processor now)
 edge_leads_counts_next {is} {j} {i} {counts} e now at old set_now =
     record { long = length-set counts e.processor now ∙ old.long; each = each }
   where
-    each : (q : ℕ) → q < 16 → slice_index (slice_set counts e.processor now) q ≡ count_of is (take (i + 1) j) q
+    each : (q : ℕ) → q < 16 → slice_index (slice_set counts e.processor now) q ≡ event_count is (take (i + 1) j) q
     each q lt = elim (cases_eq q e.processor) [
       | inl mine ↦
-          (let next = count_next is j i q e at in
+          (let next = next_race_count is j i q e at in
           let long = old.long in
           let set = get_or-set_same counts e.processor now 0 (omega arith) in
           let read = ap (λ n. slice_index (slice_set counts e.processor now) n) mine in
@@ -166,7 +166,7 @@ edge_leads_counts_next {is} {j} {i} {counts} e now at old set_now =
           rw (eq-eqb e.processor q (sym mine)) in
           omega arith)
       | inr other ↦
-          (let next = count_next is j i q e at in
+          (let next = next_race_count is j i q e at in
           let set = get_or-set_other counts e.processor q now 0 other in
           let was = old.each q lt in
           let none : cond {A = ℕ} ((e.processor == q) && is e.kind) 1 0 ≡ 0 =

@@ -13,20 +13,20 @@ use Rattle.base.proofs.SlicesAndCounts.{slice_push_cases, slice_get-append_left,
 use Rattle.journal.specs.declared.event.Event.{Event}
 use Rattle.journal.specs.declared.event.Kind.{Kind}
 use Rattle.journal.specs.declared.event.Kind.TheVariants.{Acquire, Depart, Await}
-use Rattle.journal.specs.Events.{At, count_of, interval_at, is_arrive, is_closing, is_depart}
-use Rattle.journal.specs.InRange.{ProcessorsInRange}
+use Rattle.journal.specs.Events.{EventAt, event_count, event_interval_at, event_arrives, event_closes, event_departs}
+use Rattle.journal.specs.EventsInRange.{EventProcessorsInRange}
 use Rattle.journal.specs.HappensBeforeEdges.{HappensBefore}
 use Rattle.journal.specs.HappensBeforeEdges.HappensBefore.{edge}
 use Rattle.journal.specs.Pasts.{InPast}
 use Rattle.journal.specs.Times.{ClosesAt, IsTimeIn}
-use Rattle.journal.proofs.Order.HappensBefore.{before_longer, before_shorter}
-use Rattle.journal.proofs.Order.CountedAndNumbered.{numbered_at_same, count_of-take-le, numbered_does_at, numbered_does_same}
+use Rattle.journal.proofs.Order.HappensBefore.{happens_before_longer, happens_before_shorter}
+use Rattle.journal.proofs.Order.EventPlacesAndCounts.{event_place_same, event_count-front-le, event_place_does, event_place_does_same}
 use Rattle.causes.specs.declared.step.Step.{Step}
-use Rattle.causes.specs.Edges.{EdgeFromOther, EdgeLeadsOn}
+use Rattle.causes.specs.Edges.{EdgeFromOther, EdgeLetsOn}
 use Rattle.causes.specs.declared.index.Turn.{Turn}
 use Rattle.causes.specs.Index.{IsIndexedClosing}
-use Rattle.causes.specs.News.{AreNewsInOrder, IsNewsOfStep, IsNews, TimesAroundNews}
-use Rattle.causes.proofs.LookedUpIndex.{HasTurn, index_closing_same}
+use Rattle.causes.specs.News.{AreNewsRising, IsNewsOfStep, IsNews, NewsTimesAround}
+use Rattle.causes.proofs.LookedUpIndex.{HasLookedUpTurn, looked_up_closing_same}
 use Rattle.causes.proofs.EdgeLeadsOn.{leads, edge_leads_led}
 
 -- a timestamp with the same entries
@@ -41,33 +41,33 @@ fresh_news_time_same j among t u same time = record {
 }
 
 -- what lets another processor on closes an interval
-fresh_news_lets_closes : (a : Kind) (n : ℕ) (b : Kind) (m : ℕ) → EdgeLeadsOn a n b m → IsTrue (is_closing a)
-fresh_news_lets_closes a n (Acquire l) m is = subst (λ k. IsTrue (is_closing k)) (sym is) refl
-fresh_news_lets_closes a n (Await f) m is = subst (λ k. IsTrue (is_closing k)) (sym is) refl
-fresh_news_lets_closes a n Depart m is = subst (λ k. IsTrue (is_closing k)) (sym is.0) refl
+fresh_news_lets_closes : (a : Kind) (n : ℕ) (b : Kind) (m : ℕ) → EdgeLetsOn a n b m → IsTrue (event_closes a)
+fresh_news_lets_closes a n (Acquire l) m is = subst (λ k. IsTrue (event_closes k)) (sym is) refl
+fresh_news_lets_closes a n (Await f) m is = subst (λ k. IsTrue (event_closes k)) (sym is) refl
+fresh_news_lets_closes a n Depart m is = subst (λ k. IsTrue (event_closes k)) (sym is.0) refl
 fresh_news_lets_closes a n _ m is = absurd is
 
 -- what happens before a place of a journal's front does so in the front, and the other way round
 pub fresh_news_in_front : (j : List Event) (n i m : ℕ) → n ≤ length j → m < n → HappensBefore j i m → HappensBefore (take n j) i m
 fresh_news_in_front j n i m le lt h =
     let long : length (take n j) ≡ n = length-take-le n j le in
-    before_shorter (take n j) (drop n j) (omega arith)
+    happens_before_shorter (take n j) (drop n j) (omega arith)
     (subst (λ xs. HappensBefore xs i m) (sym (take-append-drop n j)) h)
 
 pub fresh_news_from_front : (j : List Event) (n i m : ℕ) → HappensBefore (take n j) i m → HappensBefore j i m
 fresh_news_from_front j n i m h =
-    subst (λ xs. HappensBefore xs i m) (take-append-drop n j) (before_longer (take n j) (drop n j) h)
+    subst (λ xs. HappensBefore xs i m) (take-append-drop n j) (happens_before_longer (take n j) (drop n j) h)
 
-news_closes_in_front : (j : List Event) (n q i : ℕ) → i < n → ClosesAt j q i → ClosesAt (take n j) q i
-news_closes_in_front j n q i lt x =
+fresh_news_closes_in_front : (j : List Event) (n q i : ℕ) → i < n → ClosesAt j q i → ClosesAt (take n j) q i
+fresh_news_closes_in_front j n q i lt x =
     record { kind = x.kind; does = slice_get-take j n i lt ∙ x.does; closes = x.closes }
 
-pub news_number_in_front : (j : List Event) (n q i : ℕ) → i ≤ n → interval_at (take n j) q i ≡ interval_at j q i
-news_number_in_front j n q i le = ap (λ (xs : List Event). count_of is_closing xs q) (take-take i n j le)
+pub fresh_news_number_in_front : (j : List Event) (n q i : ℕ) → i ≤ n → event_interval_at (take n j) q i ≡ event_interval_at j q i
+fresh_news_number_in_front j n q i le = ap (λ (xs : List Event). event_count event_closes xs q) (take-take i n j le)
 
 -- what the step brings news of is news
-pub step_news_is_news : (j : List Event) (x : Step) (q i : ℕ) → TimesAroundNews j x → IsNewsOfStep j x q i → IsNews j i x.place
-step_news_is_news j x q i step new = record { leads = new.leads; first = first }
+pub fresh_news_of_step_is : (j : List Event) (x : Step) (q i : ℕ) → NewsTimesAround j x → IsNewsOfStep j x q i → IsNews j i x.place
+fresh_news_of_step_is j x q i step new = record { leads = new.leads; first = first }
   where
     before : i < x.place
     before = new.leads.edge.before
@@ -75,12 +75,12 @@ step_news_is_news j x q i step new = record { leads = new.leads; first = first }
     within : x.place < length j
     within = slice_get_within j x.place step.event step.at
 
-    first : (m : ℕ) (f : Event) → m < x.place → At j m f → f.processor ≡ new.leads.edge.to.processor
+    first : (m : ℕ) (f : Event) → m < x.place → EventAt j m f → f.processor ≡ new.leads.edge.to.processor
         → ¬ HappensBefore j i m
     first m f lt at mine h =
         let lt_i = before in
         let inside = within in
-        let same = numbered_at_same j x.place new.leads.edge.to step.event new.leads.edge.to_at step.at in
+        let same = event_place_same j x.place new.leads.edge.to step.event new.leads.edge.to_at step.at in
         let past : InPast (take x.place j) step.event.processor i =
         record {
           own = m;
@@ -89,20 +89,20 @@ step_news_is_news j x q i step new = record { leads = new.leads; first = first }
           mine = mine ∙ ap (λ (y : Event). y.processor) same;
           reaches = inr (fresh_news_in_front j x.place i m (omega arith) lt h);
         } in
-        let counted = (step.before.covers q i (news_closes_in_front j x.place q i before new.closes)).0 past in
-        let number = news_number_in_front j x.place q i (omega arith) in
+        let counted = (step.before.covers q i (fresh_news_closes_in_front j x.place q i before new.closes)).0 past in
+        let number = fresh_news_number_in_front j x.place q i (omega arith) in
         let late = new.late in
         absurd (omega arith)
 
 -- what is news is what the step brings of its processor
-pub record IsNewsOfSome (j : List Event) (x : Step) (i : ℕ) : Type 0 where
+pub record IsFreshNewsOfSome (j : List Event) (x : Step) (i : ℕ) : Type 0 where
   pub by : ℕ
   pub low : by < 16
   pub new : IsNewsOfStep j x by i
 
-pub news_is_of_step : (j : List Event) (x : Step) (i : ℕ) → ProcessorsInRange 16 j → TimesAroundNews j x → IsNews j i x.place
-    → IsNewsOfSome j x i
-news_is_of_step j x i low step news = record {
+pub fresh_news_is_of_step : (j : List Event) (x : Step) (i : ℕ) → EventProcessorsInRange 16 j → NewsTimesAround j x → IsNews j i x.place
+    → IsFreshNewsOfSome j x i
+fresh_news_is_of_step j x i low step news = record {
   by = from.processor;
   low = low i from news.leads.edge.from_at;
   new = record { closes = closes; leads = news.leads; late = late; counted = counted };
@@ -125,49 +125,49 @@ news_is_of_step j x i low step news = record {
         let to = edge_leads_led j i k from step.event news.leads.edge.from_at step.at news.leads in
         record {
           kind = from.kind;
-          does = numbered_does_at j i from.processor from news.leads.edge.from_at refl;
+          does = event_place_does j i from.processor from news.leads.edge.from_at refl;
           closes = fresh_news_lets_closes from.kind _ step.event.kind _ to.1;
         }
 
     unheard : ¬ InPast (take k j) step.event.processor i
     unheard past =
-        let same = numbered_at_same j k news.leads.edge.to step.event news.leads.edge.to_at step.at in
+        let same = event_place_same j k news.leads.edge.to step.event news.leads.edge.to_at step.at in
         let mine : past.event.processor ≡ news.leads.edge.to.processor =
         past.mine ∙ sym (ap (λ (y : Event). y.processor) same) in
-        let there : At j past.own past.event = front_at past.own past.event past.at in
+        let there : EventAt j past.own past.event = front_at past.own past.event past.at in
         let lt : past.own < k = front_lt past.own past.event past.at in
         elim past.reaches [
           | inl is ↦
-              (let one = numbered_at_same j i from past.event news.leads.edge.from_at (subst (λ m. At j m past.event) (sym is) there) in
+              (let one = event_place_same j i from past.event news.leads.edge.from_at (subst (λ m. EventAt j m past.event) (sym is) there) in
               news.leads.apart (ap (λ (y : Event). y.processor) one ∙ mine))
           | inr h ↦ news.first past.own past.event lt there mine (fresh_news_from_front j k i past.own h)
         ]
       where
-        front_lt : (m : ℕ) (f : Event) → At (take k j) m f → m < k
+        front_lt : (m : ℕ) (f : Event) → EventAt (take k j) m f → m < k
         front_lt m f at =
             let lt = slice_get_within (take k j) m f at in
             let inside = within in
             let long = length-take-le k j (omega arith) in
             omega arith
 
-        front_at : (m : ℕ) (f : Event) → At (take k j) m f → At j m f
+        front_at : (m : ℕ) (f : Event) → EventAt (take k j) m f → EventAt j m f
         front_at m f at = sym (slice_get-take j k m (front_lt m f at)) ∙ at
 
-    late : slice_index x.before from.processor ≤ interval_at j from.processor i
-    late = elim (cases_lt (interval_at j from.processor i) (slice_index x.before from.processor)) [
+    late : slice_index x.before from.processor ≤ event_interval_at j from.processor i
+    late = elim (cases_lt (event_interval_at j from.processor i) (slice_index x.before from.processor)) [
       | inl lt ↦
           (let lt_i = before in
-          let number = news_number_in_front j k from.processor i (omega arith) in
-          absurd (unheard ((step.before.covers from.processor i (news_closes_in_front j k from.processor i before closes)).1
+          let number = fresh_news_number_in_front j k from.processor i (omega arith) in
+          absurd (unheard ((step.before.covers from.processor i (fresh_news_closes_in_front j k from.processor i before closes)).1
           (omega arith))))
       | inr ge ↦ ge
     ]
 
-    counted : interval_at j from.processor i < slice_index x.after from.processor
+    counted : event_interval_at j from.processor i < slice_index x.after from.processor
     counted =
         let lt_i = before in
         let inside = within in
-        let number = news_number_in_front j (k + 1) from.processor i (omega arith) in
+        let number = fresh_news_number_in_front j (k + 1) from.processor i (omega arith) in
         let past : InPast (take (k + 1) j) step.event.processor i =
         record {
           own = k;
@@ -177,36 +177,36 @@ news_is_of_step j x i low step news = record {
           reaches = inr (fresh_news_in_front j (k + 1) i k (omega arith) (omega arith) (edge news.leads.edge));
         } in
         let lt =
-        (step.after.covers from.processor i (news_closes_in_front j (k + 1) from.processor i (omega arith) closes)).0 past in
+        (step.after.covers from.processor i (fresh_news_closes_in_front j (k + 1) from.processor i (omega arith) closes)).0 past in
         omega arith
 
 -- at place p, q closes its interval n, which the step's event counts and its processor had not counted before
-pub record IsClosingInStep (j : List Event) (x : Step) (q n p : ℕ) : Type 0 where
+pub record IsFreshNewsClosing (j : List Event) (x : Step) (q n p : ℕ) : Type 0 where
   pub closing : IsIndexedClosing j q n p
   pub late : slice_index x.before q ≤ n
   pub counted : n < slice_index x.after q
 
 -- the places so far: those that were there, and q's news of intervals below n
-abbrev pub HasNewsBelow : List Event → Step → ℕ → ℕ → List ℕ → List ℕ → Type 0
-HasNewsBelow j x q n old places =
-    (i : ℕ) → Has places i ↔ (Has old i ⊎ (IsNewsOfStep j x q i × (interval_at j q i < n)))
+abbrev pub HasFreshNewsBelow : List Event → Step → ℕ → ℕ → List ℕ → List ℕ → Type 0
+HasFreshNewsBelow j x q n old places =
+    (i : ℕ) → Has places i ↔ (Has old i ⊎ (IsNewsOfStep j x q i × (event_interval_at j q i < n)))
 
 -- no place of them stands twice, if none did and none was a closing of q's
-abbrev pub IsNewsOnceIf : List Event → ℕ → List ℕ → List ℕ → Type 0
-IsNewsOnceIf j q old places = IsOnce old → ((i : ℕ) → Has old i → ¬ ClosesAt j q i) → IsOnce places
+abbrev pub IsFreshNewsOnceIf : List Event → ℕ → List ℕ → List ℕ → Type 0
+IsFreshNewsOnceIf j q old places = IsOnce old → ((i : ℕ) → Has old i → ¬ ClosesAt j q i) → IsOnce places
 
 fresh_news_has_older : (xs : List ℕ) (y i : ℕ) → Has xs i → Has (xs ++ y ∷ []) i
 fresh_news_has_older xs y i at = (at.0, slice_get-append_left xs (y ∷ []) at.0 (slice_get_within xs at.0 i at.1) ∙ at.1)
 
 -- q's closing of interval n is news
-pub fresh_news_below_next : {j : List Event} {x : Step} {q n p : ℕ} (old places : List ℕ) → IsClosingInStep j x q n p
-    → EdgeFromOther j p x.place → HasNewsBelow j x q n old places → HasNewsBelow j x q (n + 1) old (places ++ p ∷ [])
+pub fresh_news_below_next : {j : List Event} {x : Step} {q n p : ℕ} (old places : List ℕ) → IsFreshNewsClosing j x q n p
+    → EdgeFromOther j p x.place → HasFreshNewsBelow j x q n old places → HasFreshNewsBelow j x q (n + 1) old (places ++ p ∷ [])
 fresh_news_below_next {j} {x} {q} {n} {p} old places closed leads was i = (there, back)
   where
     here : IsIndexedClosing j q n p
     here = closed.closing
 
-    there : Has (places ++ p ∷ []) i → Has old i ⊎ (IsNewsOfStep j x q i × (interval_at j q i < n + 1))
+    there : Has (places ++ p ∷ []) i → Has old i ⊎ (IsNewsOfStep j x q i × (event_interval_at j q i < n + 1))
     there at = elim (slice_push_cases places p at.0 i at.1) [
       | inl older ↦ elim ((was i).0 (at.0, older.1)) [
         | inl first ↦ inl first
@@ -214,39 +214,39 @@ fresh_news_below_next {j} {x} {q} {n} {p} old places closed leads was i = (there
       ]
       | inr last ↦
           (let number = here.number in
-          let new : IsNewsOfStep j x q p × (interval_at j q p < n + 1) =
+          let new : IsNewsOfStep j x q p × (event_interval_at j q p < n + 1) =
           (record { closes = here.closes; leads = leads; late = omega arith; counted = omega arith }, omega arith) in
-          inr (subst (λ m. IsNewsOfStep j x q m × (interval_at j q m < n + 1)) last.1 new))
+          inr (subst (λ m. IsNewsOfStep j x q m × (event_interval_at j q m < n + 1)) last.1 new))
     ]
 
-    back : (Has old i ⊎ (IsNewsOfStep j x q i × (interval_at j q i < n + 1))) → Has (places ++ p ∷ []) i
+    back : (Has old i ⊎ (IsNewsOfStep j x q i × (event_interval_at j q i < n + 1))) → Has (places ++ p ∷ []) i
     back s = elim s [
       | inl first ↦ fresh_news_has_older places p i ((was i).1 (inl first))
-      | inr new ↦ elim (cases_eq (interval_at j q i) n) [
+      | inr new ↦ elim (cases_eq (event_interval_at j q i) n) [
         | inl is ↦
-            (let same = index_closing_same j q n p i here (record { closes = new.0.closes; number = is }) in
+            (let same = looked_up_closing_same j q n p i here (record { closes = new.0.closes; number = is }) in
             (length places, slice_get-last places p ∙ ap (λ m. Some m) same))
         | inr isnt ↦ (let lt = new.1 in fresh_news_has_older places p i ((was i).1 (inr (new.0, omega arith))))
       ]
     ]
 
 -- or isn't
-pub fresh_news_below_others : {j : List Event} {x : Step} {q n p : ℕ} (old places : List ℕ) → IsClosingInStep j x q n p
-    → ¬ EdgeFromOther j p x.place → HasNewsBelow j x q n old places → HasNewsBelow j x q (n + 1) old places
+pub fresh_news_below_others : {j : List Event} {x : Step} {q n p : ℕ} (old places : List ℕ) → IsFreshNewsClosing j x q n p
+    → ¬ EdgeFromOther j p x.place → HasFreshNewsBelow j x q n old places → HasFreshNewsBelow j x q (n + 1) old places
 fresh_news_below_others {j} {x} {q} {n} {p} old places closed away was i = (there, back)
   where
-    there : Has places i → Has old i ⊎ (IsNewsOfStep j x q i × (interval_at j q i < n + 1))
+    there : Has places i → Has old i ⊎ (IsNewsOfStep j x q i × (event_interval_at j q i < n + 1))
     there at = elim ((was i).0 at) [
       | inl first ↦ inl first
       | inr new ↦ (let lt = new.1 in inr (new.0, omega arith))
     ]
 
-    back : (Has old i ⊎ (IsNewsOfStep j x q i × (interval_at j q i < n + 1))) → Has places i
+    back : (Has old i ⊎ (IsNewsOfStep j x q i × (event_interval_at j q i < n + 1))) → Has places i
     back s = elim s [
       | inl first ↦ (was i).1 (inl first)
-      | inr new ↦ elim (cases_eq (interval_at j q i) n) [
+      | inr new ↦ elim (cases_eq (event_interval_at j q i) n) [
         | inl is ↦
-            (let same = index_closing_same j q n i p (record { closes = new.0.closes; number = is }) closed.closing in
+            (let same = looked_up_closing_same j q n i p (record { closes = new.0.closes; number = is }) closed.closing in
             absurd (away (subst (λ m. EdgeFromOther j m x.place) same new.0.leads)))
         | inr isnt ↦ (let lt = new.1 in (was i).1 (inr (new.0, omega arith)))
       ]
@@ -254,7 +254,7 @@ fresh_news_below_others {j} {x} {q} {n} {p} old places closed away was i = (ther
 
 -- past the last interval that is counted, these are all of q's
 pub fresh_news_below_all : (j : List Event) (x : Step) (q n : ℕ) (old places : List ℕ) → slice_index x.after q ≤ n
-    → HasNewsBelow j x q n old places → (i : ℕ) → Has places i ↔ (Has old i ⊎ IsNewsOfStep j x q i)
+    → HasFreshNewsBelow j x q n old places → (i : ℕ) → Has places i ↔ (Has old i ⊎ IsNewsOfStep j x q i)
 fresh_news_below_all j x q n old places le was i = (
   (λ at. elim ((was i).0 at) [ inl first ↦ inl first | inr new ↦ inr new.0 ]),
   λ s. elim s [
@@ -276,8 +276,8 @@ fresh_news_once_next xs y once away m n a b lt at to is = elim (slice_push_cases
   ]
 ]
 
-pub fresh_news_once_push : {j : List Event} {x : Step} {q n p : ℕ} (old places : List ℕ) → IsClosingInStep j x q n p
-    → HasNewsBelow j x q n old places → IsNewsOnceIf j q old places → IsNewsOnceIf j q old (places ++ p ∷ [])
+pub fresh_news_once_push : {j : List Event} {x : Step} {q n p : ℕ} (old places : List ℕ) → IsFreshNewsClosing j x q n p
+    → HasFreshNewsBelow j x q n old places → IsFreshNewsOnceIf j q old places → IsFreshNewsOnceIf j q old (places ++ p ∷ [])
 fresh_news_once_push {j} {x} {q} {n} {p} old places closed was once first apart =
     fresh_news_once_next places p (once first apart) (λ at. elim ((was p).0 at) [
       | inl there ↦ apart p there closed.closing.closes
@@ -285,20 +285,20 @@ fresh_news_once_push {j} {x} {q} {n} {p} old places closed was once first apart 
     ])
 
 -- the places so far: the news of the first n processors, none twice
-pub record AreNewsBelow (j : List Event) (x : Step) (n : ℕ) (places : List ℕ) : Type 0 where
+pub record AreFreshNewsBelow (j : List Event) (x : Step) (n : ℕ) (places : List ℕ) : Type 0 where
   pub has : (i : ℕ) → Has places i ↔ ((q : ℕ) × (q < n) × IsNewsOfStep j x q i)
   pub once : IsOnce places
 
 -- and of one more
-pub fresh_news_next_processor : (j : List Event) (x : Step) (n : ℕ) (old new : List ℕ) → AreNewsBelow j x n old
-    → ((i : ℕ) → Has new i ↔ (Has old i ⊎ IsNewsOfStep j x n i)) → IsNewsOnceIf j n old new → AreNewsBelow j x (n + 1) new
+pub fresh_news_next_processor : (j : List Event) (x : Step) (n : ℕ) (old new : List ℕ) → AreFreshNewsBelow j x n old
+    → ((i : ℕ) → Has new i ↔ (Has old i ⊎ IsNewsOfStep j x n i)) → IsFreshNewsOnceIf j n old new → AreFreshNewsBelow j x (n + 1) new
 fresh_news_next_processor j x n old new was has once = record { has = λ i. (there i, back i); once = once was.once apart }
   where
     apart : (i : ℕ) → Has old i → ¬ ClosesAt j n i
     apart i at closes =
         let o = (was.has i).0 at in
         let lt = o.1 in
-        let same = (numbered_does_same j i o.0 n o.2.closes.kind closes.kind o.2.closes.does closes.does).0 in
+        let same = (event_place_does_same j i o.0 n o.2.closes.kind closes.kind o.2.closes.does closes.does).0 in
         absurd (omega arith)
 
     there : (i : ℕ) → Has new i → (q : ℕ) × (q < n + 1) × IsNewsOfStep j x q i
@@ -325,8 +325,8 @@ fresh_news_contains_has xs x at = (at.0, slice_get-get_or xs at.0 x at.1 ∙ ap 
 fresh_news_has_moved : (xs ys : List ℕ) (x : ℕ) → IsPermutation xs ys → Has xs x → Has ys x
 fresh_news_has_moved xs ys x moved at = fresh_news_contains_has ys x (Contains-permutation xs ys x moved (fresh_news_has_contains xs x at))
 
-in_order : (xs : List ℕ) → IsStrictlyIncreasing xs → InOrder (λ i m. i < m) xs
-in_order xs rises m n a b lt at to =
+fresh_news_in_order : (xs : List ℕ) → IsStrictlyIncreasing xs → InOrder (λ i m. i < m) xs
+fresh_news_in_order xs rises m n a b lt at to =
     let inside = slice_get_within xs n b to in
     let first = same_Some (slice_index_or xs m 0) a (sym (slice_get-get_or xs m 0 (omega arith)) ∙ at) in
     let last = same_Some (slice_index_or xs n 0) b (sym (slice_get-get_or xs n 0 inside) ∙ to) in
@@ -341,18 +341,18 @@ fresh_news_flips a b = elim (cases_eq a b) [
 
 -- those of all processors, sorted, are the news
 pub fresh_news_sorted_all : {j : List Event} {x : Step} {n : ℕ} {places : List ℕ} (sorted : List ℕ) → 16 ≤ n
-    → ProcessorsInRange 16 j → TimesAroundNews j x → AreNewsBelow j x n places → IsPermutation places sorted
-    → IsNonDecreasing sorted → AreNewsInOrder j x.place sorted
+    → EventProcessorsInRange 16 j → NewsTimesAround j x → AreFreshNewsBelow j x n places → IsPermutation places sorted
+    → IsNonDecreasing sorted → AreNewsRising j x.place sorted
 fresh_news_sorted_all {j} {x} {n} {places} sorted most low step are moved up = record { has = λ i. (there i, back i); order = order }
   where
     there : (i : ℕ) → Has sorted i → IsNews j i x.place
     there i at =
         let o = (are.has i).0 (fresh_news_has_moved sorted places i (IsPermutation-sym places sorted moved) at) in
-        step_news_is_news j x o.0 i step o.2
+        fresh_news_of_step_is j x o.0 i step o.2
 
     back : (i : ℕ) → IsNews j i x.place → Has sorted i
     back i news =
-        let new = news_is_of_step j x i low step news in
+        let new = fresh_news_is_of_step j x i low step news in
         let lt = new.low in
         fresh_news_has_moved places sorted i moved ((are.has i).1 (new.by, omega arith, new.new))
 
@@ -364,35 +364,35 @@ fresh_news_sorted_all {j} {x} {n} {places} sorted most low step are moved up = r
 
     order : InOrder (λ i m. i < m) sorted
     order =
-        in_order sorted
+        fresh_news_in_order sorted
         (IsStrictlyIncreasing-from_distinct sorted up
         (IsDistinct-IsPermutation (λ (a b : ℕ). a == b) fresh_news_flips places sorted moved (IsDistinct-from_apart (λ (a b : ℕ). a == b) places apart)))
 
 -- whether an edge leads on, by the turns of both events
-pub news_leads_by_turns : {j : List Event} {i k : ℕ} {e f : Event} {s t : Turn} (b : Bool) → HasTurn j i e s → HasTurn j k f t
-    → i < k → e.processor ≢ f.processor → (IsTrue b ↔ EdgeLeadsOn e.kind s.arrived f.kind t.departed)
+pub fresh_news_leads_by_turns : {j : List Event} {i k : ℕ} {e f : Event} {s t : Turn} (b : Bool) → HasLookedUpTurn j i e s → HasLookedUpTurn j k f t
+    → i < k → e.processor ≢ f.processor → (IsTrue b ↔ EdgeLetsOn e.kind s.arrived f.kind t.departed)
     → IsTrue b ↔ EdgeFromOther j i k
-news_leads_by_turns {j} {i} {k} {e} {f} {s} {t} b one two lt apart tells = (there, back)
+fresh_news_leads_by_turns {j} {i} {k} {e} {f} {s} {t} b one two lt apart tells = (there, back)
   where
     there : IsTrue b → EdgeFromOther j i k
     there so =
         leads j i k e f lt one.at two.at (
           apart,
-          subst (λ n. EdgeLeadsOn e.kind n f.kind (count_of is_depart (take k j) f.processor)) one.turn.arrived
-              (subst (λ m. EdgeLeadsOn e.kind s.arrived f.kind m) two.turn.departed (tells.0 so)),
+          subst (λ n. EdgeLetsOn e.kind n f.kind (event_count event_departs (take k j) f.processor)) one.turn.arrived
+              (subst (λ m. EdgeLetsOn e.kind s.arrived f.kind m) two.turn.departed (tells.0 so)),
         )
 
     back : EdgeFromOther j i k → IsTrue b
     back x =
         tells.1
-        (subst (λ n. EdgeLeadsOn e.kind n f.kind t.departed) (sym one.turn.arrived)
-        (subst (λ m. EdgeLeadsOn e.kind (count_of is_arrive (take i j) e.processor) f.kind m) (sym two.turn.departed)
+        (subst (λ n. EdgeLetsOn e.kind n f.kind t.departed) (sym one.turn.arrived)
+        (subst (λ m. EdgeLetsOn e.kind (event_count event_arrives (take i j) e.processor) f.kind m) (sym two.turn.departed)
         (edge_leads_led j i k e f one.at two.at x).1))
 
 -- an interval that the step's event counts is one that its processor closes
-pub fresh_news_number_closed : (j : List Event) (x : Step) (q n : ℕ) → TimesAroundNews j x → n < slice_index x.after q
-    → n < count_of is_closing j q
+pub fresh_news_number_closed : (j : List Event) (x : Step) (q n : ℕ) → NewsTimesAround j x → n < slice_index x.after q
+    → n < event_count event_closes j q
 fresh_news_number_closed j x q n step lt =
     let counts = step.after.within q in
-    let all = count_of-take-le is_closing j (x.place + 1) q in
+    let all = event_count-front-le event_closes j (x.place + 1) q in
     omega arith

@@ -5,12 +5,12 @@ use Rattle.std.proofs.lemmas.Bool.{cases_eq}
 use Rattle.journal.specs.declared.event.Event.{Event}
 use Rattle.journal.specs.declared.event.Kind.{Kind}
 use Rattle.journal.specs.declared.event.Kind.TheVariants.{Load, Store}
-use Rattle.journal.specs.Events.{At, address_of, is_taking}
+use Rattle.journal.specs.Events.{EventAt, event_address, event_takes}
 use Rattle.journal.specs.HappensBeforeEdges.{HappensBefore}
 use Rattle.journal.specs.Races.{Race}
 use Rattle.journal.specs.WellFormed.{Does}
-use Rattle.journal.proofs.Order.CountedAndNumbered.{numbered_at_same, numbered_at_within, numbered_does_at}
-use Rattle.journal.proofs.Order.HappensBefore.{before_goes_forward}
+use Rattle.journal.proofs.Order.EventPlacesAndCounts.{event_place_same, event_place_inside, event_place_does}
+use Rattle.journal.proofs.Order.HappensBefore.{happens_before_goes_forward}
 use Rattle.causes.specs.Heard.{IsHeard}
 
 -- q's event at place i happens before place k, and no later one of q below place n does
@@ -21,28 +21,28 @@ pub record IsLastHeardBelow (j : List Event) (q k n i : ℕ) : Type 0 where
   pub last : (m : ℕ) (a : Kind) → m < n → Does j m q a → HappensBefore j m k → m ≤ i
 
 -- the last event of q below place n that happens before place k, where there is one
-abbrev pub IsHeardBelow : List Event → ℕ → ℕ → ℕ → Option ℕ → Type 0
-IsHeardBelow j q k n o =
+abbrev pub LastHeardBelow : List Event → ℕ → ℕ → ℕ → Option ℕ → Type 0
+LastHeardBelow j q k n o =
     MatchOption o ((m : ℕ) (a : Kind) → m < n → Does j m q a → ¬ HappensBefore j m k) (IsLastHeardBelow j q k n)
 
 -- one place more, whose event is q's and happens before place k
-pub heard_next : (j : List Event) (q k n : ℕ) (e : Event) → At j n e → e.processor ≡ q → HappensBefore j n k
-    → IsHeardBelow j q k (n + 1) (Some n)
-heard_next j q k n e at mine before = record {
+pub last_heard_next : (j : List Event) (q k n : ℕ) (e : Event) → EventAt j n e → e.processor ≡ q → HappensBefore j n k
+    → LastHeardBelow j q k (n + 1) (Some n)
+last_heard_next j q k n e at mine before = record {
   kind = e.kind;
-  does = numbered_does_at j n q e at mine;
+  does = event_place_does j n q e at mine;
   before = before;
   last = λ m a lt does h. omega arith;
 }
 
 -- and one whose event isn't
-pub heard_other : (j : List Event) (q k n : ℕ) (o : Option ℕ) → ((a : Kind) → Does j n q a → ¬ HappensBefore j n k)
-    → IsHeardBelow j q k n o → IsHeardBelow j q k (n + 1) o
-heard_other j q k n None away none = λ m a lt does. elim (cases_eq m n) [
+pub last_heard_others : (j : List Event) (q k n : ℕ) (o : Option ℕ) → ((a : Kind) → Does j n q a → ¬ HappensBefore j n k)
+    → LastHeardBelow j q k n o → LastHeardBelow j q k (n + 1) o
+last_heard_others j q k n None away none = λ m a lt does. elim (cases_eq m n) [
   | inl is ↦ (λ h. away a (subst (λ x. Does j x q a) is does) (subst (λ x. HappensBefore j x k) is h))
   | inr isnt ↦ none m a (omega arith) does
 ]
-heard_other j q k n (Some i) away old =
+last_heard_others j q k n (Some i) away old =
     record { kind = old.kind; does = old.does; before = old.before; last = last }
   where
     last : (m : ℕ) (a : Kind) → m < n + 1 → Does j m q a → HappensBefore j m k → m ≤ i
@@ -52,38 +52,38 @@ heard_other j q k n (Some i) away old =
     ]
 
 -- what happens before place k stands below it
-pub heard_all : (j : List Event) (q k n : ℕ) (o : Option ℕ) → k ≤ n → IsHeardBelow j q k n o → IsHeard j q k o
-heard_all j q k n None le none = λ m a does h. (let lt = before_goes_forward j h in none m a (omega arith) does h)
-heard_all j q k n (Some i) le old = record {
+pub last_heard_all : (j : List Event) (q k n : ℕ) (o : Option ℕ) → k ≤ n → LastHeardBelow j q k n o → IsHeard j q k o
+last_heard_all j q k n None le none = λ m a does h. (let lt = happens_before_goes_forward j h in none m a (omega arith) does h)
+last_heard_all j q k n (Some i) le old = record {
   kind = old.kind;
   does = old.does;
   before = old.before;
-  last = λ m a does h. (let lt = before_goes_forward j h in old.last m a (omega arith) does h);
+  last = λ m a does h. (let lt = happens_before_goes_forward j h in old.last m a (omega arith) does h);
 }
 
 -- the events of a race: they are of two processors, and the second one takes nothing
-pub record AreHeardApart (j : List Event) (i k : ℕ) (e : Event) : Type 0 where
+pub record AreLastHeardApart (j : List Event) (i k : ℕ) (e : Event) : Type 0 where
   pub within : i < length j
   pub second : Event
-  pub at : At j k second
-  pub quiet : is_taking second.kind ≡ false
+  pub at : EventAt j k second
+  pub quiet : event_takes second.kind ≡ false
   pub apart : e.processor ≢ second.processor
 
-heard_access_quiet : (k : Kind) (a : ℕ) → address_of k ≡ Some a → is_taking k ≡ false
-heard_access_quiet (Load a v) b is = refl
-heard_access_quiet (Store a v) b is = refl
-heard_access_quiet _ b is = absurd cc
+last_heard_access_quiet : (k : Kind) (a : ℕ) → event_address k ≡ Some a → event_takes k ≡ false
+last_heard_access_quiet (Load a v) b is = refl
+last_heard_access_quiet (Store a v) b is = refl
+last_heard_access_quiet _ b is = absurd cc
 
-pub heard_are_apart : (j : List Event) (i k : ℕ) (e : Event) → Race j i k → (i < length j → At j i e) → AreHeardApart j i k e
-heard_are_apart j i k e race at = record {
+pub last_heard_are_apart : (j : List Event) (i k : ℕ) (e : Event) → Race j i k → (i < length j → EventAt j i e) → AreLastHeardApart j i k e
+last_heard_are_apart j i k e race at = record {
   within = within;
   second = race.second;
   at = race.second_at;
-  quiet = heard_access_quiet race.second.kind race.conflict.address race.conflict.second;
+  quiet = last_heard_access_quiet race.second.kind race.conflict.address race.conflict.second;
   apart =
-      subst (λ (x : Event). x.processor ≢ race.second.processor) (numbered_at_same j i race.first e race.first_at (at within))
+      subst (λ (x : Event). x.processor ≢ race.second.processor) (event_place_same j i race.first e race.first_at (at within))
       race.apart;
 }
   where
     within : i < length j
-    within = numbered_at_within j i race.first race.first_at
+    within = event_place_inside j i race.first race.first_at

@@ -5,13 +5,13 @@ pub mod EdgeLeadsOn
 pub mod LookedUpIndex
 pub mod FreshNews
 pub mod StandingWaits
-pub mod HandOvers
+pub mod LastHandOvers
 pub mod TakingRows
 pub mod ReachedPaths
-pub mod OwingDues
+pub mod DueSpans
 pub mod NoticeRows
 pub mod StaleCopies
-pub mod StoreRows
+pub mod StoreRowSteps
 pub mod BroughtStores
 pub mod OriginSteps
 pub mod RecordRows

@@ -8,39 +8,39 @@ use Rattle.std.proofs.lemmas.Option.{slice_get_read}
 use Rattle.base.proofs.SlicesAndCounts.{slice_push_cases}
 use Rattle.base.proofs.SliceSets.{slice_get-set_found, slice_get-set_other, slice_get-replicate_found}
 use Rattle.journal.specs.declared.event.Event.{Event}
-use Rattle.journal.specs.Events.{At, count_of, is_arrive, is_closing, is_depart}
+use Rattle.journal.specs.Events.{EventAt, event_count, event_arrives, event_closes, event_departs}
 use Rattle.journal.specs.declared.event.Kind.{Kind}
-use Rattle.journal.proofs.Order.CountedAndNumbered.{numbered_at_same, count_of-past, numbered_does_at}
-use Rattle.journal.proofs.Passes.ReachedNextRaces.{count_next}
+use Rattle.journal.proofs.Order.EventPlacesAndCounts.{event_place_same, event_count-past, event_place_does}
+use Rattle.journal.proofs.Passes.NextRaces.{next_race_count}
 use Rattle.causes.specs.declared.index.Turn.{Turn}
 use Rattle.causes.specs.Index.{AreIndexedClosings, AreIndexedClosingsOf, IsIndexedClosing, IsIndexedTurn}
 
 -- q closes its first intervals, below place n, at these places, in order
-pub record AreIndexedClosingsBelow (j : List Event) (q n : ℕ) (places : List ℕ) : Type 0 where
-  pub long : length places ≡ count_of is_closing (take n j) q
+pub record AreLookedUpClosingsBelow (j : List Event) (q n : ℕ) (places : List ℕ) : Type 0 where
+  pub long : length places ≡ event_count event_closes (take n j) q
   pub each : (m i : ℕ) → slice_get places m ≡ Some i → IsIndexedClosing j q m i
 
 -- a place more that closes one
-pub index_closings_next : (j : List Event) (q n : ℕ) (e : Event) (places : List ℕ) → At j n e
-    → ((e.processor == q) && is_closing e.kind) ≡ true → AreIndexedClosingsBelow j q n places
-    → AreIndexedClosingsBelow j q (n + 1) (places ++ n ∷ [])
-index_closings_next j q n e places at closes old = record { long = long; each = each }
+pub looked_up_closings_next : (j : List Event) (q n : ℕ) (e : Event) (places : List ℕ) → EventAt j n e
+    → ((e.processor == q) && event_closes e.kind) ≡ true → AreLookedUpClosingsBelow j q n places
+    → AreLookedUpClosingsBelow j q (n + 1) (places ++ n ∷ [])
+looked_up_closings_next j q n e places at closes old = record { long = long; each = each }
   where
-    long : length (places ++ n ∷ []) ≡ count_of is_closing (take (n + 1) j) q
+    long : length (places ++ n ∷ []) ≡ event_count event_closes (take (n + 1) j) q
     long =
-        let next = count_next is_closing j n q e at in
-        let one : cond {A = ℕ} ((e.processor == q) && is_closing e.kind) 1 0 ≡ 1 = rw closes refl in
+        let next = next_race_count event_closes j n q e at in
+        let one : cond {A = ℕ} ((e.processor == q) && event_closes e.kind) 1 0 ≡ 1 = rw closes refl in
         let was = old.long in
         let more = length-append places (n ∷ []) in
         omega arith
 
     here : IsIndexedClosing j q (length places) n
     here =
-        let both = and_parts (e.processor == q) (is_closing e.kind) closes in
+        let both = and_parts (e.processor == q) (event_closes e.kind) closes in
         record {
           closes = record {
             kind = e.kind;
-            does = numbered_does_at j n q e at (eqb-true e.processor q both.0);
+            does = event_place_does j n q e at (eqb-true e.processor q both.0);
             closes = both.1;
           };
           number = sym old.long;
@@ -53,36 +53,36 @@ index_closings_next j q n e places at closes old = record { long = long; each = 
     ]
 
 -- and one that doesn't
-pub index_closings_others : (j : List Event) (q n : ℕ) (e : Event) (places : List ℕ) → At j n e
-    → ((e.processor == q) && is_closing e.kind) ≡ false → AreIndexedClosingsBelow j q n places
-    → AreIndexedClosingsBelow j q (n + 1) places
-index_closings_others j q n e places at closes old = record {
+pub looked_up_closings_others : (j : List Event) (q n : ℕ) (e : Event) (places : List ℕ) → EventAt j n e
+    → ((e.processor == q) && event_closes e.kind) ≡ false → AreLookedUpClosingsBelow j q n places
+    → AreLookedUpClosingsBelow j q (n + 1) places
+looked_up_closings_others j q n e places at closes old = record {
   long =
-      (let next = count_next is_closing j n q e at in
-      let none : cond {A = ℕ} ((e.processor == q) && is_closing e.kind) 1 0 ≡ 0 = rw closes refl in
+      (let next = next_race_count event_closes j n q e at in
+      let none : cond {A = ℕ} ((e.processor == q) && event_closes e.kind) 1 0 ≡ 0 = rw closes refl in
       let was = old.long in
       omega arith);
   each = old.each;
 }
 
 -- those below the end are all
-pub index_closings_all : (j : List Event) (q n : ℕ) (places : List ℕ) → n ≡ length j → AreIndexedClosingsBelow j q n places
+pub looked_up_closings_all : (j : List Event) (q n : ℕ) (places : List ℕ) → n ≡ length j → AreLookedUpClosingsBelow j q n places
     → AreIndexedClosingsOf j q places
-index_closings_all j q n places is old = record {
-  long = old.long ∙ ap (λ xs. count_of is_closing xs q) (take_all n j (omega arith));
+looked_up_closings_all j q n places is old = record {
+  long = old.long ∙ ap (λ xs. event_count event_closes xs q) (take_all n j (omega arith));
   each = old.each;
 }
 
 -- a place that was read from the rows: from row q, at number n
-pub record IsReadClosing (rows : List (Vec ℕ)) (q n p : ℕ) : Type 0 where
+pub record IsLookedUpClosing (rows : List (Vec ℕ)) (q n p : ℕ) : Type 0 where
   pub row : Vec ℕ
   pub row_is : row ≡ slice_index_or rows q row
   pub place_is : p ≡ slice_index_or row.items n p
 
 -- q's interval of this number is closed there, if it closes so many
-pub index_closing_read : {j : List Event} {rows : List (Vec ℕ)} {q n p : ℕ} → AreIndexedClosings j rows → q < 16
-    → n < count_of is_closing j q → IsReadClosing rows q n p → IsIndexedClosing j q n p
-index_closing_read {j} {rows} {q} {n} {p} are low lt read =
+pub looked_up_closing_read : {j : List Event} {rows : List (Vec ℕ)} {q n p : ℕ} → AreIndexedClosings j rows → q < 16
+    → n < event_count event_closes j q → IsLookedUpClosing rows q n p → IsIndexedClosing j q n p
+looked_up_closing_read {j} {rows} {q} {n} {p} are low lt read =
     let long = are.long in
     let mine =
     are.each q read.row (slice_get_read rows (length rows) q read.row refl (omega arith) read.row_is) in
@@ -90,16 +90,16 @@ index_closing_read {j} {rows} {q} {n} {p} are low lt read =
     mine.each n p (slice_get_read read.row.items (length read.row.items) n p refl (omega arith) read.place_is)
 
 -- no two places close one interval
-pub index_closing_same : (j : List Event) (q n i m : ℕ) → IsIndexedClosing j q n i → IsIndexedClosing j q n m → i ≡ m
-index_closing_same j q n i m x y = elim (cases_lt i m) [
+pub looked_up_closing_same : (j : List Event) (q n i m : ℕ) → IsIndexedClosing j q n i → IsIndexedClosing j q n m → i ≡ m
+looked_up_closing_same j q n i m x y = elim (cases_lt i m) [
   | inl lt ↦
-      (let past = count_of-past is_closing j i m q x.closes.kind x.closes.does x.closes.closes lt in
+      (let past = event_count-past event_closes j i m q x.closes.kind x.closes.does x.closes.closes lt in
       let one = x.number in
       let two = y.number in
       absurd (omega arith))
   | inr ge ↦ elim (cases_lt m i) [
     | inl lt ↦
-        (let past = count_of-past is_closing j m i q y.closes.kind y.closes.does y.closes.closes lt in
+        (let past = event_count-past event_closes j m i q y.closes.kind y.closes.does y.closes.closes lt in
         let one = x.number in
         let two = y.number in
         absurd (omega arith))
@@ -108,12 +108,12 @@ index_closing_same j q n i m x y = elim (cases_lt i m) [
 ]
 
 -- the turns of the next events
-abbrev pub AreIndexNextTurns : List Event → ℕ → List Turn → Type 0
-AreIndexNextTurns j n next = (q : ℕ) (t : Turn) → slice_get next q ≡ Some t → IsIndexedTurn j n q t
+abbrev pub AreLookedUpNextTurns : List Event → ℕ → List Turn → Type 0
+AreLookedUpNextTurns j n next = (q : ℕ) (t : Turn) → slice_get next q ≡ Some t → IsIndexedTurn j n q t
 
-pub index_next_turns_start : (j : List Event) (zero : Turn) → zero.arrived ≡ 0 → zero.departed ≡ 0
-    → AreIndexNextTurns j 0 (replicate 16 zero)
-index_next_turns_start j zero arrived departed q t at =
+pub looked_up_turns_start : (j : List Event) (zero : Turn) → zero.arrived ≡ 0 → zero.departed ≡ 0
+    → AreLookedUpNextTurns j 0 (replicate 16 zero)
+looked_up_turns_start j zero arrived departed q t at =
     let is = slice_get-replicate_found 16 zero t q at in
     record {
       arrived = sym (ap (λ (x : Turn). x.arrived) is) ∙ arrived;
@@ -121,61 +121,61 @@ index_next_turns_start j zero arrived departed q t at =
     }
 
 -- the event e stands at place n, before which its processor has had this turn
-pub record HasTurn (j : List Event) (n : ℕ) (e : Event) (t : Turn) : Type 0 where
-  pub at : At j n e
+pub record HasLookedUpTurn (j : List Event) (n : ℕ) (e : Event) (t : Turn) : Type 0 where
+  pub at : EventAt j n e
   pub turn : IsIndexedTurn j n e.processor t
 
 -- one place on
-pub index_next_turns_next : {j : List Event} {n : ℕ} {e : Event} {old : Turn} (next : List Turn) (new : Turn)
-    → HasTurn j n e old → new.arrived ≡ old.arrived + cond (is_arrive e.kind) 1 0
-    → new.departed ≡ old.departed + cond (is_depart e.kind) 1 0 → AreIndexNextTurns j n next
-    → AreIndexNextTurns j (n + 1) (slice_set next e.processor new)
-index_next_turns_next {j} {n} {e} {old} next new has arrived departed are q t to = elim (cases_eq q e.processor) [
+pub looked_up_turns_next : {j : List Event} {n : ℕ} {e : Event} {old : Turn} (next : List Turn) (new : Turn)
+    → HasLookedUpTurn j n e old → new.arrived ≡ old.arrived + cond (event_arrives e.kind) 1 0
+    → new.departed ≡ old.departed + cond (event_departs e.kind) 1 0 → AreLookedUpNextTurns j n next
+    → AreLookedUpNextTurns j (n + 1) (slice_set next e.processor new)
+looked_up_turns_next {j} {n} {e} {old} next new has arrived departed are q t to = elim (cases_eq q e.processor) [
   | inl mine ↦
       (let is : new ≡ t =
       slice_get-set_found next e.processor new t (subst (λ m. slice_get (slice_set next e.processor new) m ≡ Some t) mine to) in
       subst (IsIndexedTurn j (n + 1) q) is
       (record {
-        arrived = counted is_arrive q mine old.arrived new.arrived has.turn.arrived arrived;
-        departed = counted is_depart q mine old.departed new.departed has.turn.departed departed;
+        arrived = counted event_arrives q mine old.arrived new.arrived has.turn.arrived arrived;
+        departed = counted event_departs q mine old.departed new.departed has.turn.departed departed;
       }))
   | inr other ↦
       (let x = are q t (sym (slice_get-set_other next e.processor q new other) ∙ to) in
       record {
-        arrived = same is_arrive q other t.arrived x.arrived;
-        departed = same is_depart q other t.departed x.departed;
+        arrived = same event_arrives q other t.arrived x.arrived;
+        departed = same event_departs q other t.departed x.departed;
       })
 ]
   where
-    counted : (is : Kind → Bool) (q : ℕ) → q ≡ e.processor → (a b : ℕ) → a ≡ count_of is (take n j) e.processor
-        → b ≡ a + cond (is e.kind) 1 0 → b ≡ count_of is (take (n + 1) j) q
+    counted : (is : Kind → Bool) (q : ℕ) → q ≡ e.processor → (a b : ℕ) → a ≡ event_count is (take n j) e.processor
+        → b ≡ a + cond (is e.kind) 1 0 → b ≡ event_count is (take (n + 1) j) q
     counted is q mine a b one two =
-        let next = count_next is j n q e has.at in
-        let here = ap (count_of is (take n j)) mine in
+        let next = next_race_count is j n q e has.at in
+        let here = ap (event_count is (take n j)) mine in
         let which : cond {A = ℕ} ((e.processor == q) && is e.kind) 1 0 ≡ cond (is e.kind) 1 0 =
         rw (eq-eqb e.processor q (sym mine)) in
         omega arith
 
-    same : (is : Kind → Bool) (q : ℕ) → q ≢ e.processor → (a : ℕ) → a ≡ count_of is (take n j) q
-        → a ≡ count_of is (take (n + 1) j) q
+    same : (is : Kind → Bool) (q : ℕ) → q ≢ e.processor → (a : ℕ) → a ≡ event_count is (take n j) q
+        → a ≡ event_count is (take (n + 1) j) q
     same is q other a one =
-        let next = count_next is j n q e has.at in
+        let next = next_race_count is j n q e has.at in
         let none : cond {A = ℕ} ((e.processor == q) && is e.kind) 1 0 ≡ 0 =
         rw (ne_eqb e.processor q (λ x. other (sym x))) in
         omega arith
 
 -- the turn of the event at place n
-pub index_turn_here : {j : List Event} {n : ℕ} {e : Event} {t : Turn} → HasTurn j n e t → (f : Event) → At j n f
+pub looked_up_turn_here : {j : List Event} {n : ℕ} {e : Event} {t : Turn} → HasLookedUpTurn j n e t → (f : Event) → EventAt j n f
     → IsIndexedTurn j n f.processor t
-index_turn_here {j} {n} {e} {t} has f at =
-    subst (λ (x : Event). IsIndexedTurn j n x.processor t) (numbered_at_same j n e f has.at at) has.turn
+looked_up_turn_here {j} {n} {e} {t} has f at =
+    subst (λ (x : Event). IsIndexedTurn j n x.processor t) (event_place_same j n e f has.at at) has.turn
 
 -- a count of a journal's front is small, where the journal is
-pub index_turn_small : (j : List Event) (n q : ℕ) (t : Turn) → n ≤ length j → length j ≤ 2097168 → IsIndexedTurn j n q t
+pub looked_up_turn_small : (j : List Event) (n q : ℕ) (t : Turn) → n ≤ length j → length j ≤ 2097168 → IsIndexedTurn j n q t
     → (t.arrived < 4194304) × (t.departed < 4194304)
-index_turn_small j n q t le few is =
-    (let arrivals = count_by-le-length (λ (e : Event). (e.processor == q) && is_arrive e.kind) (take n j) in
-    let departures = count_by-le-length (λ (e : Event). (e.processor == q) && is_depart e.kind) (take n j) in
+looked_up_turn_small j n q t le few is =
+    (let arrivals = count_by-le-length (λ (e : Event). (e.processor == q) && event_arrives e.kind) (take n j) in
+    let departures = count_by-le-length (λ (e : Event). (e.processor == q) && event_departs e.kind) (take n j) in
     let long = length-take-le n j le in
     let one = is.arrived in
     let two = is.departed in

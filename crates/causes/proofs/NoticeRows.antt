@@ -7,57 +7,57 @@ use Rattle.base.specs.InOrderOnce.{Has, InOrder}
 use Rattle.base.proofs.SlicesAndCounts.{slice_push_cases, slice_get-append_left, slice_get-last}
 use Rattle.journal.specs.declared.event.Event.{Event}
 use Rattle.journal.specs.declared.event.Kind.TheVariants.{Fetch}
-use Rattle.journal.specs.InRange.{ProcessorsInRange}
-use Rattle.journal.specs.PageImages.{HasImageCount}
+use Rattle.journal.specs.EventsInRange.{EventProcessorsInRange}
+use Rattle.journal.specs.PageImages.{HasPageImageCount}
 use Rattle.journal.specs.Sizes.{Sizes}
-use Rattle.judge.specs.Gaps.{GapFetchedUpTo, GapStoresInPage}
-use Rattle.judge.specs.GapTally.{gap_tally_row_index}
-use Rattle.judge.proofs.Counts.{count_some, count_zero}
+use Rattle.judge.specs.FetchGaps.{FetchGapBroughtUpTo, FetchGapStoreInPage}
+use Rattle.judge.specs.GapTally.{gap_tally_place_of}
+use Rattle.judge.proofs.ValueCounts.{value_count_some, value_count_zero}
 use Rattle.causes.specs.declared.span.Span.{Span}
 use Rattle.causes.specs.declared.notices.WriteNotice.{WriteNotice}
 use Rattle.causes.specs.Dues.{DueLacks, IsDueToldBy}
-use Rattle.causes.specs.Notices.{AreWriteNotices, HasNoticeOf, IsNoticeBelow, IsNoticeInSpan, NoticesBelow, NoticesByPage}
-use Rattle.causes.proofs.OwingDues.{DueBetween, IsFetchSpan, IsTakingSpan, due_lacks_is, due_lacks_low, due_lacks_own, due_not_fetch, due_taken_is, due_told_is}
+use Rattle.causes.specs.Notices.{AreNoticesAt, HasNoticeOf, IsNoticeBelow, IsNoticeInSpan, NoticesBelow, NoticesByPage}
+use Rattle.causes.proofs.DueSpans.{DueSpanBetween, IsDueSpanOfFetch, IsDueSpanOfTaking, due_span_lacks_is, due_span_lacks_low, due_span_lacks_not_own, due_span_not_fetch, due_span_taken_is, due_span_told_is}
 
 -- where intervals of a range are counted there is one, and no other way
-pub notice_counted : (s : Sizes) (j : List Event) (n q from to r : ℕ)
-    → HasImageCount (λ m. GapStoresInPage s j n q m × (from ≤ m) × (m < to)) r
-    → (0 < r) ↔ ((m : ℕ) × GapStoresInPage s j n q m × (from ≤ m) × (m < to))
-notice_counted s j n q from to r count = (there, back)
+pub notice_row_counted : (s : Sizes) (j : List Event) (n q from to r : ℕ)
+    → HasPageImageCount (λ m. FetchGapStoreInPage s j n q m × (from ≤ m) × (m < to)) r
+    → (0 < r) ↔ ((m : ℕ) × FetchGapStoreInPage s j n q m × (from ≤ m) × (m < to))
+notice_row_counted s j n q from to r count = (there, back)
   where
     In : ℕ → Type 0
-    In m = GapStoresInPage s j n q m × (from ≤ m) × (m < to)
+    In m = FetchGapStoreInPage s j n q m × (from ≤ m) × (m < to)
 
-    there : 0 < r → (m : ℕ) × GapStoresInPage s j n q m × (from ≤ m) × (m < to)
-    there some = let one = count_some In r count some in (one.0, one.1.0, one.1.1, one.1.2)
+    there : 0 < r → (m : ℕ) × FetchGapStoreInPage s j n q m × (from ≤ m) × (m < to)
+    there some = let one = value_count_some In r count some in (one.0, one.1.0, one.1.1, one.1.2)
 
-    back : (m : ℕ) × GapStoresInPage s j n q m × (from ≤ m) × (m < to) → 0 < r
+    back : (m : ℕ) × FetchGapStoreInPage s j n q m × (from ≤ m) × (m < to) → 0 < r
     back x = elim (cases_lt 0 r) [
       | inl some ↦ some
       | inr none ↦
           (let zero : r ≡ 0 = omega arith in
-          absurd (count_zero In x.0 (subst (λ c. HasImageCount In c) zero count) (x.1, x.2, x.3)))
+          absurd (value_count_zero In x.0 (subst (λ c. HasPageImageCount In c) zero count) (x.1, x.2, x.3)))
     ]
 
 -- of one interval there is one where it is that one
-pub notice_of_one : (s : Sizes) (j : List Event) (n q m r : ℕ)
-    → HasImageCount (λ k. GapStoresInPage s j n q k × (m ≤ k) × (k < m + 1)) r
-    → (0 < r) ↔ GapStoresInPage s j n q m
-notice_of_one s j n q m r count =
-    let both = notice_counted s j n q m (m + 1) r count in (
+pub notice_row_of_one : (s : Sizes) (j : List Event) (n q m r : ℕ)
+    → HasPageImageCount (λ k. FetchGapStoreInPage s j n q k × (m ≤ k) × (k < m + 1)) r
+    → (0 < r) ↔ FetchGapStoreInPage s j n q m
+notice_row_of_one s j n q m r count =
+    let both = notice_row_counted s j n q m (m + 1) r count in (
       λ some.
           (let x = both.0 some in
           let low = x.2 in
           let high = x.3 in
           let is : x.0 ≡ m = omega arith in
-          subst (GapStoresInPage s j n q) is x.1),
+          subst (FetchGapStoreInPage s j n q) is x.1),
       λ stores. both.1 (m, stores, omega arith, omega arith),
     )
 
 -- before the first row there is nothing
-pub notices_none : (s : Sizes) (j : List Event) (span : Span) (row : ℕ) (notices : List WriteNotice)
+pub notice_rows_start : (s : Sizes) (j : List Event) (span : Span) (row : ℕ) (notices : List WriteNotice)
     → row ≡ span.first * 16 → notices ≡ [] → NoticesBelow s j span row 0 notices
-notices_none s j span row notices is none = subst (NoticesBelow s j span row 0) (sym none) (record {
+notice_rows_start s j span row notices is none = subst (NoticesBelow s j span row 0) (sym none) (record {
   has = λ x. (
     λ h. absurd (none-some x h.1),
     λ y. absurd (let page = y.0.from in elim y.1 [ inl lt ↦ omega arith | inr here ↦ (let lt = here.1 in omega arith) ]),
@@ -66,11 +66,11 @@ notices_none s j span row notices is none = subst (NoticesBelow s j span row 0) 
 })
 
 -- what stands before two places is the same where no notice of the span lies between
-notices_moved : {s : Sizes} {j : List Event} {span : Span} {row m : ℕ} {notices : List WriteNotice} (next k : ℕ)
+notice_rows_moved : {s : Sizes} {j : List Event} {span : Span} {row m : ℕ} {notices : List WriteNotice} (next k : ℕ)
     → NoticesBelow s j span row m notices
     → ((x : WriteNotice) → IsNoticeInSpan s j span x → IsNoticeBelow row m x ↔ IsNoticeBelow next k x)
     → NoticesBelow s j span next k notices
-notices_moved {s} {j} {span} {row} {m} {notices} next k are same = record {
+notice_rows_moved {s} {j} {span} {row} {m} {notices} next k are same = record {
   has = λ x. (
     λ h. (let y = (are.has x).0 h in (y.0, (same x y.0).0 y.1)),
     λ y. (are.has x).1 (y.0, (same x y.0).1 y.1),
@@ -79,11 +79,11 @@ notices_moved {s} {j} {span} {row} {m} {notices} next k are same = record {
 }
 
 -- of a row the span has nothing before its first interval
-pub notices_from : {s : Sizes} {j : List Event} {span : Span} {notices : List WriteNotice} (n q : ℕ) → q < 16
-    → NoticesBelow s j span (gap_tally_row_index n q) 0 notices
-    → NoticesBelow s j span (gap_tally_row_index n q) (slice_index span.from q) notices
-notices_from {s} {j} {span} {notices} n q low are =
-    notices_moved (gap_tally_row_index n q) (slice_index span.from q) are (λ x y. (
+pub notice_row_from : {s : Sizes} {j : List Event} {span : Span} {notices : List WriteNotice} (n q : ℕ) → q < 16
+    → NoticesBelow s j span (gap_tally_place_of n q) 0 notices
+    → NoticesBelow s j span (gap_tally_place_of n q) (slice_index span.from q) notices
+notice_row_from {s} {j} {span} {notices} n q low are =
+    notice_rows_moved (gap_tally_place_of n q) (slice_index span.from q) are (λ x y. (
       λ h. elim h [ inl lt ↦ inl lt | inr none ↦ absurd (let lt = none.1 in omega arith) ],
       λ h. elim h [
         | inl lt ↦ inl lt
@@ -100,13 +100,13 @@ notices_from {s} {j} {span} {notices} n q low are =
 
 -- and nothing behind its last one
 pub notices_row_done : {s : Sizes} {j : List Event} {span : Span} {m : ℕ} {notices : List WriteNotice} (n q : ℕ) → q < 16
-    → slice_index span.to q ≤ m → NoticesBelow s j span (gap_tally_row_index n q) m notices
-    → NoticesBelow s j span (gap_tally_row_index n q + 1) 0 notices
+    → slice_index span.to q ≤ m → NoticesBelow s j span (gap_tally_place_of n q) m notices
+    → NoticesBelow s j span (gap_tally_place_of n q + 1) 0 notices
 notices_row_done {s} {j} {span} {m} {notices} n q low end are =
-    notices_moved (gap_tally_row_index n q + 1) 0 are (λ x y. (
+    notice_rows_moved (gap_tally_place_of n q + 1) 0 are (λ x y. (
       λ h. elim h [ inl lt ↦ inl (omega arith) | inr here ↦ (let row = here.0 in inl (omega arith)) ],
       λ h. elim h [
-        | inl lt ↦ elim (cases_lt (gap_tally_row_index x.page x.writer) (gap_tally_row_index n q)) [
+        | inl lt ↦ elim (cases_lt (gap_tally_place_of x.page x.writer) (gap_tally_place_of n q)) [
           | inl less ↦ inl less
           | inr more ↦
               (let under = y.low in
@@ -120,38 +120,38 @@ notices_row_done {s} {j} {span} {m} {notices} n q low end are =
     ))
 
 -- a notice of this page and writer
-notice_has : {s : Sizes} {j : List Event} {span : Span} {x : WriteNotice} (n q : ℕ) → x.page ≡ n → x.writer ≡ q
+notice_row_has : {s : Sizes} {j : List Event} {span : Span} {x : WriteNotice} (n q : ℕ) → x.page ≡ n → x.writer ≡ q
     → IsNoticeInSpan s j span x → HasNoticeOf s j span n q
-notice_has {s} {j} {span} {x} n q page writer y =
+notice_row_has {s} {j} {span} {x} n q page writer y =
     subst (λ l. HasNoticeOf s j span l q) page
     (subst (λ w. HasNoticeOf s j span x.page w) writer (y.apart, (x.interval, y.stored, y.least, y.below)))
 
 -- nor anything where it has none of the page and the writer
 pub notices_row_none : {s : Sizes} {j : List Event} {span : Span} {notices : List WriteNotice} (n q : ℕ) → q < 16
-    → ¬ HasNoticeOf s j span n q → NoticesBelow s j span (gap_tally_row_index n q) 0 notices
-    → NoticesBelow s j span (gap_tally_row_index n q + 1) 0 notices
+    → ¬ HasNoticeOf s j span n q → NoticesBelow s j span (gap_tally_place_of n q) 0 notices
+    → NoticesBelow s j span (gap_tally_place_of n q + 1) 0 notices
 notices_row_none {s} {j} {span} {notices} n q low none are =
-    notices_moved (gap_tally_row_index n q + 1) 0 are (λ x y. (
+    notice_rows_moved (gap_tally_place_of n q + 1) 0 are (λ x y. (
       λ h. elim h [ inl lt ↦ inl (omega arith) | inr here ↦ absurd (let less = here.1 in omega arith) ],
       λ h. elim h [
-        | inl lt ↦ elim (cases_lt (gap_tally_row_index x.page x.writer) (gap_tally_row_index n q)) [
+        | inl lt ↦ elim (cases_lt (gap_tally_place_of x.page x.writer) (gap_tally_place_of n q)) [
           | inl less ↦ inl less
           | inr more ↦
               (let under = y.low in
               let page : x.page ≡ n = omega arith in
               let writer : x.writer ≡ q = omega arith in
-              absurd (none (notice_has n q page writer y)))
+              absurd (none (notice_row_has n q page writer y)))
         ]
         | inr here ↦ absurd (let less = here.1 in omega arith)
       ],
     ))
 
 -- an interval in which the writer doesn't store in the page
-pub notices_quiet : {s : Sizes} {j : List Event} {span : Span} {m : ℕ} {notices : List WriteNotice} (n q : ℕ) → q < 16
-    → ¬ GapStoresInPage s j n q m → NoticesBelow s j span (gap_tally_row_index n q) m notices
-    → NoticesBelow s j span (gap_tally_row_index n q) (m + 1) notices
-notices_quiet {s} {j} {span} {m} {notices} n q low none are =
-    notices_moved (gap_tally_row_index n q) (m + 1) are (λ x y. (
+pub notice_row_quiet : {s : Sizes} {j : List Event} {span : Span} {m : ℕ} {notices : List WriteNotice} (n q : ℕ) → q < 16
+    → ¬ FetchGapStoreInPage s j n q m → NoticesBelow s j span (gap_tally_place_of n q) m notices
+    → NoticesBelow s j span (gap_tally_place_of n q) (m + 1) notices
+notice_row_quiet {s} {j} {span} {m} {notices} n q low none are =
+    notice_rows_moved (gap_tally_place_of n q) (m + 1) are (λ x y. (
       λ h. elim h [ inl lt ↦ inl lt | inr here ↦ (let row = here.0 in let less = here.1 in inr (omega arith, omega arith)) ],
       λ h. elim h [
         | inl lt ↦ inl lt
@@ -161,31 +161,31 @@ notices_quiet {s} {j} {span} {m} {notices} n q low none are =
               let row = here.0 in
               let page : x.page ≡ n = omega arith in
               let writer : x.writer ≡ q = omega arith in
-              absurd (none (subst (λ l. GapStoresInPage s j l q m) page
-              (subst (λ w. GapStoresInPage s j x.page w m) writer
-              (subst (λ i. GapStoresInPage s j x.page x.writer i) is y.stored)))))
+              absurd (none (subst (λ l. FetchGapStoreInPage s j l q m) page
+              (subst (λ w. FetchGapStoreInPage s j x.page w m) writer
+              (subst (λ i. FetchGapStoreInPage s j x.page x.writer i) is y.stored)))))
           | inr isnt ↦ (let row = here.0 in let less = here.1 in inr (omega arith, omega arith))
         ]
       ],
     ))
 
-abbrev notice_with : ℕ → ℕ → ℕ → WriteNotice
-notice_with n q m = record { page = n; writer = q; interval = m }
+abbrev notice_row_with : ℕ → ℕ → ℕ → WriteNotice
+notice_row_with n q m = record { page = n; writer = q; interval = m }
 
 -- notices with the same parts are one
-notice_same : (x y : WriteNotice) → x.page ≡ y.page → x.writer ≡ y.writer → x.interval ≡ y.interval → x ≡ y
-notice_same x y page writer interval =
-    ap (λ (n : ℕ). notice_with n x.writer x.interval) page ∙ ap (λ (q : ℕ). notice_with y.page q x.interval) writer
-    ∙ ap (λ (m : ℕ). notice_with y.page y.writer m) interval
+notice_row_same : (x y : WriteNotice) → x.page ≡ y.page → x.writer ≡ y.writer → x.interval ≡ y.interval → x ≡ y
+notice_row_same x y page writer interval =
+    ap (λ (n : ℕ). notice_row_with n x.writer x.interval) page ∙ ap (λ (q : ℕ). notice_row_with y.page q x.interval) writer
+    ∙ ap (λ (m : ℕ). notice_row_with y.page y.writer m) interval
 
 -- one in which it does
-pub notices_next : {s : Sizes} {j : List Event} {span : Span} {notices : List WriteNotice} (x : WriteNotice)
-    → IsNoticeInSpan s j span x → NoticesBelow s j span (gap_tally_row_index x.page x.writer) x.interval notices
-    → NoticesBelow s j span (gap_tally_row_index x.page x.writer) (x.interval + 1) (notices ++ x ∷ [])
-notices_next {s} {j} {span} {notices} x in_span are = record { has = λ y. (there y, back y); order = order }
+pub notice_row_next : {s : Sizes} {j : List Event} {span : Span} {notices : List WriteNotice} (x : WriteNotice)
+    → IsNoticeInSpan s j span x → NoticesBelow s j span (gap_tally_place_of x.page x.writer) x.interval notices
+    → NoticesBelow s j span (gap_tally_place_of x.page x.writer) (x.interval + 1) (notices ++ x ∷ [])
+notice_row_next {s} {j} {span} {notices} x in_span are = record { has = λ y. (there y, back y); order = order }
   where
     row : ℕ
-    row = gap_tally_row_index x.page x.writer
+    row = gap_tally_place_of x.page x.writer
 
     m : ℕ
     m = x.interval
@@ -209,15 +209,15 @@ notices_next {s} {j} {span} {notices} x in_span are = record { has = λ y. (ther
         | inl is ↦
             (let under = z.0.low in
             let low = in_span.low in
-            let same : gap_tally_row_index y.page y.writer ≡ gap_tally_row_index x.page x.writer = here.0 in
+            let same : gap_tally_place_of y.page y.writer ≡ gap_tally_place_of x.page x.writer = here.0 in
             let pages : x.page ≡ y.page = omega arith in
             let writers : x.writer ≡ y.writer = omega arith in
-            (length notices, slice_get-last notices x ∙ ap (λ w. Some w) (notice_same x y pages writers (sym is))))
+            (length notices, slice_get-last notices x ∙ ap (λ w. Some w) (notice_row_same x y pages writers (sym is))))
         | inr isnt ↦ (let less = here.1 in old y ((are.has y).1 (z.0, inr (here.0, omega arith))))
       ]
     ]
 
-    order : InOrder (λ (y z : WriteNotice). IsNoticeBelow (gap_tally_row_index z.page z.writer) z.interval y) (notices ++ x ∷ [])
+    order : InOrder (λ (y z : WriteNotice). IsNoticeBelow (gap_tally_place_of z.page z.writer) z.interval y) (notices ++ x ∷ [])
     order k l y z less at to = elim (slice_push_cases notices x l z to) [
       | inl was ↦
           (let inside = was.0 in
@@ -225,14 +225,14 @@ notices_next {s} {j} {span} {notices} x in_span are = record { has = λ y. (ther
       | inr now ↦
           (let last = now.0 in
           let under = ((are.has y).0 (k, sym (slice_get-append_left notices (x ∷ []) k (omega arith)) ∙ at)).1 in
-          subst (λ w. IsNoticeBelow (gap_tally_row_index w.page w.writer) w.interval y) now.1 under)
+          subst (λ w. IsNoticeBelow (gap_tally_place_of w.page w.writer) w.interval y) now.1 under)
     ]
 
 -- what there is below the span's end is all of it
-pub all_notices_below : (s : Sizes) (j h : List Event) (k : ℕ) (e : Event) (span : Span) (notices : List WriteNotice)
+pub notice_rows_all_below : (s : Sizes) (j h : List Event) (k : ℕ) (e : Event) (span : Span) (notices : List WriteNotice)
     → ((x : WriteNotice) → IsNoticeInSpan s h span x ↔ IsDueToldBy s j k e.processor e.kind x.page x.writer x.interval)
-    → NoticesBelow s h span (span.end * 16) 0 notices → AreWriteNotices s j k e notices
-all_notices_below s j h k e span notices is are = record { has = λ x. (there x, back x); order = order }
+    → NoticesBelow s h span (span.end * 16) 0 notices → AreNoticesAt s j k e notices
+notice_rows_all_below s j h k e span notices is are = record { has = λ x. (there x, back x); order = order }
   where
     there : (x : WriteNotice) → Has notices x → IsDueToldBy s j k e.processor e.kind x.page x.writer x.interval
     there x at = (is x).0 ((are.has x).0 at).0
@@ -254,10 +254,10 @@ all_notices_below s j h k e span notices is are = record { has = λ x. (there x,
         ]
 
 -- what a fetch's span has is what the fetch tells of
-pub notices_in_fetch : {s : Sizes} {w n r d : ℕ} {span : Span} (j : List Event) (k : ℕ) (e : Event) → e.kind ≡ Fetch w n r d
-    → IsFetchSpan s (take k j) e.processor n span → ProcessorsInRange 16 (take k j) → (x : WriteNotice)
+pub notice_rows_in_fetch : {s : Sizes} {w n r d : ℕ} {span : Span} (j : List Event) (k : ℕ) (e : Event) → e.kind ≡ Fetch w n r d
+    → IsDueSpanOfFetch s (take k j) e.processor n span → EventProcessorsInRange 16 (take k j) → (x : WriteNotice)
     → IsNoticeInSpan s (take k j) span x ↔ IsDueToldBy s j k e.processor e.kind x.page x.writer x.interval
-notices_in_fetch {s} {w} {n} {r} {d} {span} j k e kind is_span low x =
+notice_rows_in_fetch {s} {w} {n} {r} {d} {span} j k e kind is_span low x =
     subst (λ c. IsNoticeInSpan s h span x ↔ IsDueToldBy s j k p c x.page x.writer x.interval) (sym kind) (there, back)
   where
     p : ℕ
@@ -268,10 +268,10 @@ notices_in_fetch {s} {w} {n} {r} {d} {span} j k e kind is_span low x =
 
     lacks : n ≡ x.page → x.writer ≢ p
         → DueLacks s h p x.page x.writer x.interval
-        ↔ DueBetween s h x.page x.writer (slice_index span.from) (slice_index span.to) x.interval
+        ↔ DueSpanBetween s h x.page x.writer (slice_index span.from) (slice_index span.to) x.interval
     lacks page apart =
-        due_lacks_is x.writer x.interval apart
-        (subst (λ l. GapFetchedUpTo s h p l (slice_index span.from)) page is_span.from) is_span.to
+        due_span_lacks_is x.writer x.interval apart
+        (subst (λ l. FetchGapBroughtUpTo s h p l (slice_index span.from)) page is_span.from) is_span.to
 
     there : IsNoticeInSpan s h span x → (n ≡ x.page) × DueLacks s h p x.page x.writer x.interval
     there y =
@@ -283,10 +283,10 @@ notices_in_fetch {s} {w} {n} {r} {d} {span} j k e kind is_span low x =
     back : (n ≡ x.page) × DueLacks s h p x.page x.writer x.interval → IsNoticeInSpan s h span x
     back told =
         let page = told.0 in
-        let apart = due_lacks_own s h p x.page x.writer x.interval told.1 in
+        let apart = due_span_lacks_not_own s h p x.page x.writer x.interval told.1 in
         let between = (lacks page apart).0 told.1 in
         record {
-          low = due_lacks_low s h p x.page x.writer x.interval low told.1;
+          low = due_span_lacks_low s h p x.page x.writer x.interval low told.1;
           apart = λ same. apart (same ∙ is_span.reader);
           from = omega arith;
           to = omega arith;
@@ -296,10 +296,10 @@ notices_in_fetch {s} {w} {n} {r} {d} {span} j k e kind is_span low x =
         }
 
 -- what the span round an event that takes has is what that tells of
-pub notices_in_taken : {s : Sizes} {j : List Event} {k : ℕ} {e : Event} {span : Span} → IsTakingSpan s j k e span
+pub notice_rows_in_taken : {s : Sizes} {j : List Event} {k : ℕ} {e : Event} {span : Span} → IsDueSpanOfTaking s j k e span
     → (x : WriteNotice)
     → IsNoticeInSpan s (take (k + 1) j) span x ↔ IsDueToldBy s j k e.processor e.kind x.page x.writer x.interval
-notices_in_taken {s} {j} {k} {e} {span} round x = (there, back)
+notice_rows_in_taken {s} {j} {k} {e} {span} round x = (there, back)
   where
     p : ℕ
     p = e.processor
@@ -311,20 +311,20 @@ notices_in_taken {s} {j} {k} {e} {span} round x = (there, back)
     Told = IsDueToldBy s j k p e.kind x.page x.writer x.interval
 
     is : x.writer ≢ p
-        → DueBetween s h x.page x.writer (slice_index span.from) (slice_index span.to) x.interval ↔ Told
-    is apart = due_taken_is s x.page x.writer x.interval round.takes apart
+        → DueSpanBetween s h x.page x.writer (slice_index span.from) (slice_index span.to) x.interval ↔ Told
+    is apart = due_span_taken_is s x.page x.writer x.interval round.takes apart
 
     there : IsNoticeInSpan s h span x → Told
     there y = (is (λ same. y.apart (same ∙ sym round.reader))).0 (y.stored, y.least, y.below)
 
     back : Told → IsNoticeInSpan s h span x
     back told =
-        let lacks = (due_told_is s j k p e.kind x.page x.writer x.interval (due_not_fetch e.kind round.takes.takes)).0 told in
-        let apart = due_lacks_own s h p x.page x.writer x.interval lacks.0 in
+        let lacks = (due_span_told_is s j k p e.kind x.page x.writer x.interval (due_span_not_fetch e.kind round.takes.takes)).0 told in
+        let apart = due_span_lacks_not_own s h p x.page x.writer x.interval lacks.0 in
         let between = (is apart).1 told in
         let page = round.pages x.page x.writer x.interval between.0 in
         record {
-          low = due_lacks_low s h p x.page x.writer x.interval round.low lacks.0;
+          low = due_span_lacks_low s h p x.page x.writer x.interval round.low lacks.0;
           apart = λ same. apart (same ∙ round.reader);
           from = omega arith;
           to = omega arith;
@@ -334,9 +334,9 @@ notices_in_taken {s} {j} {k} {e} {span} round x = (there, back)
         }
 
 -- an event that neither takes nor fetches tells of none
-pub notices_quiet_event : (s : Sizes) (j : List Event) (k : ℕ) (e : Event)
-    → ((n q m : ℕ) → IsDueToldBy s j k e.processor e.kind n q m → ⊥) → AreWriteNotices s j k e []
-notices_quiet_event s j k e none = record {
+pub notice_rows_quiet_event : (s : Sizes) (j : List Event) (k : ℕ) (e : Event)
+    → ((n q m : ℕ) → IsDueToldBy s j k e.processor e.kind n q m → ⊥) → AreNoticesAt s j k e []
+notice_rows_quiet_event s j k e none = record {
   has = λ x. ((λ h. absurd (none-some x h.1)), λ told. absurd (none x.page x.writer x.interval told));
   order = λ m n x y lt at. absurd (none-some x at);
 }

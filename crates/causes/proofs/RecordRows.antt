@@ -7,34 +7,34 @@ use Rattle.std.proofs.lemmas.List.{length-replicate, length-take-le, take-append
 use Rattle.std.proofs.lemmas.Nat.{div-add-mod', div-mul-add, div_below, mod-mul-add}
 use Rattle.std.proofs.lemmas.Option.{get_or_from_slice_get, same_Some, slice_get-get_or, slice_get_read, slice_get_within, some_pair_parts}
 use Rattle.base.specs.InOrderOnce.{Has, InOrder}
-use Rattle.base.specs.LastWritten.{LastWrite, written}
-use Rattle.base.specs.MarkedRecords.{harvest, marked}
+use Rattle.base.specs.LastWrite.{LastWrite, written}
+use Rattle.base.specs.AppliedRecords.{harvest, marked_writes}
 use Rattle.base.proofs.SlicesAndCounts.{slice_push_cases, slice_get-append_left, slice_get-last}
 use Rattle.journal.specs.declared.event.Event.{Event}
 use Rattle.journal.specs.declared.event.Kind.TheVariants.{Load, Store}
 use Rattle.journal.specs.Blocks.{block_write}
-use Rattle.journal.specs.ContentsSince.{IsContent, StoresInInterval, since}
+use Rattle.journal.specs.IntervalContents.{IsIntervalContent, IntervalContentHas, open_interval_contents}
 use Rattle.journal.specs.Dirty.{IsDirty}
 use Rattle.journal.specs.DidEvent.{event}
-use Rattle.journal.specs.Events.{At, count_of, interval_at, is_closing}
-use Rattle.journal.specs.PageImages.{page_write}
+use Rattle.journal.specs.Events.{EventAt, event_count, event_interval_at, event_closes}
+use Rattle.journal.specs.PageImages.{page_image_write}
 use Rattle.journal.specs.Sizes.{Sizes}
 use Rattle.journal.specs.WellFormed.{Does}
-use Rattle.journal.proofs.CopyOfPage.Stores.{store_same, store_writes}
-use Rattle.journal.proofs.Intervals.Dirty.{dirty_content}
-use Rattle.journal.proofs.Intervals.StoreContents.{content_closed, content_closing, stores_in_longer, stores_in_shorter}
-use Rattle.journal.proofs.Order.CountedAndNumbered.{count_of-mono, count_of-past, numbered_at_within}
-use Rattle.journal.proofs.Passes.NextClocks.{front_next}
-use Rattle.judge.specs.Gaps.{GapStoresInPage}
+use Rattle.journal.proofs.CopyOfPage.PageStores.{page_store_same, page_store_writes}
+use Rattle.journal.proofs.Intervals.DirtyPages.{dirty_page_content}
+use Rattle.journal.proofs.Intervals.StoreContents.{store_contents_closed, store_contents_closing, store_contents_longer, store_contents_shorter}
+use Rattle.journal.proofs.Order.EventPlacesAndCounts.{event_count-mono, event_count-past, event_place_inside}
+use Rattle.journal.proofs.Passes.NextClocks.{next_clocks_front}
+use Rattle.judge.specs.FetchGaps.{FetchGapStoreInPage}
 use Rattle.judge.specs.Miscounted.{IsEventInSizes}
-use Rattle.causes.specs.declared.records.PageRecord.{PageRecord}
-use Rattle.causes.specs.declared.stores.NumberedStore.{NumberedStore}
+use Rattle.causes.specs.declared.closed_records.PageRecord.{PageRecord}
+use Rattle.causes.specs.declared.store_rows.NumberedStore.{NumberedStore}
 use Rattle.causes.specs.Index.{IsIndexedClosing}
-use Rattle.causes.specs.Records.{AreClosedRecords, AreClosedRecordsBelow, AreRecordWordsBelow, IsLastOfInterval, IsNoneOfInterval}
-use Rattle.causes.specs.Stores.{AreStoresBelow, IsLastStoredUnder, NoneStoredUnder}
-use Rattle.causes.specs.Takings.{AreTakingNumbers}
-use Rattle.causes.proofs.StaleCopies.{interval_stores}
-use Rattle.causes.proofs.StoreRows.{store_intervals_rise}
+use Rattle.causes.specs.ClosedRecords.{AreClosedRecords, AreClosedRecordsBelow, AreClosedRecordWordsBelow, IsClosedRecordValue, IsNotInClosedRecord}
+use Rattle.causes.specs.NumberedStores.{AreNumberedStoresBelow, IsLastNumberedStoreUnder, NoNumberedStoreUnder}
+use Rattle.causes.specs.TakingEvents.{AreTakingEventNumbers}
+use Rattle.causes.proofs.StaleCopies.{stale_copy_interval_stores}
+use Rattle.causes.proofs.StoreRowSteps.{store_row_intervals_rise}
 
 -- a store of the interval in its row
 record RecordStoreInRow (row : List NumberedStore) (m i : ℕ) : Type 0 where
@@ -44,32 +44,32 @@ record RecordStoreInRow (row : List NumberedStore) (m i : ℕ) : Type 0 where
   place : store.place ≡ i
   number : store.interval ≡ m
 
-record_in_row : {j : List Event} {a q : ℕ} {row : List NumberedStore} (m i w : ℕ) → AreStoresBelow j a q (length j) row
-    → Does j i q (Store a w) → interval_at j q i ≡ m → RecordStoreInRow row m i
+record_in_row : {j : List Event} {a q : ℕ} {row : List NumberedStore} (m i w : ℕ) → AreNumberedStoresBelow j a q (length j) row
+    → Does j i q (Store a w) → event_interval_at j q i ≡ m → RecordStoreInRow row m i
 record_in_row {j} {a} {q} {row} m i w are does number =
-    let x = are.all i w (numbered_at_within j i (event q (Store a w)) does) does in
+    let x = are.all i w (event_place_inside j i (event q (Store a w)) does) does in
     record {
       index = x.0;
       store = x.1;
       at = x.2;
       place = x.3;
-      number = (are.each x.0 x.1 x.2).interval ∙ ap (interval_at j q) x.3 ∙ number;
+      number = (are.each x.0 x.1 x.2).interval ∙ ap (event_interval_at j q) x.3 ∙ number;
     }
 
 -- no store of the row is of an interval up to this one
-pub record_none : {j : List Event} {a q : ℕ} {row : List NumberedStore} (m : ℕ) → AreStoresBelow j a q (length j) row
-    → NoneStoredUnder row (m + 1) → IsNoneOfInterval j q m a
-record_none {j} {a} {q} {row} m are none i w does number =
+pub record_row_none : {j : List Event} {a q : ℕ} {row : List NumberedStore} (m : ℕ) → AreNumberedStoresBelow j a q (length j) row
+    → NoNumberedStoreUnder row (m + 1) → IsNotInClosedRecord j q m a
+record_row_none {j} {a} {q} {row} m are none i w does number =
     let x = record_in_row m i w are does number in
     let le = none x.index x.store x.at in
     let is = x.number in
     omega arith
 
 -- the last one that is, is of an earlier one
-pub record_early : {j : List Event} {a q : ℕ} {row : List NumberedStore} {last : NumberedStore} (m : ℕ)
-    → AreStoresBelow j a q (length j) row → IsLastStoredUnder row (m + 1) last → last.interval < m
-    → IsNoneOfInterval j q m a
-record_early {j} {a} {q} {row} {last} m are is early i w does number =
+pub record_row_early : {j : List Event} {a q : ℕ} {row : List NumberedStore} {last : NumberedStore} (m : ℕ)
+    → AreNumberedStoresBelow j a q (length j) row → IsLastNumberedStoreUnder row (m + 1) last → last.interval < m
+    → IsNotInClosedRecord j q m a
+record_row_early {j} {a} {q} {row} {last} m are is early i w does number =
     let x = record_in_row m i w are does number in
     let of = x.number in
     elim (cases_lt is.index x.index) [
@@ -80,19 +80,19 @@ record_early {j} {a} {q} {row} {last} m are is early i w does number =
             let equal = ap (λ (y : NumberedStore). y.interval) one in
             omega arith)
         | inr apart ↦
-            (let rise = store_intervals_rise j a q (length j) row are x.index is.index x.store last (omega arith) x.at is.at in
+            (let rise = store_row_intervals_rise j a q (length j) row are x.index is.index x.store last (omega arith) x.at is.at in
             omega arith)
       ]
     ]
 
 -- and where it is of this one it is the interval's last store there
-pub record_last : {j : List Event} {a q : ℕ} {row : List NumberedStore} {last : NumberedStore} (m b p v : ℕ)
-    → AreStoresBelow j a q (length j) row → IsLastStoredUnder row (m + 1) last → m ≤ last.interval
-    → Does j last.place p (Store b v) → IsLastOfInterval j q m a v
-record_last {j} {a} {q} {row} {last} m b p v are is late stored =
+pub record_row_last : {j : List Event} {a q : ℕ} {row : List NumberedStore} {last : NumberedStore} (m b p v : ℕ)
+    → AreNumberedStoresBelow j a q (length j) row → IsLastNumberedStoreUnder row (m + 1) last → m ≤ last.interval
+    → Does j last.place p (Store b v) → IsClosedRecordValue j q m a v
+record_row_last {j} {a} {q} {row} {last} m b p v are is late stored =
     let own = are.each is.index last is.at in
     let under = is.under in
-    let same = store_same j last.place stored own.does in
+    let same = page_store_same j last.place stored own.does in
     record {
       place = last.place;
       does = subst (λ u. Does j last.place q (Store a u)) (sym same.2) own.does;
@@ -114,22 +114,22 @@ record_last {j} {a} {q} {row} {last} m b p v are is late stored =
     }
 
 -- there is one last value
-record_last_same : (j : List Event) (q m a v w : ℕ) → IsLastOfInterval j q m a v → IsLastOfInterval j q m a w → v ≡ w
-record_last_same j q m a v w x y =
+record_row_last_same : (j : List Event) (q m a v w : ℕ) → IsClosedRecordValue j q m a v → IsClosedRecordValue j q m a w → v ≡ w
+record_row_last_same j q m a v w x y =
     let le = y.last x.place v x.does x.number in
     let ge = x.last y.place w y.does y.number in
     let is : x.place ≡ y.place = omega arith in
-    (store_same j y.place (subst (λ i. Does j i q (Store a v)) is x.does) y.does).2
+    (page_store_same j y.place (subst (λ i. Does j i q (Store a v)) is x.does) y.does).2
 
 -- an address that the interval doesn't store to
-pub record_words_quiet : (j : List Event) (q m a n : ℕ) (words : List (ℕ × ℕ)) → IsNoneOfInterval j q m (a + n)
-    → AreRecordWordsBelow j q m a n words → AreRecordWordsBelow j q m a (n + 1) words
-record_words_quiet j q m a n words none are = record {
+pub record_row_words_quiet : (j : List Event) (q m a n : ℕ) (words : List (ℕ × ℕ)) → IsNotInClosedRecord j q m (a + n)
+    → AreClosedRecordWordsBelow j q m a n words → AreClosedRecordWordsBelow j q m a (n + 1) words
+record_row_words_quiet j q m a n words none are = record {
   has = λ o v. (
     λ h. (let x = (are.has o v).0 h in let lt = x.0 in (omega arith, x.1)),
     λ x. elim (cases_eq o n) [
       | inl is ↦
-          (let last : IsLastOfInterval j q m (a + n) v = subst (λ b. IsLastOfInterval j q m (a + b) v) is x.1 in
+          (let last : IsClosedRecordValue j q m (a + n) v = subst (λ b. IsClosedRecordValue j q m (a + b) v) is x.1 in
           absurd (none last.place v last.does last.number))
       | inr isnt ↦ (let lt = x.0 in (are.has o v).1 (omega arith, x.1))
     ],
@@ -138,23 +138,23 @@ record_words_quiet j q m a n words none are = record {
 }
 
 -- one that it does
-pub record_words_next : (j : List Event) (q m a n v : ℕ) (words : List (ℕ × ℕ)) → IsLastOfInterval j q m (a + n) v
-    → AreRecordWordsBelow j q m a n words → AreRecordWordsBelow j q m a (n + 1) (words ++ (n, v) ∷ [])
-record_words_next j q m a n v words last are = record { has = λ o u. (there o u, back o u); rising = rising }
+pub record_row_words_next : (j : List Event) (q m a n v : ℕ) (words : List (ℕ × ℕ)) → IsClosedRecordValue j q m (a + n) v
+    → AreClosedRecordWordsBelow j q m a n words → AreClosedRecordWordsBelow j q m a (n + 1) (words ++ (n, v) ∷ [])
+record_row_words_next j q m a n v words last are = record { has = λ o u. (there o u, back o u); rising = rising }
   where
-    there : (o u : ℕ) → Has (words ++ (n, v) ∷ []) (o, u) → (o < n + 1) × IsLastOfInterval j q m (a + o) u
+    there : (o u : ℕ) → Has (words ++ (n, v) ∷ []) (o, u) → (o < n + 1) × IsClosedRecordValue j q m (a + o) u
     there o u h = elim (slice_push_cases words (n, v) h.0 (o, u) h.1) [
       | inl old ↦ (let x = (are.has o u).0 (h.0, old.1) in let lt = x.0 in (omega arith, x.1))
       | inr now ↦
-          (let P : ℕ × ℕ → Type 0 = λ w. (w.0 < n + 1) × IsLastOfInterval j q m (a + w.0) w.1 in
+          (let P : ℕ × ℕ → Type 0 = λ w. (w.0 < n + 1) × IsClosedRecordValue j q m (a + w.0) w.1 in
           subst P now.1 (omega arith, last))
     ]
 
-    back : (o u : ℕ) → (o < n + 1) × IsLastOfInterval j q m (a + o) u → Has (words ++ (n, v) ∷ []) (o, u)
+    back : (o u : ℕ) → (o < n + 1) × IsClosedRecordValue j q m (a + o) u → Has (words ++ (n, v) ∷ []) (o, u)
     back o u x = elim (cases_eq o n) [
       | inl is ↦
-          (let here : IsLastOfInterval j q m (a + n) u = subst (λ b. IsLastOfInterval j q m (a + b) u) is x.1 in
-          let value = record_last_same j q m (a + n) v u last here in
+          (let here : IsClosedRecordValue j q m (a + n) u = subst (λ b. IsClosedRecordValue j q m (a + b) u) is x.1 in
+          let value = record_row_last_same j q m (a + n) v u last here in
           (length words, slice_get-last words (n, v) ∙ ap₂ (λ (b w : ℕ). Some (b, w)) (sym is) value))
       | inr isnt ↦
           (let lt = x.0 in
@@ -175,9 +175,9 @@ record_words_next j q m a n v words last are = record { has = λ o u. (there o u
     ]
 
 -- the open interval comes to something in each page
-record_open : (s : Sizes) (j : List Event) (p n : ℕ) → 0 < s.words
-    → (words : List (ℕ × ℕ)) × IsContent s j p (count_of is_closing j p) n words
-record_open s j p n some = (harvest 0 page marks, dirty_content s j p n page marks some dirty)
+record_row_open : (s : Sizes) (j : List Event) (p n : ℕ) → 0 < s.words
+    → (words : List (ℕ × ℕ)) × IsIntervalContent s j p (event_count event_closes j p) n words
+record_row_open s j p n some = (harvest 0 page marks, dirty_page_content s j p n page marks some dirty)
   where
     write : Event → Option (ℕ × ℕ)
     write e = block_write s n e.kind
@@ -186,52 +186,52 @@ record_open s j p n some = (harvest 0 page marks, dirty_content s j p n page mar
     clean = replicate s.words 0
 
     page : List ℕ
-    page = written (λ (e : Event). block_write s n e.kind) clean (since j p)
+    page = written (λ (e : Event). block_write s n e.kind) clean (open_interval_contents j p)
 
     marks : List Bool
-    marks = marked (λ (e : Event). block_write s n e.kind) (replicate s.words false) (since j p)
+    marks = marked_writes (λ (e : Event). block_write s n e.kind) (replicate s.words false) (open_interval_contents j p)
 
     dirty : IsDirty s j p n page marks
     dirty = record { clean = clean; long = length-replicate s.words 0; page_is = refl; marks_are = refl }
 
 -- so does one that is closed at place k
-record_closed : {j : List Event} {q m k : ℕ} (s : Sizes) (n : ℕ) → IsIndexedClosing j q m k → 0 < s.words
-    → (words : List (ℕ × ℕ)) × IsContent s j q m n words
-record_closed {j} {q} {m} {k} s n closing some = (known.0, subst (λ i. IsContent s j q i n known.0) closing.number whole)
+record_row_closed : {j : List Event} {q m k : ℕ} (s : Sizes) (n : ℕ) → IsIndexedClosing j q m k → 0 < s.words
+    → (words : List (ℕ × ℕ)) × IsIntervalContent s j q m n words
+record_row_closed {j} {q} {m} {k} s n closing some = (known.0, subst (λ i. IsIntervalContent s j q i n known.0) closing.number whole)
   where
     e : Event
     e = event q closing.closes.kind
 
     open_one : ℕ
-    open_one = interval_at j q k
+    open_one = event_interval_at j q k
 
-    known : (words : List (ℕ × ℕ)) × IsContent s (take k j) q open_one n words
-    known = record_open s (take k j) q n some
+    known : (words : List (ℕ × ℕ)) × IsIntervalContent s (take k j) q open_one n words
+    known = record_row_open s (take k j) q n some
 
     next : take (k + 1) j ≡ take k j ++ e ∷ []
-    next = front_next j k e closing.closes.does
+    next = next_clocks_front j k e closing.closes.does
 
-    behind : IsContent s (take (k + 1) j) q open_one n known.0
+    behind : IsIntervalContent s (take (k + 1) j) q open_one n known.0
     behind =
-        subst (λ h. IsContent s h q open_one n known.0) (sym next)
-        (content_closing s (take k j) e q open_one n known.0 closing.closes.closes known.1)
+        subst (λ h. IsIntervalContent s h q open_one n known.0) (sym next)
+        (store_contents_closing s (take k j) e q open_one n known.0 closing.closes.closes known.1)
 
-    counted : open_one < count_of is_closing (take (k + 1) j) q
-    counted = count_of-past is_closing j k (k + 1) q e.kind closing.closes.does closing.closes.closes (omega arith)
+    counted : open_one < event_count event_closes (take (k + 1) j) q
+    counted = event_count-past event_closes j k (k + 1) q e.kind closing.closes.does closing.closes.closes (omega arith)
 
-    whole : IsContent s j q open_one n known.0
+    whole : IsIntervalContent s j q open_one n known.0
     whole =
-        subst (λ h. IsContent s h q open_one n known.0) (take-append-drop (k + 1) j)
-        (content_closed s (take (k + 1) j) (drop (k + 1) j) q open_one n known.0 counted behind)
+        subst (λ h. IsIntervalContent s h q open_one n known.0) (take-append-drop (k + 1) j)
+        (store_contents_closed s (take (k + 1) j) (drop (k + 1) j) q open_one n known.0 counted behind)
 
 -- an address by its page and its offset
-record_address : (w n o a : ℕ) → a / w ≡ n → a % w ≡ o → a ≡ n * w + o
-record_address w n o a page offset = sym (div-add-mod' a w) ∙ ap₂ (λ (x y : ℕ). x * w + y) page offset
+record_row_address : (w n o a : ℕ) → a / w ≡ n → a % w ≡ o → a ≡ n * w + o
+record_row_address w n o a page offset = sym (div-add-mod' a w) ∙ ap₂ (λ (x y : ℕ). x * w + y) page offset
 
 -- the words of a page that are looked up are what the interval comes to there, by what it comes to in any way
-record_content_by : {s : Sizes} {j : List Event} {q m n : ℕ} {known words : List (ℕ × ℕ)} → 0 < s.words
-    → IsContent s j q m n known → AreRecordWordsBelow j q m (n * s.words) s.words words → IsContent s j q m n words
-record_content_by {s} {j} {q} {m} {n} {known} {words} some content are = record {
+record_row_content_by : {s : Sizes} {j : List Event} {q m n : ℕ} {known words : List (ℕ × ℕ)} → 0 < s.words
+    → IsIntervalContent s j q m n known → AreClosedRecordWordsBelow j q m (n * s.words) s.words words → IsIntervalContent s j q m n words
+record_row_content_by {s} {j} {q} {m} {n} {known} {words} some content are = record {
   places = content.places;
   each = content.each;
   rising = content.rising;
@@ -239,27 +239,27 @@ record_content_by {s} {j} {q} {m} {n} {known} {words} some content are = record 
 }
   where
     f : ℕ → Option (ℕ × ℕ)
-    f i = page_write s (slice_get j i)
+    f i = page_image_write s (slice_get j i)
 
     -- a store of the interval at this offset
-    of_offset : (i o : ℕ) (z : StoresInInterval s j q m n i) → z.0 % s.words ≡ o → Does j i q (Store (n * s.words + o) z.1)
+    of_offset : (i o : ℕ) (z : IntervalContentHas s j q m n i) → z.0 % s.words ≡ o → Does j i q (Store (n * s.words + o) z.1)
     of_offset i o z offset =
-        subst (λ a. Does j i q (Store a z.1)) (record_address s.words n o z.0 z.3 offset) z.2
+        subst (λ a. Does j i q (Store a z.1)) (record_row_address s.words n o z.0 z.3 offset) z.2
 
-    stored : (i o v : ℕ) → o < s.words → Does j i q (Store (n * s.words + o) v) → interval_at j q i ≡ m
-        → StoresInInterval s j q m n i
+    stored : (i o v : ℕ) → o < s.words → Does j i q (Store (n * s.words + o) v) → event_interval_at j q i ≡ m
+        → IntervalContentHas s j q m n i
     stored i o v lt does number = (n * s.words + o, v, does, div-mul-add n s.words o lt, number)
 
     writes : (i o v : ℕ) → o < s.words → Does j i q (Store (n * s.words + o) v)
-        → ◌≡◌ {A = Option (ℕ × ℕ)} (page_write s (slice_get j i)) (Some (o, v))
+        → ◌≡◌ {A = Option (ℕ × ℕ)} (page_image_write s (slice_get j i)) (Some (o, v))
     writes i o v lt does =
-        store_writes s j i q (n * s.words + o) v does ∙ ap (λ (b : ℕ). Some (b, v)) (mod-mul-add n s.words o lt)
+        page_store_writes s j i q (n * s.words + o) v does ∙ ap (λ (b : ℕ). Some (b, v)) (mod-mul-add n s.words o lt)
 
     -- what one of the places writes
-    parts : (i o u : ℕ) (z : StoresInInterval s j q m n i)
-        → ◌≡◌ {A = Option (ℕ × ℕ)} (page_write s (slice_get j i)) (Some (o, u)) → (z.0 % s.words ≡ o) × (z.1 ≡ u)
+    parts : (i o u : ℕ) (z : IntervalContentHas s j q m n i)
+        → ◌≡◌ {A = Option (ℕ × ℕ)} (page_image_write s (slice_get j i)) (Some (o, u)) → (z.0 % s.words ≡ o) × (z.1 ≡ u)
     parts i o u z is =
-        some_pair_parts (z.0 % s.words) o z.1 u (sym (store_writes s j i q z.0 z.1 z.2) ∙ is)
+        some_pair_parts (z.0 % s.words) o z.1 u (sym (page_store_writes s j i q z.0 z.1 z.2) ∙ is)
 
     there : (o v : ℕ) → Has words (o, v) → LastWrite f content.places o v
     there o v h =
@@ -312,15 +312,15 @@ record_content_by {s} {j} {q} {m} {n} {known} {words} some content are = record 
         )
 
 -- of the interval that is closed at place k
-pub record_content : {j : List Event} {q m k : ℕ} {words : List (ℕ × ℕ)} (s : Sizes) (n : ℕ) → IsIndexedClosing j q m k
-    → 0 < s.words → AreRecordWordsBelow j q m (n * s.words) s.words words → IsContent s j q m n words
-record_content {j} {q} {m} {k} {words} s n closing some are =
-    record_content_by some (record_closed s n closing some).1 are
+pub record_row_content : {j : List Event} {q m k : ℕ} {words : List (ℕ × ℕ)} (s : Sizes) (n : ℕ) → IsIndexedClosing j q m k
+    → 0 < s.words → AreClosedRecordWordsBelow j q m (n * s.words) s.words words → IsIntervalContent s j q m n words
+record_row_content {j} {q} {m} {k} {words} s n closing some are =
+    record_row_content_by some (record_row_closed s n closing some).1 are
 
 -- the stores of a closed interval stand up to the event that closes it
-pub record_stores : {j : List Event} {q m k : ℕ} (s : Sizes) (n : ℕ) → IsIndexedClosing j q m k
-    → GapStoresInPage s (take (k + 1) j) n q m ↔ ((i : ℕ) × StoresInInterval s j q m n i)
-record_stores {j} {q} {m} {k} s n closing = (there, back)
+pub record_row_stores : {j : List Event} {q m k : ℕ} (s : Sizes) (n : ℕ) → IsIndexedClosing j q m k
+    → FetchGapStoreInPage s (take (k + 1) j) n q m ↔ ((i : ℕ) × IntervalContentHas s j q m n i)
+record_row_stores {j} {q} {m} {k} s n closing = (there, back)
   where
     e : Event
     e = event q closing.closes.kind
@@ -331,68 +331,68 @@ record_stores {j} {q} {m} {k} s n closing = (there, back)
     whole : front ++ drop (k + 1) j ≡ j
     whole = take-append-drop (k + 1) j
 
-    there : GapStoresInPage s front n q m → (i : ℕ) × StoresInInterval s j q m n i
+    there : FetchGapStoreInPage s front n q m → (i : ℕ) × IntervalContentHas s j q m n i
     there x =
-        let y = (interval_stores s front n q m).0 x in
-        (y.0, subst (λ h. StoresInInterval s h q m n y.0) whole (stores_in_longer s front (drop (k + 1) j) q m n y.0 y.1))
+        let y = (stale_copy_interval_stores s front n q m).0 x in
+        (y.0, subst (λ h. IntervalContentHas s h q m n y.0) whole (store_contents_longer s front (drop (k + 1) j) q m n y.0 y.1))
 
-    back : (i : ℕ) × StoresInInterval s j q m n i → GapStoresInPage s front n q m
+    back : (i : ℕ) × IntervalContentHas s j q m n i → FetchGapStoreInPage s front n q m
     back y =
         let z = y.1 in
         let number = z.4 in
         let is = closing.number in
         let under =
-        count_of-past is_closing j k (k + 1) q e.kind closing.closes.does closing.closes.closes (omega arith) in
+        event_count-past event_closes j k (k + 1) q e.kind closing.closes.does closing.closes.closes (omega arith) in
         let low : y.0 < k + 1 = elim (cases_lt y.0 (k + 1)) [
           | inl lt ↦ lt
-          | inr late ↦ (let up = count_of-mono is_closing j (k + 1) y.0 q late in absurd (omega arith))
+          | inr late ↦ (let up = event_count-mono event_closes j (k + 1) y.0 q late in absurd (omega arith))
         ] in
-        let inside = numbered_at_within j k e closing.closes.does in
+        let inside = event_place_inside j k e closing.closes.does in
         let long = length-take-le (k + 1) j (omega arith) in
-        (interval_stores s front n q m).1 (
+        (stale_copy_interval_stores s front n q m).1 (
           y.0,
-          stores_in_shorter s front (drop (k + 1) j) q m n y.0 (omega arith)
-              (subst (λ h. StoresInInterval s h q m n y.0) (sym whole) z),
+          store_contents_shorter s front (drop (k + 1) j) q m n y.0 (omega arith)
+              (subst (λ h. IntervalContentHas s h q m n y.0) (sym whole) z),
         )
 
 -- a page in which the interval doesn't store
-pub records_quiet : (s : Sizes) (j : List Event) (q m n : ℕ) (records : List PageRecord)
-    → ((i : ℕ) → ¬ StoresInInterval s j q m n i) → AreClosedRecordsBelow s j q m n records
+pub record_rows_quiet : (s : Sizes) (j : List Event) (q m n : ℕ) (records : List PageRecord)
+    → ((i : ℕ) → ¬ IntervalContentHas s j q m n i) → AreClosedRecordsBelow s j q m n records
     → AreClosedRecordsBelow s j q m (n + 1) records
-records_quiet s j q m n records none are = record {
+record_rows_quiet s j q m n records none are = record {
   content = are.content;
   some = λ x h. (let y = are.some x h in let lt = y.0 in (omega arith, y.1));
   all = λ l i lt stores. elim (cases_eq l n) [
-    | inl is ↦ absurd (none i (subst (λ b. StoresInInterval s j q m b i) is stores))
+    | inl is ↦ absurd (none i (subst (λ b. IntervalContentHas s j q m b i) is stores))
     | inr isnt ↦ are.all l i (omega arith) stores
   ];
   order = are.order;
 }
 
 -- one in which it does
-pub records_next : {s : Sizes} {j : List Event} {q m n : ℕ} {records : List PageRecord} (x : PageRecord) → x.page ≡ n
-    → IsContent s j q m n x.words.items → ((i : ℕ) × StoresInInterval s j q m n i)
+pub record_rows_next : {s : Sizes} {j : List Event} {q m n : ℕ} {records : List PageRecord} (x : PageRecord) → x.page ≡ n
+    → IsIntervalContent s j q m n x.words.items → ((i : ℕ) × IntervalContentHas s j q m n i)
     → AreClosedRecordsBelow s j q m n records → AreClosedRecordsBelow s j q m (n + 1) (records ++ x ∷ [])
-records_next {s} {j} {q} {m} {n} {records} x page content some are = record { content = each; some = some_of; all = all; order = order }
+record_rows_next {s} {j} {q} {m} {n} {records} x page content some are = record { content = each; some = some_of; all = all; order = order }
   where
-    each : (y : PageRecord) → Has (records ++ x ∷ []) y → IsContent s j q m y.page y.words.items
+    each : (y : PageRecord) → Has (records ++ x ∷ []) y → IsIntervalContent s j q m y.page y.words.items
     each y h = elim (slice_push_cases records x h.0 y h.1) [
       | inl old ↦ are.content y (h.0, old.1)
       | inr now ↦
-          subst (λ (z : PageRecord). IsContent s j q m z.page z.words.items) now.1
-          (subst (λ b. IsContent s j q m b x.words.items) (sym page) content)
+          subst (λ (z : PageRecord). IsIntervalContent s j q m z.page z.words.items) now.1
+          (subst (λ b. IsIntervalContent s j q m b x.words.items) (sym page) content)
     ]
 
     some_of : (y : PageRecord) → Has (records ++ x ∷ []) y
-        → (y.page < n + 1) × ((i : ℕ) × StoresInInterval s j q m y.page i)
+        → (y.page < n + 1) × ((i : ℕ) × IntervalContentHas s j q m y.page i)
     some_of y h = elim (slice_push_cases records x h.0 y h.1) [
       | inl old ↦ (let z = are.some y (h.0, old.1) in let lt = z.0 in (omega arith, z.1))
       | inr now ↦
-          subst (λ (z : PageRecord). (z.page < n + 1) × ((i : ℕ) × StoresInInterval s j q m z.page i)) now.1
-          (omega arith, subst (λ b. (i : ℕ) × StoresInInterval s j q m b i) (sym page) some)
+          subst (λ (z : PageRecord). (z.page < n + 1) × ((i : ℕ) × IntervalContentHas s j q m z.page i)) now.1
+          (omega arith, subst (λ b. (i : ℕ) × IntervalContentHas s j q m b i) (sym page) some)
     ]
 
-    all : (l i : ℕ) → l < n + 1 → StoresInInterval s j q m l i → (y : PageRecord) × Has (records ++ x ∷ []) y × (y.page ≡ l)
+    all : (l i : ℕ) → l < n + 1 → IntervalContentHas s j q m l i → (y : PageRecord) × Has (records ++ x ∷ []) y × (y.page ≡ l)
     all l i lt stores = elim (cases_eq l n) [
       | inl is ↦ (x, (length records, slice_get-last records x), page ∙ sym is)
       | inr isnt ↦
@@ -413,17 +413,17 @@ records_next {s} {j} {q} {m} {n} {records} x page content some are = record { co
     ]
 
 -- those of all pages are all
-pub records_all : (s : Sizes) (j : List Event) (q m : ℕ) (records : List PageRecord)
-    → ((k : ℕ) (e : Event) → At j k e → IsEventInSizes s e) → AreClosedRecordsBelow s j q m s.pages records
+pub record_rows_all : (s : Sizes) (j : List Event) (q m : ℕ) (records : List PageRecord)
+    → ((k : ℕ) (e : Event) → EventAt j k e → IsEventInSizes s e) → AreClosedRecordsBelow s j q m s.pages records
     → AreClosedRecords s j q m records
-records_all s j q m records within are = record {
+record_rows_all s j q m records within are = record {
   content = are.content;
   some = λ x h. (are.some x h).1;
   all = λ n i stores. are.all n i (low n i stores) stores;
   order = are.order;
 }
   where
-    low : (n i : ℕ) → StoresInInterval s j q m n i → n < s.pages
+    low : (n i : ℕ) → IntervalContentHas s j q m n i → n < s.pages
     low n i z =
         let a = z.0 in
         let page = z.3 in
@@ -436,9 +436,9 @@ records_all s j q m records within are = record {
         ]
 
 -- a page that is stored in has words
-pub record_some_words : (s : Sizes) (j : List Event) (q m n : ℕ) → ((k : ℕ) (e : Event) → At j k e → IsEventInSizes s e)
-    → ((i : ℕ) × StoresInInterval s j q m n i) → 0 < s.words
-record_some_words s j q m n within y =
+pub record_row_some_words : (s : Sizes) (j : List Event) (q m n : ℕ) → ((k : ℕ) (e : Event) → EventAt j k e → IsEventInSizes s e)
+    → ((i : ℕ) × IntervalContentHas s j q m n i) → 0 < s.words
+record_row_some_words s j q m n within y =
     let z = y.1 in
     let lt : z.0 < s.pages * s.words = (within y.0 (event q (Store z.0 z.1)) z.2).kind in
     elim (cases_lt 0 s.words) [
@@ -449,14 +449,14 @@ record_some_words s j q m n within y =
     ]
 
 -- the event at this place
-abbrev pub record_event : List Event → ℕ → Event
-record_event j k = slice_index_or j k (event 0 (Load 0 0))
+abbrev pub record_row_event : List Event → ℕ → Event
+record_row_event j k = slice_index_or j k (event 0 (Load 0 0))
 
 -- the number that is looked up of an event is its interval's
-pub record_number_is : (j : List Event) (numbers : List ℕ) (k n : ℕ) → k < length j → AreTakingNumbers j numbers
-    → n ≡ slice_index_or numbers k n → n ≡ interval_at j (record_event j k).processor k
-record_number_is j numbers k n lt are read =
+pub record_row_number_is : (j : List Event) (numbers : List ℕ) (k n : ℕ) → k < length j → AreTakingEventNumbers j numbers
+    → n ≡ slice_index_or numbers k n → n ≡ event_interval_at j (record_row_event j k).processor k
+record_row_number_is j numbers k n lt are read =
     let long = are.long in
     let there = slice_get_read numbers (length numbers) k n refl (omega arith) read in
     sym (get_or_from_slice_get numbers k n 0 there)
-    ∙ are.each k (record_event j k) (slice_get-get_or j k (event 0 (Load 0 0)) lt)
+    ∙ are.each k (record_row_event j k) (slice_get-get_or j k (event 0 (Load 0 0)) lt)

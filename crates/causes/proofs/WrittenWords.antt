@@ -7,57 +7,57 @@ use Rattle.base.proofs.SlicesAndCounts.{slice_push_cases, slice_get-append_left,
 use Rattle.journal.specs.declared.event.Event.{Event}
 use Rattle.journal.specs.declared.event.Kind.TheVariants.{Fetch, Store}
 use Rattle.journal.specs.DidEvent.{event}
-use Rattle.journal.specs.Events.{At}
+use Rattle.journal.specs.Events.{EventAt}
 use Rattle.journal.specs.Sizes.{Sizes}
-use Rattle.journal.proofs.Order.CountedAndNumbered.{numbered_at_same}
+use Rattle.journal.proofs.Order.EventPlacesAndCounts.{event_place_same}
 use Rattle.judge.specs.Prelude.{IsEventInSizes}
 use Rattle.causes.specs.declared.origin.WordOrigin.{WordOrigin}
 use Rattle.causes.specs.declared.written.WrittenRange.{WrittenRange}
 use Rattle.causes.specs.declared.written.WrittenWord.{WrittenWord}
-use Rattle.journal.specs.WordOrigins.{OriginWritesWord}
-use Rattle.causes.specs.Origins.{IsOrigin, IsWordOriginOf}
-use Rattle.causes.proofs.OriginSteps.{origin_in_page}
-use Rattle.causes.specs.Writing.{AreWritten, AreWrittenAmong, IsStoreWrittenAt, IsWrittenRange}
+use Rattle.journal.specs.OriginWrites.{OriginWritesWord}
+use Rattle.causes.specs.Origins.{IsOrigin, IsOriginIfAny}
+use Rattle.causes.proofs.OriginSteps.{origin_step_in_page}
+use Rattle.causes.specs.EventWrites.{AreEventWrites, AreEventWritesAmong, IsEventWriteOfStore, IsEventWriteRange}
 
 -- a word that has its origin at place k is written there
-pub written_now : (s : Sizes) (j : List Event) (p a k i : ℕ) → IsOrigin s j p a (k + 1) (record { store = i; write = k })
+pub written_word_now : (s : Sizes) (j : List Event) (p a k i : ℕ) → IsOrigin s j p a (k + 1) (record { store = i; write = k })
     → OriginWritesWord s j p a k i
-written_now s j p a k i is = is.writes
+written_word_now s j p a k i is = is.writes
 
 -- one that doesn't isn't
-pub written_not : (s : Sizes) (j : List Event) (p a k : ℕ) (o : Option WordOrigin) → IsWordOriginOf s j p a (k + 1) o
+pub written_word_not : (s : Sizes) (j : List Event) (p a k : ℕ) (o : Option WordOrigin) → IsOriginIfAny s j p a (k + 1) o
     → ((x : WordOrigin) → o ≡ Some x → x.write ≢ k) → (i : ℕ) → ¬ OriginWritesWord s j p a k i
-written_not s j p a k None none away i = none k i (omega arith)
-written_not s j p a k (Some x) is away i =
+written_word_not s j p a k None none away i = none k i (omega arith)
+written_word_not s j p a k (Some x) is away i =
     let isnt = away x refl in
     let before = is.before in
     is.last k i (omega arith) (omega arith)
 
 -- so where no store is told
-pub written_none : (o : Option WordOrigin) (k : ℕ) (r : Option ℕ) → ((i : ℕ) → r ≢ Some i) → IsStoreWrittenAt o k r
+pub written_word_none : (o : Option WordOrigin) (k : ℕ) (r : Option ℕ) → ((i : ℕ) → r ≢ Some i) → IsEventWriteOfStore o k r
     → (x : WordOrigin) → o ≡ Some x → x.write ≢ k
-written_none o k None none is = is
-written_none o k (Some i) none is = absurd (none i refl)
+written_word_none o k None none is = is
+written_word_none o k (Some i) none is = absurd (none i refl)
 
 -- the words below this address, each of them below it
-pub record AreWrittenBelow (s : Sizes) (j : List Event) (k p from to : ℕ) (written : List WrittenWord) : Type 0 where
-  pub among : AreWrittenAmong s j k p (record { first = from; end = to }) written
+pub record AreWrittenWordsBelow (s : Sizes) (j : List Event) (k p from to : ℕ) (written : List WrittenWord) : Type 0 where
+  pub among : AreEventWritesAmong s j k p (record { first = from; end = to }) written
   pub below : (x : WrittenWord) → Has written x → x.address < to
 
 -- what is written in all of the range
-pub written_end : (s : Sizes) (j : List Event) (k p : ℕ) (r : WrittenRange) (to : ℕ) (written : List WrittenWord) → r.end ≤ to
-    → AreWrittenBelow s j k p r.first to written → AreWrittenAmong s j k p r written
-written_end s j k p r to written le are = record {
+pub written_words_end : (s : Sizes) (j : List Event) (k p : ℕ) (r : WrittenRange) (to : ℕ) (written : List WrittenWord) → r.end ≤ to
+    → AreWrittenWordsBelow s j k p r.first to written → AreEventWritesAmong s j k p r written
+written_words_end s j k p r to written le are = record {
   each = are.among.each;
   all = λ a i low high writes. are.among.all a i low (omega arith) writes;
   rising = are.among.rising;
 }
 
 -- an address more that is written
-pub written_next : {s : Sizes} {j : List Event} {k p from a : ℕ} {written : List WrittenWord} (i : ℕ)
-    → OriginWritesWord s j p a k i → AreWrittenBelow s j k p from a written
-    → AreWrittenBelow s j k p from (a + 1) (written ++ record { address = a; store = i } ∷ [])
-written_next {s} {j} {k} {p} {from} {a} {written} i writes old = record {
+pub written_word_next : {s : Sizes} {j : List Event} {k p from a : ℕ} {written : List WrittenWord} (i : ℕ)
+    → OriginWritesWord s j p a k i → AreWrittenWordsBelow s j k p from a written
+    → AreWrittenWordsBelow s j k p from (a + 1) (written ++ record { address = a; store = i } ∷ [])
+written_word_next {s} {j} {k} {p} {from} {a} {written} i writes old = record {
   among = record { each = each; all = all; rising = rising };
   below = λ x has. elim (slice_push_cases written new has.0 x has.1) [
     | inl was ↦ (let lt = old.below x (has.0, was.1) in omega arith)
@@ -103,10 +103,10 @@ written_next {s} {j} {k} {p} {from} {a} {written} i writes old = record {
     ]
 
 -- one that isn't
-pub written_others : {s : Sizes} {j : List Event} {k p from a : ℕ} {written : List WrittenWord}
-    → ((i : ℕ) → ¬ OriginWritesWord s j p a k i) → AreWrittenBelow s j k p from a written
-    → AreWrittenBelow s j k p from (a + 1) written
-written_others {s} {j} {k} {p} {from} {a} {written} away old = record {
+pub written_word_others : {s : Sizes} {j : List Event} {k p from a : ℕ} {written : List WrittenWord}
+    → ((i : ℕ) → ¬ OriginWritesWord s j p a k i) → AreWrittenWordsBelow s j k p from a written
+    → AreWrittenWordsBelow s j k p from (a + 1) written
+written_word_others {s} {j} {k} {p} {from} {a} {written} away old = record {
   among = record { each = old.among.each; all = all; rising = old.among.rising };
   below = λ x has. (let lt = old.below x has in omega arith);
 }
@@ -119,11 +119,11 @@ written_others {s} {j} {k} {p} {from} {a} {written} away old = record {
     ]
 
 -- what is written in the range is all that is
-pub written_all : (s : Sizes) (j : List Event) (k : ℕ) (e : Event) (r : WrittenRange) (written : List WrittenWord) → At j k e
-    → IsWrittenRange s j k e.processor r → AreWrittenAmong s j k e.processor r written → AreWritten s j k written
-written_all s j k e r written at range among = record {
+pub written_words_all : (s : Sizes) (j : List Event) (k : ℕ) (e : Event) (r : WrittenRange) (written : List WrittenWord) → EventAt j k e
+    → IsEventWriteRange s j k e.processor r → AreEventWritesAmong s j k e.processor r written → AreEventWrites s j k written
+written_words_all s j k e r written at range among = record {
   each = λ f x there has.
-      subst (λ (g : Event). OriginWritesWord s j g.processor x.address k x.store) (numbered_at_same j k e f at there)
+      subst (λ (g : Event). OriginWritesWord s j g.processor x.address k x.store) (event_place_same j k e f at there)
       (among.each x has);
   all = λ q a i writes.
       (let in_range = range q a i writes in
@@ -131,20 +131,20 @@ written_all s j k e r written at range among = record {
   rising = among.rising;
 }
 
-written_store_no_fetch : (a v w n r d : ℕ) → Store a v ≢ Fetch w n r d
-written_store_no_fetch a v w n r d is = cc
+written_word_store_no_fetch : (a v w n r d : ℕ) → Store a v ≢ Fetch w n r d
+written_word_store_no_fetch a v w n r d is = cc
 
-written_fetch_page : (w n r d x m y z : ℕ) → Fetch w n r d ≡ Fetch x m y z → n ≡ m
-written_fetch_page w n r d x m y z is = cc
+written_word_fetch_page : (w n r d x m y z : ℕ) → Fetch w n r d ≡ Fetch x m y z → n ≡ m
+written_word_fetch_page w n r d x m y z is = cc
 
 -- what a fetch writes lies in its page
-pub written_by_fetch : {w n r d : ℕ} (s : Sizes) (j : List Event) (k : ℕ) (e : Event)
-    → ((m : ℕ) (f : Event) → At j m f → IsEventInSizes s f) → At j k e → e.kind ≡ Fetch w n r d
-    → IsWrittenRange s j k e.processor (record { first = n * s.words; end = n * s.words + s.words })
-written_by_fetch {w} {n} {r} {d} s j k e within at kind q a i (inl own) =
-    let same = numbered_at_same j k e (event q (Store a own.1.0)) at own.1.1 in
-    absurd (written_store_no_fetch a own.1.0 w n r d (sym (ap (λ (f : Event). f.kind) same) ∙ kind))
-written_by_fetch {w} {n} {r} {d} s j k e within at kind q a i (inr last) = (
+pub written_word_by_fetch : {w n r d : ℕ} (s : Sizes) (j : List Event) (k : ℕ) (e : Event)
+    → ((m : ℕ) (f : Event) → EventAt j m f → IsEventInSizes s f) → EventAt j k e → e.kind ≡ Fetch w n r d
+    → IsEventWriteRange s j k e.processor (record { first = n * s.words; end = n * s.words + s.words })
+written_word_by_fetch {w} {n} {r} {d} s j k e within at kind q a i (inl own) =
+    let same = event_place_same j k e (event q (Store a own.1.0)) at own.1.1 in
+    absurd (written_word_store_no_fetch a own.1.0 w n r d (sym (ap (λ (f : Event). f.kind) same) ∙ kind))
+written_word_by_fetch {w} {n} {r} {d} s j k e within at kind q a i (inr last) = (
   sym (ap (λ (f : Event). f.processor) same),
   range.0,
   range.1,
@@ -152,13 +152,13 @@ written_by_fetch {w} {n} {r} {d} s j k e within at kind q a i (inr last) = (
   where
     same : e ≡ event q (Fetch last.brought.fetches.0 (a / s.words) last.brought.fetches.1 last.brought.fetches.2)
     same =
-        numbered_at_same j k e
+        event_place_same j k e
         (event q (Fetch last.brought.fetches.0 (a / s.words) last.brought.fetches.1 last.brought.fetches.2)) at
         last.brought.fetches.3
 
     page : n ≡ a / s.words
     page =
-        written_fetch_page w n r d last.brought.fetches.0 (a / s.words) last.brought.fetches.1 last.brought.fetches.2
+        written_word_fetch_page w n r d last.brought.fetches.0 (a / s.words) last.brought.fetches.1 last.brought.fetches.2
         (sym kind ∙ ap (λ (f : Event). f.kind) same)
 
     some : 0 < s.words
@@ -172,4 +172,4 @@ written_by_fetch {w} {n} {r} {d} s j k e within at kind q a i (inr last) = (
     ]
 
     range : (n * s.words ≤ a) × (a < n * s.words + s.words)
-    range = origin_in_page a s.words n some (sym page)
+    range = origin_step_in_page a s.words n some (sym page)

@@ -18,8 +18,8 @@ pub record AreEdges (j : List Event) (k : ℕ) (places : List ℕ) : Type 0 wher
 
 -- an event of the first kind, before which its processor arrived so often, lets on one of the second, before which its
 -- processor departed so often
-abbrev pub EdgeLeadsOn : Kind → ℕ → Kind → ℕ → Type 0
-EdgeLeadsOn from arrived (Acquire l) departed = from ≡ Release l
-EdgeLeadsOn from arrived (Await f) departed = from ≡ Set f
-EdgeLeadsOn from arrived Depart departed = (from ≡ Arrive) × (arrived ≡ departed)
-EdgeLeadsOn from arrived _ departed = ⊥
+abbrev pub EdgeLetsOn : Kind → ℕ → Kind → ℕ → Type 0
+EdgeLetsOn from arrived (Acquire l) departed = from ≡ Release l
+EdgeLetsOn from arrived (Await f) departed = from ≡ Set f
+EdgeLetsOn from arrived Depart departed = (from ≡ Arrive) × (arrived ≡ departed)
+EdgeLetsOn from arrived _ departed = ⊥

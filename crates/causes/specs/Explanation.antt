@@ -5,11 +5,11 @@ use Rattle.journal.specs.Races.{RaceFree}
 use Rattle.journal.specs.Sizes.{Sizes}
 use Rattle.judge.specs.Sources.Latest.{AreLatestRows}
 use Rattle.causes.specs.declared.explaining.Explanation.{Explanation}
-use Rattle.causes.specs.Origins.{AreOrigins, NameOrigins}
+use Rattle.causes.specs.Origins.{AreOrigins, AreOriginsNamed}
 use Rattle.causes.specs.Source.{AreSources}
-use Rattle.causes.specs.Heard.{IsFirstRaceTold}
-use Rattle.causes.specs.News.{AreIncoming}
-use Rattle.causes.specs.Waits.{AreWaits}
+use Rattle.causes.specs.Heard.{IsHeardAtRace}
+use Rattle.causes.specs.News.{AreIncomingNews}
+use Rattle.causes.specs.FinalWaits.{AreFinalWaits}
 
 -- it has the latest stores, the origin and the source of each load, the first race where there is one, each event's news, and
 -- what each processor waits for
@@ -20,9 +20,9 @@ pub record IsExplanation (s : Sizes) (j : List Event) (x : Explanation) : Type 0
   pub origins : AreOrigins s j x.origins.items
   pub long : vec_len x.loads ≡ length j
   pub loads : AreSources j x.loads.items
-  pub named : NameOrigins j x.origins.items x.loads.items
-  pub race : MatchOption x.race (RaceFree j) (IsFirstRaceTold j)
+  pub named : AreOriginsNamed j x.origins.items x.loads.items
+  pub race : MatchOption x.race (RaceFree j) (IsHeardAtRace j)
   pub incoming_long : vec_len x.incoming ≡ length j
-  pub incoming : AreIncoming j x.incoming.items
+  pub incoming : AreIncomingNews j x.incoming.items
   pub waits_long : vec_len x.waits ≡ s.processors
-  pub waits : AreWaits s.processors j x.waits.items
+  pub waits : AreFinalWaits s.processors j x.waits.items

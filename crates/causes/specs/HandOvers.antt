@@ -20,7 +20,7 @@ pub record AreAllHandOvers (j : List Event) (rows : List (Vec ℕ)) : Type 0 whe
   pub each : (k : ℕ) (row : Vec ℕ) → slice_get rows k ≡ Some row → AreHandOvers j k row.items
 
 -- of the news from number n on (of rising places) these are the last ones: none is up to another, and each is up to one
-pub record AreLastHandOversFrom (j : List Event) (news : List ℕ) (n : ℕ) (places : List ℕ) : Type 0 where
+pub record AreHandOversFrom (j : List Event) (news : List ℕ) (n : ℕ) (places : List ℕ) : Type 0 where
   pub each : (m : ℕ) → Has places m → (x : ℕ) × (slice_get news x ≡ Some m)
   pub last : (m x i : ℕ) → Has places m → slice_get news x ≡ Some i → ¬ HappensBefore j m i
   pub all : (x i : ℕ) → n ≤ x → slice_get news x ≡ Some i → (m : ℕ) × Has places m × UpTo j m i

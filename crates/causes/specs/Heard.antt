@@ -2,7 +2,7 @@
 use Rattle.std.specs.Prelude.{ℕ, ◌≤◌, List, Option, MatchOption}
 use Rattle.journal.specs.declared.event.Event.{Event}
 use Rattle.journal.specs.declared.event.Kind.{Kind}
-use Rattle.journal.specs.Events.{At}
+use Rattle.journal.specs.Events.{EventAt}
 use Rattle.journal.specs.HappensBeforeEdges.{HappensBefore}
 use Rattle.journal.specs.Races.{IsFirstRace}
 use Rattle.journal.specs.WellFormed.{Does}
@@ -13,7 +13,7 @@ abbrev pub HeardNothing : List Event → ℕ → ℕ → Type 0
 HeardNothing j q k = (m : ℕ) (a : Kind) → Does j m q a → ¬ HappensBefore j m k
 
 -- q's event at place i happens before place k, and no later one of q does
-pub record IsLastHeard (j : List Event) (q k i : ℕ) : Type 0 where
+pub record IsHeardAt (j : List Event) (q k i : ℕ) : Type 0 where
   pub kind : Kind
   pub does : Does j i q kind
   pub before : HappensBefore j i k
@@ -21,9 +21,9 @@ pub record IsLastHeard (j : List Event) (q k i : ℕ) : Type 0 where
 
 -- the last event of q that happens before place k, where there is one
 abbrev pub IsHeard : List Event → ℕ → ℕ → Option ℕ → Type 0
-IsHeard j q k o = MatchOption o (HeardNothing j q k) (IsLastHeard j q k)
+IsHeard j q k o = MatchOption o (HeardNothing j q k) (IsHeardAt j q k)
 
 -- the first race, and the last event of the first one's processor that happens before the second one
-pub record IsFirstRaceTold (j : List Event) (r : FirstRace) : Type 0 where
+pub record IsHeardAtRace (j : List Event) (r : FirstRace) : Type 0 where
   pub race : IsFirstRace j r.first r.second
-  pub heard : (e : Event) → At j r.first e → IsHeard j e.processor r.second r.heard
+  pub heard : (e : Event) → EventAt j r.first e → IsHeard j e.processor r.second r.heard

@@ -3,7 +3,7 @@ use Rattle.std.specs.Prelude.{ℕ, ◌≡◌, ◌+◌, ◌<◌, ◌≤◌, ◌�
 use Rattle.std.specs.Global.{Vec}
 use Rattle.base.specs.InOrderOnce.{Has, InOrder}
 use Rattle.journal.specs.declared.event.Event.{Event}
-use Rattle.journal.specs.Events.{At, interval_at}
+use Rattle.journal.specs.Events.{EventAt, event_interval_at}
 use Rattle.journal.specs.HappensBeforeEdges.{HappensBefore}
 use Rattle.journal.specs.Times.{ClosesAt, IsTimeOf}
 use Rattle.causes.specs.declared.step.Step.{Step}
@@ -12,21 +12,21 @@ use Rattle.causes.specs.Edges.{EdgeFromOther}
 -- an edge leads from place i to another processor's event at place k, none of whose earlier events place i happens before
 pub record IsNews (j : List Event) (i k : ℕ) : Type 0 where
   pub leads : EdgeFromOther j i k
-  pub first : (m : ℕ) (f : Event) → m < k → At j m f → f.processor ≡ leads.edge.to.processor → ¬ HappensBefore j i m
+  pub first : (m : ℕ) (f : Event) → m < k → EventAt j m f → f.processor ≡ leads.edge.to.processor → ¬ HappensBefore j i m
 
 -- these are the places that are news to place k, rising
-pub record AreNewsInOrder (j : List Event) (k : ℕ) (places : List ℕ) : Type 0 where
+pub record AreNewsRising (j : List Event) (k : ℕ) (places : List ℕ) : Type 0 where
   pub has : (i : ℕ) → Has places i ↔ IsNews j i k
   pub order : InOrder (λ i m. i < m) places
 
 -- these are the news of the first places
-abbrev pub AreIncoming : List Event → List (Vec ℕ) → Type 0
-AreIncoming j rows = (k : ℕ) (row : Vec ℕ) → slice_get rows k ≡ Some row → AreNewsInOrder j k row.items
+abbrev pub AreIncomingNews : List Event → List (Vec ℕ) → Type 0
+AreIncomingNews j rows = (k : ℕ) (row : Vec ℕ) → slice_get rows k ≡ Some row → AreNewsRising j k row.items
 
 -- the timestamps are those before and after the event at this place
-pub record TimesAroundNews (j : List Event) (x : Step) : Type 0 where
+pub record NewsTimesAround (j : List Event) (x : Step) : Type 0 where
   pub event : Event
-  pub at : At j x.place event
+  pub at : EventAt j x.place event
   pub before : IsTimeOf (take x.place j) event.processor (slice_index x.before)
   pub after : IsTimeOf (take (x.place + 1) j) event.processor (slice_index x.after)
 
@@ -35,5 +35,5 @@ pub record TimesAroundNews (j : List Event) (x : Step) : Type 0 where
 pub record IsNewsOfStep (j : List Event) (x : Step) (q i : ℕ) : Type 0 where
   pub closes : ClosesAt j q i
   pub leads : EdgeFromOther j i x.place
-  pub late : slice_index x.before q ≤ interval_at j q i
-  pub counted : interval_at j q i < slice_index x.after q
+  pub late : slice_index x.before q ≤ event_interval_at j q i
+  pub counted : event_interval_at j q i < slice_index x.after q

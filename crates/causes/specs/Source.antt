@@ -2,7 +2,7 @@
 use Rattle.std.specs.Prelude.{ℕ, ◌≡◌, List, Option, Some, None, slice_get}
 use Rattle.journal.specs.declared.event.Event.{Event}
 use Rattle.journal.specs.declared.event.Kind.TheVariants.{Load}
-use Rattle.journal.specs.ExplainedAnswers.{IsAnswer, LatestStore, Untouched}
+use Rattle.journal.specs.ExplainedAnswers.{IsAnswer, LatestExplainedAnswer, UntouchedExplainedAnswer}
 use Rattle.journal.specs.WellFormed.{Does}
 use Rattle.causes.specs.declared.source.Source.{Source}
 use Rattle.causes.specs.declared.source.Source.TheVariants.{StoreAt, NoStore, Unexplained}
@@ -10,8 +10,8 @@ use Rattle.causes.specs.declared.source.Source.TheVariants.{StoreAt, NoStore, Un
 -- what is said of the source of a load of a at place k that answers v: it is a store of v at this place, which is a
 -- latest one of the load's past; there is none in that past, and v is 0; or v is nothing that the load may answer
 abbrev pub IsSource : List Event → ℕ → ℕ → ℕ → Source → Type 0
-IsSource j k a v (StoreAt i) = (s : LatestStore j k a v) × (s.place ≡ i)
-IsSource j k a v NoStore = (v ≡ 0) × Untouched j k a
+IsSource j k a v (StoreAt i) = (s : LatestExplainedAnswer j k a v) × (s.place ≡ i)
+IsSource j k a v NoStore = (v ≡ 0) × UntouchedExplainedAnswer j k a
 IsSource j k a v Unexplained = ¬ IsAnswer j k a v
 
 -- the load at place k has this source

@@ -2,12 +2,12 @@
 ghost use Rattle.std.specs.Prelude.{◌<◌, ◌≤◌, IfOk, length};
 ghost use Rattle.base.specs.Prelude.{most_processors};
 ghost use Rattle.journal.specs.declared.event.Event.{Event};
-ghost use Rattle.journal.specs.Prelude.{ProcessorsInRange, Race};
-ghost use Rattle.judge.specs.Prelude.{most_in_history};
+ghost use Rattle.journal.specs.Prelude.{EventProcessorsInRange, Race};
+ghost use Rattle.judge.specs.Prelude.{most_in_sized_history};
 ghost use Rattle.causes.specs.Prelude.{IsRaceApart};
 
 use crate::heard::heard;
-use crate::locks::locks_at;
+use crate::lock_holders::locks_of_holder_at;
 use journal::Event;
 use judge::History;
 use std::alloc::{AllocError, Global};
@@ -31,25 +31,25 @@ pub struct RaceApart {
 /// What keeps the two accesses of this race of the events apart, which so many processors made, at most `MOST_PROCESSORS`, with
 /// so many locks. The only error is running out of memory.
 ///
-/// It takes time in the order of the events up to the second access times the processors and the locks.
-pub fn accesses_apart(
+/// It takes time in the order of the events up to the second access times the processors, and of the locks.
+pub fn race_accesses_apart(
     alloc: Global,
     processors: usize,
     locks: usize,
     events: &[Event],
     race: (usize, usize),
 ) -> Result<RaceApart, AllocError>
-    requires few { length events.now ≤ most_in_history }
+    requires few { length events.now ≤ most_in_sized_history }
     requires few_processors { processors ≤ most_processors }
-    requires processors { ProcessorsInRange processors events.now }
+    requires processors { EventProcessorsInRange processors events.now }
     requires race { Race events.now race.0 race.1 }
     ensures { IfOk result (IsRaceApart locks events.now race.0 race.1) }
 {
     let (first, second) = race;
     let by = events[first].processor;
     let heard = heard(alloc, processors, events, by, second)?;
-    let first_locks = locks_at(alloc, events, first, locks)?;
-    let second_locks = locks_at(alloc, events, second, locks)?;
+    let first_locks = locks_of_holder_at(alloc, events, first, locks)?;
+    let second_locks = locks_of_holder_at(alloc, events, second, locks)?;
     Ok(RaceApart {
         first,
         second,
@@ -59,7 +59,7 @@ pub fn accesses_apart(
     })
 }
 
-/// What keeps the two accesses of this race of the history apart, as `accesses_apart` answers it.
+/// What keeps the two accesses of this race of the history apart, as `race_accesses_apart` answers it.
 pub fn race_apart(
     alloc: Global,
     history: &History<'_>,
@@ -69,5 +69,5 @@ pub fn race_apart(
     ensures { IfOk result (IsRaceApart history.now.sizes.locks history.now.events race.0 race.1) }
 {
     let sizes = history.sizes();
-    accesses_apart(alloc, sizes.processors, sizes.locks, history.events(), race)
+    race_accesses_apart(alloc, sizes.processors, sizes.locks, history.events(), race)
 }

@@ -2,13 +2,13 @@
 ghost use Rattle.std.specs.Prelude.{◌≡◌, ℕ, ◌/◌, ◌<◌, ◌≤◌, List, length, take};
 ghost use Rattle.base.specs.Prelude.{most_processors};
 ghost use Rattle.journal.specs.declared.event.Event.{Event};
-ghost use Rattle.journal.specs.PageImages.{FetchesPage};
+ghost use Rattle.journal.specs.PageImages.{FetchesPageImage};
 ghost use Rattle.journal.specs.Sizes.{Sizes as SizesOf};
-ghost use Rattle.judge.specs.Prelude.{TellsGaps, sizes_of};
-ghost use Rattle.causes.specs.Prelude.{IsOriginFetch, IsOriginLaterApplied, IsOriginLookedUp, OriginLastApplied};
+ghost use Rattle.judge.specs.Prelude.{TellsFetchGaps, judged_sizes_of};
+ghost use Rattle.causes.specs.Prelude.{IsFetchedOriginFetch, IsFetchedOriginLaterApplied, IsFetchedOriginLookup, FetchedOriginLastApplied};
 
 use crate::index::Index;
-use crate::stores::StoreRows;
+use crate::store_rows::StoreRows;
 use journal::Clock;
 use judge::Gaps;
 
@@ -39,12 +39,12 @@ pub(crate) struct LookedUp {
 
 /// The last applied of the stores of `by` to the address that the fetch brings.
 fn brought_by(looked: &LookedUp, fetch: &PageFetch, address: usize, by: usize) -> Option<Applied>
-    requires told { (s : SizesOf) × (j : List Event) × IsOriginLookedUp j looked.now × IsOriginFetch s j fetch.now }
+    requires told { (s : SizesOf) × (j : List Event) × IsFetchedOriginLookup j looked.now × IsFetchedOriginFetch s j fetch.now }
     requires address { address < looked.now.stores.addresses }
     requires by { by < most_processors }
-    ensures { (s : SizesOf) (j : List Event) → IsOriginLookedUp j looked.now → IsOriginFetch s j fetch.now
+    ensures { (s : SizesOf) (j : List Event) → IsFetchedOriginLookup j looked.now → IsFetchedOriginFetch s j fetch.now
         → address / s.words ≡ fetch.now.page
-        → OriginLastApplied s j fetch.now.reader address fetch.now.place (λ q. q ≡ by) result }
+        → FetchedOriginLastApplied s j fetch.now.reader address fetch.now.place (λ q. q ≡ by) result }
 {
     if by == fetch.reader {
         return None;
@@ -63,7 +63,7 @@ fn brought_by(looked: &LookedUp, fetch: &PageFetch, address: usize, by: usize) -
 
 /// That of the two which is applied later.
 fn later_brought(one: Option<Applied>, two: Option<Applied>) -> Option<Applied>
-    ensures { IsOriginLaterApplied one two result }
+    ensures { IsFetchedOriginLaterApplied one two result }
 {
     let Some(first) = one else {
         return two;
@@ -78,11 +78,11 @@ fn later_brought(one: Option<Applied>, two: Option<Applied>) -> Option<Applied>
 
 /// The last applied of the stores to the address that the fetch brings.
 pub(crate) fn last_brought(looked: &LookedUp, fetch: &PageFetch, address: usize) -> Option<Applied>
-    requires told { (s : SizesOf) × (j : List Event) × IsOriginLookedUp j looked.now × IsOriginFetch s j fetch.now }
+    requires told { (s : SizesOf) × (j : List Event) × IsFetchedOriginLookup j looked.now × IsFetchedOriginFetch s j fetch.now }
     requires address { address < looked.now.stores.addresses }
-    ensures { (s : SizesOf) (j : List Event) → IsOriginLookedUp j looked.now → IsOriginFetch s j fetch.now
+    ensures { (s : SizesOf) (j : List Event) → IsFetchedOriginLookup j looked.now → IsFetchedOriginFetch s j fetch.now
         → address / s.words ≡ fetch.now.page
-        → OriginLastApplied s j fetch.now.reader address fetch.now.place (λ q. q < most_processors) result }
+        → FetchedOriginLastApplied s j fetch.now.reader address fetch.now.place (λ q. q < most_processors) result }
 {
     let mut last = None;
     for by in 0..16 {
@@ -92,12 +92,12 @@ pub(crate) fn last_brought(looked: &LookedUp, fetch: &PageFetch, address: usize)
 }
 
 /// The fetch of the page by the processor, the event at this place. The gaps tell what stands before it.
-pub(crate) fn fetch_at(gaps: &Gaps, place: usize, reader: usize, page: usize) -> PageFetch
-    requires tells { (j : List Event) × TellsGaps (take place j) gaps.now }
+pub(crate) fn brought_fetch_at(gaps: &Gaps, place: usize, reader: usize, page: usize) -> PageFetch
+    requires tells { (j : List Event) × TellsFetchGaps (take place j) gaps.now }
     requires reader { reader < most_processors }
     requires page { page < gaps.now.sizes.pages }
-    ensures fetch { (j : List Event) → TellsGaps (take place j) gaps.now → place ≤ length j → FetchesPage j place reader page
-        → IsOriginFetch (sizes_of gaps.now.sizes) j result }
+    ensures fetch { (j : List Event) → TellsFetchGaps (take place j) gaps.now → place ≤ length j → FetchesPageImage j place reader page
+        → IsFetchedOriginFetch (judged_sizes_of gaps.now.sizes) j result }
     ensures place { result.place ≡ place }
     ensures reader { result.reader ≡ reader }
     ensures page { result.page ≡ page }

@@ -2,8 +2,8 @@
 ghost use Rattle.std.specs.Prelude.{◌≡◌, ◌↔◌, ◌==◌, ◌&&◌, ◌<◌, ◌≤◌, IsTrue, IfOk, cond, length, take};
 ghost use Rattle.base.specs.Prelude.{most_processors};
 ghost use Rattle.journal.specs.declared.event.Kind.TheVariants.{Release, Set};
-ghost use Rattle.journal.specs.Prelude.{ProcessorsInRange, count_of, is_arrive, is_depart};
-ghost use Rattle.causes.specs.Prelude.{AreEdges, EdgeLeadsOn};
+ghost use Rattle.journal.specs.Prelude.{EventProcessorsInRange, event_count, event_arrives, event_departs};
+ghost use Rattle.causes.specs.Prelude.{AreEdges, EdgeLetsOn};
 
 use base::MOST_PROCESSORS;
 use journal::{Event, Kind};
@@ -11,7 +11,7 @@ use judge::History;
 use std::alloc::{AllocError, Global};
 
 /// Whether it is a release of this lock.
-fn releases(kind: Kind, lock: usize) -> bool
+fn is_edge_release(kind: Kind, lock: usize) -> bool
     ensures { IsTrue result ↔ (kind ≡ Release lock) }
 {
     match kind {
@@ -21,7 +21,7 @@ fn releases(kind: Kind, lock: usize) -> bool
 }
 
 /// Whether it sets this flag.
-pub(crate) fn sets(kind: Kind, flag: usize) -> bool
+pub(crate) fn is_edge_flag_set(kind: Kind, flag: usize) -> bool
     ensures { IsTrue result ↔ (kind ≡ Set flag) }
 {
     match kind {
@@ -31,8 +31,8 @@ pub(crate) fn sets(kind: Kind, flag: usize) -> bool
 }
 
 /// Whether it is an arrival.
-pub(crate) fn arrives(kind: Kind) -> bool
-    ensures { result ≡ is_arrive kind }
+pub(crate) fn is_edge_arrival(kind: Kind) -> bool
+    ensures { result ≡ event_arrives kind }
 {
     match kind {
         Kind::Arrive => true,
@@ -41,15 +41,15 @@ pub(crate) fn arrives(kind: Kind) -> bool
 }
 
 /// One for an arrival, and else none.
-fn arrivals_of(kind: Kind) -> usize
-    ensures { result ≡ cond (is_arrive kind) 1 0 }
+fn edge_arrivals_of(kind: Kind) -> usize
+    ensures { result ≡ cond (event_arrives kind) 1 0 }
 {
-    usize::from(arrives(kind))
+    usize::from(is_edge_arrival(kind))
 }
 
 /// One for a departure of the processor, and else none.
-fn departures_of(event: Event, processor: usize) -> usize
-    ensures { result ≡ cond ((event.processor == processor) && is_depart event.kind) 1 0 }
+fn edge_departures_of(event: Event, processor: usize) -> usize
+    ensures { result ≡ cond ((event.processor == processor) && event_departs event.kind) 1 0 }
 {
     let departs = match event.kind {
         Kind::Depart => true,
@@ -60,25 +60,25 @@ fn departures_of(event: Event, processor: usize) -> usize
 
 /// Whether what `from` is lets on what `to` is, where `arrived` arrivals of the one's processor stand before it and
 /// `departed` departures of the other's.
-pub(crate) fn edge_leads_on(from: Kind, arrived: usize, to: Kind, departed: usize) -> bool
-    ensures { IsTrue result ↔ EdgeLeadsOn from arrived to departed }
+pub(crate) fn edge_lets_on(from: Kind, arrived: usize, to: Kind, departed: usize) -> bool
+    ensures { IsTrue result ↔ EdgeLetsOn from arrived to departed }
 {
     match to {
-        Kind::Acquire(lock) => releases(from, lock),
-        Kind::Await(flag) => sets(from, flag),
-        Kind::Depart => arrives(from) && arrived == departed,
+        Kind::Acquire(lock) => is_edge_release(from, lock),
+        Kind::Await(flag) => is_edge_flag_set(from, flag),
+        Kind::Depart => is_edge_arrival(from) && arrived == departed,
         _ => false,
     }
 }
 
 /// How many departures of the processor stand before this place.
-pub(crate) fn departures_before(events: &[Event], processor: usize, place: usize) -> usize
+pub(crate) fn edge_departures_before(events: &[Event], processor: usize, place: usize) -> usize
     requires { place ≤ length events.now }
-    ensures { result ≡ count_of is_depart (take place events.now) processor }
+    ensures { result ≡ event_count event_departs (take place events.now) processor }
 {
     let mut departed = 0;
     for i in 0..place {
-        departed += departures_of(events[i], processor);
+        departed += edge_departures_of(events[i], processor);
     }
     departed
 }
@@ -95,16 +95,16 @@ pub fn edges(alloc: Global, history: &History<'_>, place: usize) -> Result<Vec<u
 {
     let events = history.events();
     let to = events[place];
-    let departed = departures_before(events, to.processor, place);
+    let departed = edge_departures_before(events, to.processor, place);
     let mut arrivals = [0; MOST_PROCESSORS];
     let mut places = Vec::new(alloc);
     for i in 0..place {
         let from = events[i];
         let arrived = arrivals[from.processor];
-        if from.processor != to.processor && edge_leads_on(from.kind, arrived, to.kind, departed) {
+        if from.processor != to.processor && edge_lets_on(from.kind, arrived, to.kind, departed) {
             places.push(i)?;
         }
-        arrivals[from.processor] = arrived + arrivals_of(from.kind);
+        arrivals[from.processor] = arrived + edge_arrivals_of(from.kind);
     }
     Ok(places)
 }

@@ -3,13 +3,13 @@ ghost use Rattle.std.specs.Prelude.{◌≡◌, ℕ, ◌+◌, ◌*◌, ◌<◌, �
 ghost use Rattle.base.specs.Prelude.{most_processors};
 ghost use Rattle.journal.specs.declared.event.Event.{Event};
 ghost use Rattle.journal.specs.declared.event.Kind.TheVariants.{Fetch};
-ghost use Rattle.journal.specs.Events.{At};
-ghost use Rattle.journal.specs.Prelude.{IsTimeOf, is_taking};
-ghost use Rattle.judge.specs.Prelude.{IsEventInSizes, TellsGaps, most_in_history, sizes_of};
+ghost use Rattle.journal.specs.Events.{EventAt};
+ghost use Rattle.journal.specs.Prelude.{IsTimeOf, event_takes};
+ghost use Rattle.judge.specs.Prelude.{IsEventInSizes, TellsFetchGaps, most_in_sized_history, judged_sizes_of};
 ghost use Rattle.causes.specs.Prelude.{AreAllDues, DuesBelow, AreDues, IsOneOfDues};
 
-use crate::span::{Span, fetch_span, taking_span};
-use crate::takings::takes;
+use crate::span::{Span, span_of_fetch, span_of_taking};
+use crate::taking_events::is_taking_event;
 use journal::{Clock, Event, Kind};
 use judge::{Gaps, History};
 use std::alloc::{AllocError, Global};
@@ -27,13 +27,13 @@ pub struct Due {
 
 /// What there is of the page and the writer in the span.
 fn one_of_dues(gaps: &Gaps, span: &Span, page: usize, writer: usize) -> Option<Due>
-    requires tells { (j : List Event) × TellsGaps j gaps.now × (length j < 2 ^ 22) }
+    requires tells { (j : List Event) × TellsFetchGaps j gaps.now × (length j < 2 ^ 22) }
     requires from { span.now.first ≤ page }
     requires to { page < span.now.end }
     requires page { page < gaps.now.sizes.pages }
     requires writer { writer < most_processors }
-    ensures { (j : List Event) → TellsGaps j gaps.now
-        → IsOneOfDues (sizes_of gaps.now.sizes) j span.now page writer result }
+    ensures { (j : List Event) → TellsFetchGaps j gaps.now
+        → IsOneOfDues (judged_sizes_of gaps.now.sizes) j span.now page writer result }
 {
     if writer == span.reader || span.to[writer] <= span.from[writer] {
         return None;
@@ -51,13 +51,13 @@ fn one_of_dues(gaps: &Gaps, span: &Span, page: usize, writer: usize) -> Option<D
 
 /// Adds what there is of the page in the span.
 fn add_dues(dues: &mut Vec<Due>, gaps: &Gaps, span: &Span, page: usize) -> Result<(), AllocError>
-    requires tells { (j : List Event) × TellsGaps j gaps.now × (length j < 2 ^ 22) }
+    requires tells { (j : List Event) × TellsFetchGaps j gaps.now × (length j < 2 ^ 22) }
     requires from { span.now.first ≤ page }
     requires to { page < span.now.end }
     requires page { page < gaps.now.sizes.pages }
-    ensures { OnOk result ((j : List Event) → TellsGaps j gaps.now
-        → DuesBelow (sizes_of gaps.now.sizes) j span.now (page * most_processors) dues.old.items
-        → DuesBelow (sizes_of gaps.now.sizes) j span.now (page * most_processors + most_processors) dues.new.items) }
+    ensures { OnOk result ((j : List Event) → TellsFetchGaps j gaps.now
+        → DuesBelow (judged_sizes_of gaps.now.sizes) j span.now (page * most_processors) dues.old.items
+        → DuesBelow (judged_sizes_of gaps.now.sizes) j span.now (page * most_processors + most_processors) dues.new.items) }
 {
     for writer in 0..16 {
         if let Some(due) = one_of_dues(gaps, span, page, writer) {
@@ -69,11 +69,11 @@ fn add_dues(dues: &mut Vec<Due>, gaps: &Gaps, span: &Span, page: usize) -> Resul
 
 /// What there is in the span.
 fn dues_in(alloc: Global, gaps: &Gaps, span: &Span) -> Result<Vec<Due>, AllocError>
-    requires tells { (j : List Event) × TellsGaps j gaps.now × (length j < 2 ^ 22) }
+    requires tells { (j : List Event) × TellsFetchGaps j gaps.now × (length j < 2 ^ 22) }
     requires order { span.now.first ≤ span.now.end }
     requires pages { span.now.end ≤ gaps.now.sizes.pages }
-    ensures { IfOk result (λ v. (j : List Event) → TellsGaps j gaps.now
-        → DuesBelow (sizes_of gaps.now.sizes) j span.now (span.now.end * most_processors) v.items) }
+    ensures { IfOk result (λ v. (j : List Event) → TellsFetchGaps j gaps.now
+        → DuesBelow (judged_sizes_of gaps.now.sizes) j span.now (span.now.end * most_processors) v.items) }
 {
     let mut dues = Vec::new(alloc);
     for page in span.first..span.end {
@@ -90,17 +90,17 @@ fn dues_of_fetch(
     place: usize,
     page: usize,
 ) -> Result<Vec<Due>, AllocError>
-    requires few { length events.now ≤ most_in_history }
-    requires tells { TellsGaps (take place events.now) gaps.now }
+    requires few { length events.now ≤ most_in_sized_history }
+    requires tells { TellsFetchGaps (take place events.now) gaps.now }
     requires place { place < length events.now }
-    requires processor { (e : Event) → At events.now place e → e.processor < most_processors }
-    requires fetch { (e : Event) → At events.now place e
+    requires processor { (e : Event) → EventAt events.now place e → e.processor < most_processors }
+    requires fetch { (e : Event) → EventAt events.now place e
         → (w : ℕ) × (r : ℕ) × (d : ℕ) × (e.kind ≡ Fetch w page r d) }
     requires page { page < gaps.now.sizes.pages }
-    ensures { IfOk result (λ v. (e : Event) → At events.now place e
-        → AreDues (sizes_of gaps.now.sizes) events.now place e v.items) }
+    ensures { IfOk result (λ v. (e : Event) → EventAt events.now place e
+        → AreDues (judged_sizes_of gaps.now.sizes) events.now place e v.items) }
 {
-    let span = fetch_span(gaps, events[place].processor, page);
+    let span = span_of_fetch(gaps, events[place].processor, page);
     dues_in(alloc, gaps, &span)
 }
 
@@ -113,17 +113,17 @@ fn dues_of_taking(
     place: usize,
     before: &Clock,
 ) -> Result<Vec<Due>, AllocError>
-    requires few { length events.now ≤ most_in_history }
-    requires tells { TellsGaps (take (place + 1) events.now) gaps.now }
+    requires few { length events.now ≤ most_in_sized_history }
+    requires tells { TellsFetchGaps (take (place + 1) events.now) gaps.now }
     requires place { place < length events.now }
-    requires within { (k : ℕ) (e : Event) → At events.now k e → IsEventInSizes (sizes_of gaps.now.sizes) e }
-    requires takes { (e : Event) → At events.now place e → is_taking e.kind ≡ true }
-    requires before { (e : Event) → At events.now place e
+    requires within { (k : ℕ) (e : Event) → EventAt events.now k e → IsEventInSizes (judged_sizes_of gaps.now.sizes) e }
+    requires takes { (e : Event) → EventAt events.now place e → event_takes e.kind ≡ true }
+    requires before { (e : Event) → EventAt events.now place e
         → IsTimeOf (take place events.now) e.processor (slice_index before.now) }
-    ensures { IfOk result (λ v. (e : Event) → At events.now place e
-        → AreDues (sizes_of gaps.now.sizes) events.now place e v.items) }
+    ensures { IfOk result (λ v. (e : Event) → EventAt events.now place e
+        → AreDues (judged_sizes_of gaps.now.sizes) events.now place e v.items) }
 {
-    let span = taking_span(gaps, events[place].processor, before);
+    let span = span_of_taking(gaps, events[place].processor, before);
     dues_in(alloc, gaps, &span)
 }
 
@@ -135,14 +135,14 @@ fn dues_at(
     events: &[Event],
     place: usize,
 ) -> Result<Vec<Due>, AllocError>
-    requires few { length events.now ≤ most_in_history }
+    requires few { length events.now ≤ most_in_sized_history }
     requires place { place < length events.now }
-    requires within { (k : ℕ) (e : Event) → At events.now k e → IsEventInSizes (sizes_of gaps.old.sizes) e }
-    requires so_far { TellsGaps (take place events.now) gaps.old }
+    requires within { (k : ℕ) (e : Event) → EventAt events.now k e → IsEventInSizes (judged_sizes_of gaps.old.sizes) e }
+    requires so_far { TellsFetchGaps (take place events.now) gaps.old }
     ensures sizes { gaps.new.sizes ≡ gaps.old.sizes }
-    ensures tells { OnOk result (TellsGaps (take (place + 1) events.now) gaps.new) }
-    ensures dues { IfOk result (λ v. (e : Event) → At events.now place e
-        → AreDues (sizes_of gaps.old.sizes) events.now place e v.items) }
+    ensures tells { OnOk result (TellsFetchGaps (take (place + 1) events.now) gaps.new) }
+    ensures dues { IfOk result (λ v. (e : Event) → EventAt events.now place e
+        → AreDues (judged_sizes_of gaps.old.sizes) events.now place e v.items) }
 {
     let event = events[place];
     if let Kind::Fetch { page, .. } = event.kind {
@@ -152,7 +152,7 @@ fn dues_at(
     }
     let before = *gaps.time(event.processor);
     gaps.note(events, place)?;
-    if takes(event.kind) {
+    if is_taking_event(event.kind) {
         dues_of_taking(alloc, gaps, events, place, &before)
     } else {
         Ok(Vec::new(alloc))
@@ -161,11 +161,11 @@ fn dues_at(
 
 /// Takes note of all events, and answers of which records each tells. The gaps tell nothing so far.
 fn all_dues(alloc: Global, gaps: &mut Gaps, events: &[Event]) -> Result<Vec<Vec<Due>>, AllocError>
-    requires few { length events.now ≤ most_in_history }
-    requires within { (k : ℕ) (e : Event) → At events.now k e → IsEventInSizes (sizes_of gaps.old.sizes) e }
-    requires start { TellsGaps [] gaps.old }
+    requires few { length events.now ≤ most_in_sized_history }
+    requires within { (k : ℕ) (e : Event) → EventAt events.now k e → IsEventInSizes (judged_sizes_of gaps.old.sizes) e }
+    requires start { TellsFetchGaps [] gaps.old }
     ensures long { IfOk result (λ v. vec_len v ≡ length events.now) }
-    ensures dues { IfOk result (λ v. AreAllDues (sizes_of gaps.old.sizes) events.now v.items) }
+    ensures dues { IfOk result (λ v. AreAllDues (judged_sizes_of gaps.old.sizes) events.now v.items) }
 {
     let mut rows = Vec::with_capacity(alloc, events.len())?;
     for place in 0..events.len() {
@@ -182,7 +182,7 @@ fn all_dues(alloc: Global, gaps: &mut Gaps, events: &[Event]) -> Result<Vec<Vec<
 /// of the pages times the processors of which it brings news, times the logarithm of the events.
 pub fn dues(alloc: Global, history: &History<'_>) -> Result<Vec<Vec<Due>>, AllocError>
     ensures long { IfOk result (λ v. vec_len v ≡ length history.now.events) }
-    ensures dues { IfOk result (λ v. AreAllDues (sizes_of history.now.sizes) history.now.events v.items) }
+    ensures dues { IfOk result (λ v. AreAllDues (judged_sizes_of history.now.sizes) history.now.events v.items) }
 {
     let mut gaps = Gaps::new(alloc, history.sizes())?;
     all_dues(alloc, &mut gaps, history.events())

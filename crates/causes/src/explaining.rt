@@ -1,15 +1,15 @@
 //! Why the events of a history went as they did, all together.
 ghost use Rattle.std.specs.Prelude.{IfOk};
-ghost use Rattle.judge.specs.Prelude.{sizes_of};
+ghost use Rattle.judge.specs.Prelude.{judged_sizes_of};
 ghost use Rattle.causes.specs.Prelude.{IsExplanation};
 
-use crate::news::incoming;
+use crate::news::incoming_news;
 use crate::origin::{WordOrigin, origins};
 use crate::racing::{FirstRace, race};
-use crate::source::{Source, loads};
-use crate::waiting::{Wait, waits};
+use crate::source::{Source, sources_of_loads};
+use crate::waits_at_end::{Wait, final_waits};
 use judge::History;
-use judge::sources::latest;
+use judge::sources::latest_rows;
 use std::alloc::{AllocError, Global};
 
 /// What is told of a history.
@@ -33,14 +33,14 @@ pub struct Explanation {
 /// What `judge::sources::latest`, `origins`, `loads`, `race`, `incoming` and `waits` tell of the history. The only error is running
 /// out of memory.
 pub fn explain(alloc: Global, history: &History<'_>) -> Result<Explanation, AllocError>
-    ensures { IfOk result (IsExplanation (sizes_of history.now.sizes) history.now.events) }
+    ensures { IfOk result (IsExplanation (judged_sizes_of history.now.sizes) history.now.events) }
 {
     let race = race(alloc, history)?;
-    let latest = latest(alloc, history)?;
+    let latest = latest_rows(alloc, history)?;
     let origins = origins(alloc, history)?;
-    let loads = loads(alloc, history, &latest, &origins)?;
-    let incoming = incoming(alloc, history)?;
-    let waits = waits(alloc, history)?;
+    let loads = sources_of_loads(alloc, history, &latest, &origins)?;
+    let incoming = incoming_news(alloc, history)?;
+    let waits = final_waits(alloc, history)?;
     Ok(Explanation {
         latest,
         origins,

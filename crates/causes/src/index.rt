@@ -2,8 +2,8 @@
 //! each processor closed its intervals.
 ghost use Rattle.std.specs.Prelude.{◌≡◌, ◌==◌, ◌&&◌, ◌+◌, ◌<◌, ◌≤◌, ◌^◌, IfOk, cond, length};
 ghost use Rattle.base.specs.Prelude.{most_processors};
-ghost use Rattle.journal.specs.Prelude.{ProcessorsInRange, is_arrive, is_closing, is_depart};
-ghost use Rattle.judge.specs.Prelude.{most_in_history};
+ghost use Rattle.journal.specs.Prelude.{EventProcessorsInRange, event_arrives, event_closes, event_departs};
+ghost use Rattle.judge.specs.Prelude.{most_in_sized_history};
 ghost use Rattle.causes.specs.Prelude.{AreIndexedClosings, AreIndexedClosingsOf, AreIndexedTurns, IsIndex};
 
 use base::MOST_PROCESSORS;
@@ -27,8 +27,8 @@ pub(crate) struct Index {
 }
 
 /// Whether the event closes an interval of this processor.
-pub(crate) fn closes(event: Event, by: usize) -> bool
-    ensures { result ≡ ((event.processor == by) && is_closing event.kind) }
+pub(crate) fn is_index_closing(event: Event, by: usize) -> bool
+    ensures { result ≡ ((event.processor == by) && event_closes event.kind) }
 {
     let closes = match event.kind {
         Kind::Ask(_) | Kind::Release(_) | Kind::Arrive | Kind::Set(_) | Kind::Watch(_) => true,
@@ -38,11 +38,11 @@ pub(crate) fn closes(event: Event, by: usize) -> bool
 }
 
 /// The turn of a processor's next event, after one of this kind.
-fn turn_after(turn: Turn, kind: Kind) -> Turn
+fn index_turn_after(turn: Turn, kind: Kind) -> Turn
     requires arrived { turn.arrived < 2 ^ 22 }
     requires departed { turn.departed < 2 ^ 22 }
-    ensures arrived { result.arrived ≡ turn.arrived + cond (is_arrive kind) 1 0 }
-    ensures departed { result.departed ≡ turn.departed + cond (is_depart kind) 1 0 }
+    ensures arrived { result.arrived ≡ turn.arrived + cond (event_arrives kind) 1 0 }
+    ensures departed { result.departed ≡ turn.departed + cond (event_departs kind) 1 0 }
 {
     let Turn { arrived, departed } = turn;
     match kind {
@@ -60,8 +60,8 @@ fn turn_after(turn: Turn, kind: Kind) -> Turn
 
 /// The turn of each event.
 fn index_turns(alloc: Global, events: &[Event]) -> Result<Vec<Turn>, AllocError>
-    requires few { length events.now ≤ most_in_history }
-    requires processors { ProcessorsInRange most_processors events.now }
+    requires few { length events.now ≤ most_in_sized_history }
+    requires processors { EventProcessorsInRange most_processors events.now }
     ensures { IfOk result (λ v. AreIndexedTurns events.now v.items) }
 {
     let mut next = [Turn {
@@ -73,7 +73,7 @@ fn index_turns(alloc: Global, events: &[Event]) -> Result<Vec<Turn>, AllocError>
         let event = events[place];
         let turn = next[event.processor];
         turns.push(turn)?;
-        next[event.processor] = turn_after(turn, event.kind);
+        next[event.processor] = index_turn_after(turn, event.kind);
     }
     Ok(turns)
 }
@@ -84,7 +84,7 @@ fn index_closings_of(alloc: Global, events: &[Event], by: usize) -> Result<Vec<u
 {
     let mut places = Vec::new(alloc);
     for place in 0..events.len() {
-        if closes(events[place], by) {
+        if is_index_closing(events[place], by) {
             places.push(place)?;
         }
     }
@@ -104,8 +104,8 @@ fn index_closings(alloc: Global, events: &[Event]) -> Result<Vec<Vec<usize>>, Al
 
 /// What is looked up of this history. The only error is running out of memory.
 pub(crate) fn index_of(alloc: Global, events: &[Event]) -> Result<Index, AllocError>
-    requires few { length events.now ≤ most_in_history }
-    requires processors { ProcessorsInRange most_processors events.now }
+    requires few { length events.now ≤ most_in_sized_history }
+    requires processors { EventProcessorsInRange most_processors events.now }
     ensures { IfOk result (IsIndex events.now) }
 {
     let turns = index_turns(alloc, events)?;

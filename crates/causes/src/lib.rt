@@ -6,9 +6,9 @@
 //! **What contracts see.** `IsSource` of specs/Source says what each source of a load means, `IsHeard` of specs/Heard
 //! which event of another processor is the last one heard of, `EdgeFromOther` of specs/Edges which events have an edge to
 //! one, `IsNews` of specs/News which of these its processor had not heard of, `AreHandOvers` of specs/HandOvers which of
-//! those are the last ones, `IsWay` of specs/Paths what a way along edges is, `AreDues` of specs/Dues which records an event
-//! tells of, `IsOrigin` of specs/Origins from which store the word of a copy comes, `IsEventState` of specs/States what the
-//! protocol's state at an event is, `IsWait` of specs/Waits what each thing
+//! those are the last ones, `IsPathWay` of specs/Paths what a way along edges is, `AreDues` of specs/Dues which records an event
+//! tells of, `IsOrigin` of specs/Origins from which store the word of a copy comes, `IsEventState` of specs/EventStates what the
+//! protocol's state at an event is, `IsFinalWait` of specs/FinalWaits what each thing
 //! that a processor waits for means; all in journal's words of happens-before, latest stores, races, gaps of copies and who
 //! holds a lock. A history is a `judge::History`; it need not be one that a cluster can make.
 //!
@@ -31,45 +31,45 @@
 
 mod apart;
 mod brought;
-mod copies;
+mod closed_records;
 mod edge;
 mod event_dues;
 mod explaining;
-mod handing;
+mod hand_over_lists;
 mod heard;
 mod index;
-mod locks;
+mod lock_holders;
 mod news;
 mod notices;
 mod origin;
 mod part;
 mod racing;
 mod reaching;
-mod records;
 mod source;
 mod span;
-mod state;
+mod stale_and_dirty_pages;
+mod states_of_events;
 mod step;
-mod stores;
-mod takings;
-mod waiting;
+mod store_rows;
+mod taking_events;
+mod waits_at_end;
 mod ways;
 mod written;
 
-pub use apart::{RaceApart, accesses_apart, race_apart};
+pub use apart::{RaceApart, race_accesses_apart, race_apart};
+pub use closed_records::PageRecord;
 pub use edge::edges;
 pub use event_dues::{Due, dues};
 pub use explaining::{Explanation, explain};
-pub use handing::hand_overs;
-pub use locks::locks_held;
-pub use news::incoming;
+pub use hand_over_lists::hand_overs;
+pub use lock_holders::locks_of_holder;
+pub use news::incoming_news;
 pub use notices::WriteNotice;
 pub use origin::{WordOrigin, origins};
 pub use part::Part;
 pub use racing::{FirstRace, race};
-pub use records::PageRecord;
-pub use source::{Source, loads};
-pub use state::{EventState, states};
-pub use waiting::{Wait, waits};
+pub use source::{Source, sources_of_loads};
+pub use states_of_events::{EventState, event_states};
+pub use waits_at_end::{Wait, final_waits};
 pub use ways::{Ways, way};
 pub use written::{WrittenWord, written_words};

@@ -3,19 +3,19 @@ ghost use Rattle.std.specs.Prelude.{◌≡◌, ◌↔◌, ◌⊎◌, ℕ, ◌<�
 ghost use Rattle.base.specs.Prelude.{Has, most_processors};
 ghost use Rattle.base.specs.InOrderOnce.{IsOnce};
 ghost use Rattle.journal.specs.Times.{ClosesAt};
-ghost use Rattle.journal.specs.Prelude.{AreClocks, ProcessorsInRange};
-ghost use Rattle.judge.specs.Prelude.{most_in_history};
-ghost use Rattle.causes.specs.Prelude.{AreIncoming, AreNewsInOrder, AreIndexedTurns, EdgeFromOther, IsIndex, IsNewsOfStep, TimesAroundNews};
+ghost use Rattle.journal.specs.Prelude.{AreClocks, EventProcessorsInRange};
+ghost use Rattle.judge.specs.Prelude.{most_in_sized_history};
+ghost use Rattle.causes.specs.Prelude.{AreIncomingNews, AreNewsRising, AreIndexedTurns, EdgeFromOther, IsIndex, IsNewsOfStep, NewsTimesAround};
 
-use crate::edge::edge_leads_on;
+use crate::edge::edge_lets_on;
 use crate::index::{Index, Turn, index_of};
-use crate::step::{Step, take_step};
-use journal::{Clocks, Event};
+use crate::step::{Step, next_step};
+use journal::{Event, EventClocks};
 use judge::History;
 use std::alloc::{AllocError, Global};
 
 /// Whether an edge leads from the event at the first place to another processor's at the second one.
-pub(crate) fn leads(events: &[Event], turns: &[Turn], from: usize, to: usize) -> bool
+pub(crate) fn is_news_edge(events: &[Event], turns: &[Turn], from: usize, to: usize) -> bool
     requires from { from < length events.now }
     requires to { to < length events.now }
     requires turns { AreIndexedTurns events.now turns.now }
@@ -27,7 +27,7 @@ pub(crate) fn leads(events: &[Event], turns: &[Turn], from: usize, to: usize) ->
         return false;
     }
     from < to
-        && edge_leads_on(
+        && edge_lets_on(
             start.kind,
             turns[from].arrived,
             end.kind,
@@ -45,7 +45,7 @@ fn add_news(
 ) -> Result<(), AllocError>
     requires by { by < most_processors }
     requires index { IsIndex events.now index.now }
-    requires step { TimesAroundNews events.now step.now }
+    requires step { NewsTimesAround events.now step.now }
     ensures has { OnOk result ((i : ℕ)
         → Has places.new.items i ↔ (Has places.old.items i ⊎ IsNewsOfStep events.now step.now by i)) }
     ensures once { OnOk result (IsOnce places.old.items
@@ -53,7 +53,7 @@ fn add_news(
 {
     for number in step.before[by] as usize..step.after[by] as usize {
         let place = index.closings[by][number];
-        if leads(events, &index.turns, place, step.place) {
+        if is_news_edge(events, &index.turns, place, step.place) {
             places.push(place)?;
         }
     }
@@ -67,10 +67,10 @@ fn news(
     index: &Index,
     step: &Step,
 ) -> Result<Vec<usize>, AllocError>
-    requires processors { ProcessorsInRange most_processors events.now }
+    requires processors { EventProcessorsInRange most_processors events.now }
     requires index { IsIndex events.now index.now }
-    requires step { TimesAroundNews events.now step.now }
-    ensures { IfOk result (λ v. AreNewsInOrder events.now step.now.place v.items) }
+    requires step { NewsTimesAround events.now step.now }
+    ensures { IfOk result (λ v. AreNewsRising events.now step.now.place v.items) }
 {
     let mut places = Vec::new(alloc);
     for by in 0..16 {
@@ -83,20 +83,20 @@ fn news(
 /// Of each event its news, where the clocks tell nothing so far.
 fn all_news(
     alloc: Global,
-    clocks: &mut Clocks,
+    clocks: &mut EventClocks,
     events: &[Event],
     index: &Index,
 ) -> Result<Vec<Vec<usize>>, AllocError>
-    requires few { length events.now ≤ most_in_history }
-    requires processors { ProcessorsInRange clocks.old.present events.now }
+    requires few { length events.now ≤ most_in_sized_history }
+    requires processors { EventProcessorsInRange clocks.old.present events.now }
     requires start { AreClocks [] clocks.old }
     requires index { IsIndex events.now index.now }
     ensures long { IfOk result (λ v. vec_len v ≡ length events.now) }
-    ensures news { IfOk result (λ v. AreIncoming events.now v.items) }
+    ensures news { IfOk result (λ v. AreIncomingNews events.now v.items) }
 {
     let mut rows = Vec::with_capacity(alloc, events.len())?;
     for place in 0..events.len() {
-        let step = take_step(clocks, events, place)?;
+        let step = next_step(clocks, events, place)?;
         rows.push(news(alloc, events, index, &step)?)?;
     }
     Ok(rows)
@@ -108,12 +108,12 @@ fn all_news(
 ///
 /// Each event stands at most once among the news of each other processor. So time and memory are in the order of the
 /// number of events times that of processors; each event's news are sorted besides.
-pub fn incoming(alloc: Global, history: &History<'_>) -> Result<Vec<Vec<usize>>, AllocError>
+pub fn incoming_news(alloc: Global, history: &History<'_>) -> Result<Vec<Vec<usize>>, AllocError>
     ensures long { IfOk result (λ v. vec_len v ≡ length history.now.events) }
-    ensures news { IfOk result (λ v. AreIncoming history.now.events v.items) }
+    ensures news { IfOk result (λ v. AreIncomingNews history.now.events v.items) }
 {
     let events = history.events();
     let index = index_of(alloc, events)?;
-    let mut clocks = Clocks::new(alloc, history.sizes().processors)?;
+    let mut clocks = EventClocks::new(alloc, history.sizes().processors)?;
     all_news(alloc, &mut clocks, events, &index)
 }

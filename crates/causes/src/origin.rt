@@ -1,17 +1,17 @@
 //! Where the words of copies come from: of each load, the store whose word stands in its processor's copy.
-ghost use Rattle.std.specs.Prelude.{◌≡◌, ◌^◌, ℕ, ◌+◌, ◌*◌, ◌<◌, ◌≤◌, [], IfOk, List, None, Option, Some, length, slice_get, take, vec_len};
+ghost use Rattle.std.specs.Prelude.{◌≡◌, ℕ, ◌+◌, ◌*◌, ◌<◌, ◌≤◌, [], IfOk, List, None, Option, Some, length, slice_get, take, vec_len};
 ghost use Rattle.base.specs.Prelude.{most_processors};
 ghost use Rattle.journal.specs.declared.event.Event.{Event};
-ghost use Rattle.journal.specs.Events.{At};
+ghost use Rattle.journal.specs.Events.{EventAt};
 ghost use Rattle.journal.specs.Sizes.{Sizes as SizesOf};
-ghost use Rattle.judge.specs.Prelude.{AreSizesJudged, IsEventInSizes, TellsGaps, most_in_history, sizes_of};
+ghost use Rattle.judge.specs.Prelude.{AreJudgedSizes, IsEventInSizes, TellsFetchGaps, most_in_sized_history, judged_sizes_most_addresses, judged_sizes_of};
 ghost use Rattle.causes.specs.declared.origin.WordOrigin.{WordOrigin};
-ghost use Rattle.causes.specs.Prelude.{AreOrigins, AreOriginsBefore, AreOriginsPartFetched, IsOriginFetch};
-ghost use Rattle.causes.specs.Prelude.{IsOriginLookedUp, IsOriginAfter, IsOriginAt};
+ghost use Rattle.causes.specs.Prelude.{AreOrigins, AreOriginsBefore, AreOriginsPartFetched, IsFetchedOriginFetch};
+ghost use Rattle.causes.specs.Prelude.{IsFetchedOriginLookup, IsFetchedOriginAfter, IsOriginAt};
 
-use crate::brought::{Applied, LookedUp, PageFetch, fetch_at, last_brought};
+use crate::brought::{Applied, LookedUp, PageFetch, brought_fetch_at, last_brought};
 use crate::index::index_of;
-use crate::stores::StoreRows;
+use crate::store_rows::StoreRows;
 use base::MOST_PROCESSORS;
 use journal::{Event, Kind};
 use judge::{Gaps, History, Sizes};
@@ -33,7 +33,7 @@ fn origin_after(
     place: usize,
     brought: Option<Applied>,
 ) -> Option<WordOrigin>
-    ensures { IsOriginAfter old place brought result }
+    ensures { IsFetchedOriginAfter old place brought result }
 {
     match brought {
         Some(applied) => Some(WordOrigin {
@@ -51,13 +51,13 @@ fn fetch_origins(
     fetch: &PageFetch,
     size: usize,
 )
-    requires told { (s : SizesOf) × (j : List Event) × IsOriginLookedUp j looked.now × IsOriginFetch s j fetch.now
+    requires told { (s : SizesOf) × (j : List Event) × IsFetchedOriginLookup j looked.now × IsFetchedOriginFetch s j fetch.now
         × (s.pages * s.words ≡ looked.now.stores.addresses) × (size ≡ s.words)
         × AreOriginsBefore s j fetch.now.place words.old }
     requires page { fetch.now.page * size + size ≤ looked.now.stores.addresses }
     requires reader { fetch.now.reader < most_processors }
-    requires few { looked.now.stores.addresses ≤ 2 ^ 20 }
-    ensures { (s : SizesOf) (j : List Event) → IsOriginLookedUp j looked.now → IsOriginFetch s j fetch.now → size ≡ s.words
+    requires few { looked.now.stores.addresses ≤ judged_sizes_most_addresses }
+    ensures { (s : SizesOf) (j : List Event) → IsFetchedOriginLookup j looked.now → IsFetchedOriginFetch s j fetch.now → size ≡ s.words
         → AreOriginsBefore s j fetch.now.place words.old
         → AreOriginsPartFetched s j fetch.now.place fetch.now.reader (fetch.now.page * size)
         (fetch.now.page * size + size) words.new }
@@ -74,7 +74,7 @@ fn fetch_origins(
 }
 
 /// Takes note of the event at this place, the next one. The gaps tell what stands before it.
-pub(crate) fn note_origins(
+pub(crate) fn update_origins(
     words: &mut [Option<WordOrigin>],
     looked: &LookedUp,
     gaps: &Gaps,
@@ -83,13 +83,13 @@ pub(crate) fn note_origins(
     size: usize,
 )
     requires place { place < length events.now }
-    requires within { (k : ℕ) (e : Event) → At events.now k e → IsEventInSizes (sizes_of gaps.now.sizes) e }
-    requires tells { TellsGaps (take place events.now) gaps.now }
-    requires looked { IsOriginLookedUp events.now looked.now }
+    requires within { (k : ℕ) (e : Event) → EventAt events.now k e → IsEventInSizes (judged_sizes_of gaps.now.sizes) e }
+    requires tells { TellsFetchGaps (take place events.now) gaps.now }
+    requires looked { IsFetchedOriginLookup events.now looked.now }
     requires addresses { looked.now.stores.addresses ≡ gaps.now.sizes.pages * gaps.now.sizes.words }
     requires size { size ≡ gaps.now.sizes.words }
-    requires so_far { AreOriginsBefore (sizes_of gaps.now.sizes) events.now place words.old }
-    ensures { AreOriginsBefore (sizes_of gaps.now.sizes) events.now (place + 1) words.new }
+    requires so_far { AreOriginsBefore (judged_sizes_of gaps.now.sizes) events.now place words.old }
+    ensures { AreOriginsBefore (judged_sizes_of gaps.now.sizes) events.now (place + 1) words.new }
 {
     let event = events[place];
     match event.kind {
@@ -100,7 +100,7 @@ pub(crate) fn note_origins(
             });
         }
         Kind::Fetch { page, .. } => {
-            let fetch = fetch_at(gaps, place, event.processor, page);
+            let fetch = brought_fetch_at(gaps, place, event.processor, page);
             fetch_origins(words, looked, &fetch, size);
         }
         _ => {}
@@ -111,9 +111,9 @@ pub(crate) fn note_origins(
 fn origin_at(words: &[Option<WordOrigin>], events: &[Event], place: usize) -> Option<WordOrigin>
     requires place { place < length events.now }
     requires so_far { (s : SizesOf) × AreOriginsBefore s events.now place words.now
-        × ((k : ℕ) (e : Event) → At events.now k e → IsEventInSizes s e) × (s.processors ≤ most_processors) }
+        × ((k : ℕ) (e : Event) → EventAt events.now k e → IsEventInSizes s e) × (s.processors ≤ most_processors) }
     ensures { (s : SizesOf) → AreOriginsBefore s events.now place words.now
-        → ((k : ℕ) (e : Event) → At events.now k e → IsEventInSizes s e) → s.processors ≤ most_processors
+        → ((k : ℕ) (e : Event) → EventAt events.now k e → IsEventInSizes s e) → s.processors ≤ most_processors
         → IsOriginAt s events.now place result }
 {
     let event = events[place];
@@ -132,20 +132,20 @@ fn all_origins(
     events: &[Event],
     sizes: Sizes,
 ) -> Result<Vec<Option<WordOrigin>>, AllocError>
-    requires few { length events.now ≤ most_in_history }
-    requires within { (k : ℕ) (e : Event) → At events.now k e → IsEventInSizes (sizes_of sizes) e }
+    requires few { length events.now ≤ most_in_sized_history }
+    requires within { (k : ℕ) (e : Event) → EventAt events.now k e → IsEventInSizes (judged_sizes_of sizes) e }
     requires sizes { gaps.old.sizes ≡ sizes }
-    requires start { TellsGaps [] gaps.old }
-    requires looked { IsOriginLookedUp events.now looked.now }
+    requires start { TellsFetchGaps [] gaps.old }
+    requires looked { IsFetchedOriginLookup events.now looked.now }
     requires addresses { looked.now.stores.addresses ≡ sizes.pages * sizes.words }
-    requires words { AreOriginsBefore (sizes_of sizes) events.now 0 words.old }
+    requires words { AreOriginsBefore (judged_sizes_of sizes) events.now 0 words.old }
     ensures long { IfOk result (λ v. vec_len v ≡ length events.now) }
-    ensures origins { IfOk result (λ v. AreOrigins (sizes_of sizes) events.now v.items) }
+    ensures origins { IfOk result (λ v. AreOrigins (judged_sizes_of sizes) events.now v.items) }
 {
     let mut rows = Vec::with_capacity(alloc, events.len())?;
     for place in 0..events.len() {
         rows.push(origin_at(words, events, place))?;
-        note_origins(words, looked, gaps, events, place, sizes.words);
+        update_origins(words, looked, gaps, events, place, sizes.words);
         gaps.note(events, place)?;
     }
     Ok(rows)
@@ -173,7 +173,7 @@ pub(crate) fn no_origins(alloc: Global, count: usize) -> Result<Vec<Option<WordO
 /// words times the processors times the logarithm of the events.
 pub fn origins(alloc: Global, history: &History<'_>) -> Result<Vec<Option<WordOrigin>>, AllocError>
     ensures long { IfOk result (λ v. vec_len v ≡ length history.now.events) }
-    ensures origins { IfOk result (λ v. AreOrigins (sizes_of history.now.sizes) history.now.events v.items) }
+    ensures origins { IfOk result (λ v. AreOrigins (judged_sizes_of history.now.sizes) history.now.events v.items) }
 {
     let sizes = history.sizes();
     let events = history.events();

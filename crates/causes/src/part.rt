@@ -17,7 +17,7 @@ pub struct Part {
 }
 
 /// Whether the place stands before this end.
-fn is_before(place: usize, end: Option<usize>) -> bool
+fn is_before_part_end(place: usize, end: Option<usize>) -> bool
     ensures { IsTrue result ↔ IfSome end (λ n. place < n) }
 {
     match end {
@@ -45,6 +45,6 @@ impl Part {
         processor < MOST_PROCESSORS
             && self.processors[processor]
             && self.first <= place
-            && is_before(place, self.end)
+            && is_before_part_end(place, self.end)
     }
 }

@@ -2,10 +2,10 @@
 ghost use Rattle.std.specs.Prelude.{◌<◌, ◌≤◌, IfOk, MatchOption, length};
 ghost use Rattle.base.specs.Prelude.{most_processors};
 ghost use Rattle.journal.specs.declared.event.Event.{Event};
-ghost use Rattle.journal.specs.Prelude.{AddressesInRange, ProcessorsInRange};
+ghost use Rattle.journal.specs.Prelude.{EventAddressesInRange, EventProcessorsInRange};
 ghost use Rattle.journal.specs.Prelude.{RaceFree};
-ghost use Rattle.judge.specs.Prelude.{most_in_history};
-ghost use Rattle.causes.specs.Prelude.{IsFirstRaceTold};
+ghost use Rattle.judge.specs.Prelude.{most_in_sized_history};
+ghost use Rattle.causes.specs.Prelude.{IsHeardAtRace};
 
 use crate::heard::heard;
 use journal::first_race_of;
@@ -30,7 +30,7 @@ pub struct FirstRace {
 ///
 /// It takes time as `Journal::first_race` does.
 pub fn race(alloc: Global, history: &History<'_>) -> Result<Option<FirstRace>, AllocError>
-    ensures { IfOk result (λ o. MatchOption o (RaceFree history.now.events) (IsFirstRaceTold history.now.events)) }
+    ensures { IfOk result (λ o. MatchOption o (RaceFree history.now.events) (IsHeardAtRace history.now.events)) }
 {
     let events = history.events();
     let processors = history.sizes().processors;

@@ -2,9 +2,11 @@
 ghost use Rattle.std.specs.Prelude.{◌↔◌, ◌<◌, ◌≤◌, IsTrue, IfOk, length};
 ghost use Rattle.base.specs.Prelude.{most_processors};
 ghost use Rattle.journal.specs.Pasts.{UpTo};
-ghost use Rattle.causes.specs.Prelude.{PathFirstReached, IsPathReach};
+ghost use Rattle.causes.specs.Prelude.{PathEntryIfAny, IsPathLookup};
 
-use crate::takings::{Taking, first_taking_above, numbers_of, takings_of};
+use crate::taking_events::{
+    Taking, first_taking_event_above, taking_event_numbers, taking_events_of,
+};
 use journal::Event;
 use judge::History;
 use std::alloc::{AllocError, Global};
@@ -24,31 +26,31 @@ pub(crate) struct Reach {
 impl Reach {
     /// What is looked up of this history. The only error is running out of memory.
     pub(crate) fn new(alloc: Global, history: &History<'_>) -> Result<Reach, AllocError>
-        ensures { IfOk result (IsPathReach history.now.events) }
+        ensures { IfOk result (IsPathLookup history.now.events) }
     {
         let events = history.events();
-        let numbers = numbers_of(alloc, events)?;
-        let takings = takings_of(alloc, history.sizes().processors, events)?;
+        let numbers = taking_event_numbers(alloc, events)?;
+        let takings = taking_events_of(alloc, history.sizes().processors, events)?;
         Ok(Reach { numbers, takings })
     }
 
     /// The processor's first event that the one at `from` is, or happens before.
     pub(crate) fn first(&self, events: &[Event], from: usize, processor: usize) -> Option<usize>
-        requires tells { IsPathReach events.now self.now }
+        requires tells { IsPathLookup events.now self.now }
         requires from { from < length events.now }
         requires processor { processor < most_processors }
-        ensures { PathFirstReached events.now from processor result }
+        ensures { PathEntryIfAny events.now from processor result }
     {
         let by = events[from].processor;
         if by == processor {
             return Some(from);
         }
-        first_taking_above(&self.takings[processor], by, self.numbers[from])
+        first_taking_event_above(&self.takings[processor], by, self.numbers[from])
     }
 
     /// Whether the event at `from` is the one at this place, or happens before it.
     pub(crate) fn reaches(&self, events: &[Event], from: usize, place: usize) -> bool
-        requires tells { IsPathReach events.now self.now }
+        requires tells { IsPathLookup events.now self.now }
         requires from { from < length events.now }
         requires place { place < length events.now }
         ensures { IsTrue result ↔ UpTo events.now place from }

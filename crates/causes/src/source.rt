@@ -2,11 +2,11 @@
 ghost use Rattle.std.specs.Prelude.{◌≡◌, ◌↔◌, ℕ, IsTrue, IfOk, length, vec_len};
 ghost use Rattle.base.specs.InOrderOnce.{Has};
 ghost use Rattle.journal.specs.declared.event.Kind.TheVariants.{Store};
-ghost use Rattle.journal.specs.Events.{At};
+ghost use Rattle.journal.specs.Events.{EventAt};
 ghost use Rattle.judge.specs.Sources.Latest.{AreLatest};
 ghost use Rattle.judge.specs.Sources.Prelude.{AreLatestRows, IsLatestRow};
-ghost use Rattle.causes.specs.Prelude.{AreSources, IsOriginAmong, IsSource, IsSourceAt, NameOrigins, NamesOrigin};
-ghost use Rattle.causes.specs.Prelude.{NamesOriginAt};
+ghost use Rattle.causes.specs.Prelude.{AreSources, IsOriginAmong, IsSource, IsSourceAt, AreOriginsNamed, IsOriginNamed};
+ghost use Rattle.causes.specs.Prelude.{IsOriginNamedAt};
 
 use crate::origin::WordOrigin;
 use journal::{Event, Kind};
@@ -26,7 +26,7 @@ pub enum Source {
 }
 
 /// Whether the event stores this value.
-fn is_store_of(event: Event, value: u32) -> bool
+fn is_source_of_value(event: Event, value: u32) -> bool
     ensures { IsTrue result ↔ ((a : ℕ) × (event.kind ≡ Store a value)) }
 {
     match event.kind {
@@ -36,7 +36,7 @@ fn is_store_of(event: Event, value: u32) -> bool
 }
 
 /// Whether the place is one of these.
-fn has_place(places: &[usize], place: usize) -> bool
+fn has_source_place(places: &[usize], place: usize) -> bool
     ensures { IsTrue result ↔ Has places.now place }
 {
     for other in places {
@@ -49,7 +49,7 @@ fn has_place(places: &[usize], place: usize) -> bool
 
 /// The store that the word of a load's copy comes from, if that is one of the load's latest stores, which stand at these places,
 /// and stored this value.
-fn origin_among(
+fn source_origin_among(
     events: &[Event],
     places: &[usize],
     value: u32,
@@ -61,10 +61,10 @@ fn origin_among(
     let Some(origin) = origin else {
         return None;
     };
-    if !has_place(places, origin.store) {
+    if !has_source_place(places, origin.store) {
         return None;
     }
-    if !is_store_of(events[origin.store], value) {
+    if !is_source_of_value(events[origin.store], value) {
         return None;
     }
     Some(origin.store)
@@ -77,7 +77,7 @@ fn first_source(events: &[Event], places: &[usize], value: u32) -> Source
     ensures { (k a : ℕ) → AreLatest events.now k a places.now → IsSource events.now k a value result }
 {
     for place in places {
-        if is_store_of(events[*place], value) {
+        if is_source_of_value(events[*place], value) {
             return Source::StoreAt(*place);
         }
     }
@@ -94,9 +94,9 @@ fn source_of(events: &[Event], places: &[usize], value: u32, origin: Option<Word
     requires latest { (k a : ℕ) × AreLatest events.now k a places.now }
     ensures source { (k a : ℕ) → AreLatest events.now k a places.now → IsSource events.now k a value result }
     ensures origin { (k a : ℕ) → AreLatest events.now k a places.now
-        → NamesOrigin events.now k a value origin result }
+        → IsOriginNamed events.now k a value origin result }
 {
-    match origin_among(events, places, value, origin) {
+    match source_origin_among(events, places, value, origin) {
         Some(store) => Source::StoreAt(store),
         None => first_source(events, places, value),
     }
@@ -110,11 +110,11 @@ fn source_at(
     event: Event,
     origin: Option<WordOrigin>,
 ) -> Option<Source>
-    requires row { (k : ℕ) × At events.now k event × IsLatestRow events.now k places.now }
-    ensures source { (k : ℕ) → At events.now k event → IsLatestRow events.now k places.now
+    requires row { (k : ℕ) × EventAt events.now k event × IsLatestRow events.now k places.now }
+    ensures source { (k : ℕ) → EventAt events.now k event → IsLatestRow events.now k places.now
         → IsSourceAt events.now k result }
-    ensures origin { (k : ℕ) → At events.now k event → IsLatestRow events.now k places.now
-        → NamesOriginAt events.now k origin result }
+    ensures origin { (k : ℕ) → EventAt events.now k event → IsLatestRow events.now k places.now
+        → IsOriginNamedAt events.now k origin result }
 {
     match event.kind {
         Kind::Load(_, value) => Some(source_of(events, places, value, origin)),
@@ -128,7 +128,7 @@ fn source_at(
 /// `latest` has of each event the latest stores, as `judge::sources::latest` finds them, and `origins` where the word comes
 /// from that its processor's copy has, as `origins` does. Where several latest stores have the value, the origin is named; if
 /// it is none of them, the first.
-pub fn loads(
+pub fn sources_of_loads(
     alloc: Global,
     history: &History<'_>,
     latest: &[Vec<usize>],
@@ -139,7 +139,7 @@ pub fn loads(
     requires origins_long { length origins.now ≡ length history.now.events }
     ensures long { IfOk result (λ v. vec_len v ≡ length history.now.events) }
     ensures sources { IfOk result (λ v. AreSources history.now.events v.items) }
-    ensures origins { IfOk result (λ v. NameOrigins history.now.events origins.now v.items) }
+    ensures origins { IfOk result (λ v. AreOriginsNamed history.now.events origins.now v.items) }
 {
     let events = history.events();
     let mut sources = Vec::with_capacity(alloc, events.len())?;

@@ -3,7 +3,7 @@ ghost use Rattle.std.specs.Prelude.{◌≡◌, ℕ, ◌+◌, ◌<◌, List, slic
 ghost use Rattle.base.specs.Prelude.{most_processors};
 ghost use Rattle.journal.specs.declared.event.Event.{Event};
 ghost use Rattle.journal.specs.Prelude.{IsTimeOf};
-ghost use Rattle.judge.specs.Prelude.{GapFetchedUpTo, TellsGaps, sizes_of};
+ghost use Rattle.judge.specs.Prelude.{FetchGapBroughtUpTo, TellsFetchGaps, judged_sizes_of};
 
 use journal::Clock;
 use judge::Gaps;
@@ -23,16 +23,16 @@ pub(crate) struct Span {
 }
 
 /// What a fetch of the page by this processor brings, if it comes next.
-pub(crate) fn fetch_span(gaps: &Gaps, reader: usize, page: usize) -> Span
-    requires tells { (j : List Event) × TellsGaps j gaps.now }
+pub(crate) fn span_of_fetch(gaps: &Gaps, reader: usize, page: usize) -> Span
+    requires tells { (j : List Event) × TellsFetchGaps j gaps.now }
     requires reader { reader < most_processors }
     requires page { page < gaps.now.sizes.pages }
     ensures reader { result.reader ≡ reader }
     ensures first { result.first ≡ page }
     ensures end { result.end ≡ page + 1 }
-    ensures from { (j : List Event) → TellsGaps j gaps.now
-        → GapFetchedUpTo (sizes_of gaps.now.sizes) j reader page (slice_index result.from) }
-    ensures to { (j : List Event) → TellsGaps j gaps.now → IsTimeOf j reader (slice_index result.to) }
+    ensures from { (j : List Event) → TellsFetchGaps j gaps.now
+        → FetchGapBroughtUpTo (judged_sizes_of gaps.now.sizes) j reader page (slice_index result.from) }
+    ensures to { (j : List Event) → TellsFetchGaps j gaps.now → IsTimeOf j reader (slice_index result.to) }
 {
     Span {
         reader,
@@ -44,14 +44,14 @@ pub(crate) fn fetch_span(gaps: &Gaps, reader: usize, page: usize) -> Span
 }
 
 /// What this processor, whose timestamp was this, got word of since.
-pub(crate) fn taking_span(gaps: &Gaps, reader: usize, before: &Clock) -> Span
-    requires tells { (j : List Event) × TellsGaps j gaps.now }
+pub(crate) fn span_of_taking(gaps: &Gaps, reader: usize, before: &Clock) -> Span
+    requires tells { (j : List Event) × TellsFetchGaps j gaps.now }
     requires reader { reader < most_processors }
     ensures reader { result.reader ≡ reader }
     ensures first { result.first ≡ 0 }
     ensures end { result.end ≡ gaps.now.sizes.pages }
     ensures from { result.from ≡ before.now }
-    ensures to { (j : List Event) → TellsGaps j gaps.now → IsTimeOf j reader (slice_index result.to) }
+    ensures to { (j : List Event) → TellsFetchGaps j gaps.now → IsTimeOf j reader (slice_index result.to) }
 {
     Span {
         reader,

@@ -3,9 +3,9 @@ ghost use Rattle.std.specs.Prelude.{◌≡◌, ◌↔◌, ℕ, ◌<◌, ◌≤�
 ghost use Rattle.base.specs.Prelude.{most_processors};
 ghost use Rattle.journal.specs.Pasts.{UpTo};
 ghost use Rattle.journal.specs.Prelude.{Edge};
-ghost use Rattle.causes.specs.Prelude.{ArePathWays, EdgeFromOther, PathFirstReached, IsNews, IsWay};
+ghost use Rattle.causes.specs.Prelude.{ArePathWays, EdgeFromOther, PathEntryIfAny, IsNews, IsPathWay};
 
-use crate::handing::hand_overs_by;
+use crate::hand_over_lists::hand_overs_by;
 use crate::reaching::Reach;
 use journal::Event;
 use judge::History;
@@ -36,7 +36,7 @@ impl Ways {
         requires tells { ArePathWays events.now self.now }
         requires from { from < length events.now }
         requires processor { processor < most_processors }
-        ensures { PathFirstReached events.now from processor result }
+        ensures { PathEntryIfAny events.now from processor result }
     {
         self.reach.first(events, from, processor)
     }
@@ -94,7 +94,7 @@ impl Ways {
         requires from { from < length events.now }
         requires to { to < length events.now }
         requires reached { UpTo events.now to from }
-        ensures { IfOk result (λ v. IsWay events.now from to v.items) }
+        ensures { IfOk result (λ v. IsPathWay events.now from to v.items) }
     {
         let Some(before) = self.step_back(events, from, to) else {
             return Ok(vec![in alloc; to]?);
@@ -121,7 +121,7 @@ impl Ways {
         requires from { from < length events.now }
         requires to { to < length events.now }
         ensures found { IfOk result (λ o. IsSome o ↔ UpTo events.now to from) }
-        ensures way { IfOk result (λ o. IfSome o (λ v. IsWay events.now from to v.items)) }
+        ensures way { IfOk result (λ o. IfSome o (λ v. IsPathWay events.now from to v.items)) }
     {
         if !self.reaches(events, from, to) {
             return Ok(None);
@@ -144,7 +144,7 @@ pub fn way(
     requires from { from < length history.now.events }
     requires to { to < length history.now.events }
     ensures found { IfOk result (λ o. IsSome o ↔ UpTo history.now.events to from) }
-    ensures way { IfOk result (λ o. IfSome o (λ v. IsWay history.now.events from to v.items)) }
+    ensures way { IfOk result (λ o. IfSome o (λ v. IsPathWay history.now.events from to v.items)) }
 {
     let ways = Ways::new(alloc, history)?;
     ways.way(alloc, history.events(), from, to)

@@ -1,16 +1,16 @@
 //! Which words of its processor's copies each event writes, and from which stores they are.
-ghost use Rattle.std.specs.Prelude.{◌≡◌, ◌^◌, ℕ, ◌+◌, ◌*◌, ◌<◌, ◌≤◌, [], IfOk, List, length, vec_len};
+ghost use Rattle.std.specs.Prelude.{◌≡◌, ℕ, ◌+◌, ◌*◌, ◌<◌, ◌≤◌, [], IfOk, List, length, vec_len};
 ghost use Rattle.base.specs.Prelude.{most_processors};
 ghost use Rattle.journal.specs.declared.event.Event.{Event};
-ghost use Rattle.journal.specs.Events.{At};
+ghost use Rattle.journal.specs.Events.{EventAt};
 ghost use Rattle.journal.specs.Sizes.{Sizes as SizesOf};
-ghost use Rattle.judge.specs.Prelude.{AreSizesJudged, IsEventInSizes, TellsGaps, most_in_history, sizes_of};
-ghost use Rattle.causes.specs.Prelude.{AreAllWritten, AreOriginsBefore, AreWritten, AreWrittenAmong, IsOriginLookedUp, IsStoreWrittenAt, IsWrittenRange};
+ghost use Rattle.judge.specs.Prelude.{AreJudgedSizes, IsEventInSizes, TellsFetchGaps, most_in_sized_history, judged_sizes_most_addresses, judged_sizes_of};
+ghost use Rattle.causes.specs.Prelude.{AreAllEventWrites, AreOriginsBefore, AreEventWrites, AreEventWritesAmong, IsFetchedOriginLookup, IsEventWriteOfStore, IsEventWriteRange};
 
 use crate::brought::LookedUp;
 use crate::index::index_of;
-use crate::origin::{WordOrigin, no_origins, note_origins};
-use crate::stores::StoreRows;
+use crate::origin::{WordOrigin, no_origins, update_origins};
+use crate::store_rows::StoreRows;
 use base::MOST_PROCESSORS;
 use journal::{Event, Kind};
 use judge::{Gaps, History, Sizes};
@@ -35,11 +35,11 @@ pub(crate) struct WrittenRange {
 
 /// The addresses at which this event may write: that which it stores to, those of the page that it fetches, or none.
 fn written_range(event: Event, sizes: Sizes) -> WrittenRange
-    requires small { AreSizesJudged (sizes_of sizes) }
-    requires within { IsEventInSizes (sizes_of sizes) event }
+    requires small { AreJudgedSizes (judged_sizes_of sizes) }
+    requires within { IsEventInSizes (judged_sizes_of sizes) event }
     ensures within { result.end ≤ sizes.pages * sizes.words }
-    ensures all { (j : List Event) (k : ℕ) → ((m : ℕ) (e : Event) → At j m e → IsEventInSizes (sizes_of sizes) e)
-        → At j k event → IsWrittenRange (sizes_of sizes) j k event.processor result }
+    ensures all { (j : List Event) (k : ℕ) → ((m : ℕ) (e : Event) → EventAt j m e → IsEventInSizes (judged_sizes_of sizes) e)
+        → EventAt j k event → IsEventWriteRange (judged_sizes_of sizes) j k event.processor result }
 {
     match event.kind {
         Kind::Store(address, _) => WrittenRange {
@@ -56,7 +56,7 @@ fn written_range(event: Event, sizes: Sizes) -> WrittenRange
 
 /// The store of a word with this origin, where it was written at this place.
 fn written_store(origin: Option<WordOrigin>, place: usize) -> Option<usize>
-    ensures { IsStoreWrittenAt origin place result }
+    ensures { IsEventWriteOfStore origin place result }
 {
     match origin {
         Some(origin) if origin.write == place => Some(origin.store),
@@ -74,10 +74,10 @@ fn written_among(
     range: WrittenRange,
 ) -> Result<Vec<WrittenWord>, AllocError>
     requires reader { reader < most_processors }
-    requires few { range.end ≤ 2 ^ 20 }
+    requires few { range.end ≤ judged_sizes_most_addresses }
     requires long { range.end * most_processors ≤ length words.now }
     ensures { IfOk result (λ v. (s : SizesOf) (j : List Event) → AreOriginsBefore s j (place + 1) words.now
-        → AreWrittenAmong s j place reader range v.items) }
+        → AreEventWritesAmong s j place reader range v.items) }
 {
     let mut written = Vec::new(alloc);
     for address in range.first..range.end {
@@ -98,10 +98,10 @@ fn written_at(
     sizes: Sizes,
 ) -> Result<Vec<WrittenWord>, AllocError>
     requires place { place < length events.now }
-    requires sizes { AreSizesJudged (sizes_of sizes) }
-    requires within { (k : ℕ) (e : Event) → At events.now k e → IsEventInSizes (sizes_of sizes) e }
-    requires words { AreOriginsBefore (sizes_of sizes) events.now (place + 1) words.now }
-    ensures { IfOk result (λ v. AreWritten (sizes_of sizes) events.now place v.items) }
+    requires sizes { AreJudgedSizes (judged_sizes_of sizes) }
+    requires within { (k : ℕ) (e : Event) → EventAt events.now k e → IsEventInSizes (judged_sizes_of sizes) e }
+    requires words { AreOriginsBefore (judged_sizes_of sizes) events.now (place + 1) words.now }
+    ensures { IfOk result (λ v. AreEventWrites (judged_sizes_of sizes) events.now place v.items) }
 {
     let event = events[place];
     let range = written_range(event, sizes);
@@ -118,19 +118,19 @@ fn all_written(
     events: &[Event],
     sizes: Sizes,
 ) -> Result<Vec<Vec<WrittenWord>>, AllocError>
-    requires few { length events.now ≤ most_in_history }
-    requires within { (k : ℕ) (e : Event) → At events.now k e → IsEventInSizes (sizes_of sizes) e }
+    requires few { length events.now ≤ most_in_sized_history }
+    requires within { (k : ℕ) (e : Event) → EventAt events.now k e → IsEventInSizes (judged_sizes_of sizes) e }
     requires sizes { gaps.old.sizes ≡ sizes }
-    requires start { TellsGaps [] gaps.old }
-    requires looked { IsOriginLookedUp events.now looked.now }
+    requires start { TellsFetchGaps [] gaps.old }
+    requires looked { IsFetchedOriginLookup events.now looked.now }
     requires addresses { looked.now.stores.addresses ≡ sizes.pages * sizes.words }
-    requires words { AreOriginsBefore (sizes_of sizes) events.now 0 words.old }
+    requires words { AreOriginsBefore (judged_sizes_of sizes) events.now 0 words.old }
     ensures long { IfOk result (λ v. vec_len v ≡ length events.now) }
-    ensures written { IfOk result (λ v. AreAllWritten (sizes_of sizes) events.now v.items) }
+    ensures written { IfOk result (λ v. AreAllEventWrites (judged_sizes_of sizes) events.now v.items) }
 {
     let mut rows = Vec::with_capacity(alloc, events.len())?;
     for place in 0..events.len() {
-        note_origins(words, looked, gaps, events, place, sizes.words);
+        update_origins(words, looked, gaps, events, place, sizes.words);
         rows.push(written_at(alloc, words, events, place, sizes)?)?;
         gaps.note(events, place)?;
     }
@@ -149,7 +149,7 @@ pub fn written_words(
     history: &History<'_>,
 ) -> Result<Vec<Vec<WrittenWord>>, AllocError>
     ensures long { IfOk result (λ v. vec_len v ≡ length history.now.events) }
-    ensures written { IfOk result (λ v. AreAllWritten (sizes_of history.now.sizes) history.now.events v.items) }
+    ensures written { IfOk result (λ v. AreAllEventWrites (judged_sizes_of history.now.sizes) history.now.events v.items) }
 {
     let sizes = history.sizes();
     let events = history.events();

@@ -1,7 +1,7 @@
 //! The program, with runs on a cluster handed in.
 ghost use Rattle.std.specs.Prelude.{◌≡◌, ◌≢◌, ◌<◌};
 ghost use Rattle.std.specs.Io.KnownBytes.{Keeps};
-ghost use Rattle.lrc_program.specs.Prelude.{IsNoScript, IsServed, IsServedAsAsked};
+ghost use Rattle.lrc_program.specs.Prelude.{IsServedWithoutScript, IsServed, IsServedAsAsked};
 
 use lrc_options::options::Options;
 use lrc_run::OnCluster;
@@ -25,7 +25,7 @@ pub fn program<R: Threads + Wait + Sync, S: Read, W: Write, E: Write>(
     ensures served { result ≡ 0 → IsServed (IsServedAsAsked (λ _ _ _ _. Unit {0}) (λ _ _ _ _. Unit {0}) (λ _ _ _ _. Unit {0}) options.now)
         options.now.journal (S.remaining source.old) (W.contents out.old) (W.contents out.new) }
     // What is refused as a script is none.
-    ensures refused { result ≡ 2 → IsNoScript (S.remaining source.old) }
+    ensures refused { result ≡ 2 → IsServedWithoutScript (S.remaining source.old) }
     // Except at status 4, a report is written whole or not at all.
     ensures early { result ≢ 0 → result ≢ 4 → Keeps (W.contents out.old) (W.contents out.new) }
     // If it was written, no line goes to the error output.

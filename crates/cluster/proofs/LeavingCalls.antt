@@ -10,33 +10,33 @@ use Rattle.journal.specs.declared.event.Kind.TheVariants.{Load, Fetch}
 use Rattle.journal.specs.DidEvent.{event, did}
 use Rattle.journal.specs.Sizes.{Sizes}
 use Rattle.journal.specs.Log.{Log}
-use Rattle.journal.specs.Events.{At}
+use Rattle.journal.specs.Events.{EventAt}
 use Rattle.journal.specs.ExplainedAnswers.{Explained}
-use Rattle.journal.specs.Counted.{AreCounted}
+use Rattle.journal.specs.FetchesCountGaps.{FetchesCountGaps}
 use Rattle.journal.specs.CopyAnswers.{AnswersCopies}
 use Rattle.journal.proofs.CopyOfPage.LoadAnswers.{load_answers_push}
-use Rattle.journal.proofs.Missing.Counted.{counted_push}
-use Rattle.journal.proofs.Origins.WordOrigins.{origin_answers_push}
+use Rattle.journal.proofs.Missing.GapsCounted.{gaps_counted_push}
+use Rattle.journal.proofs.Origins.WordOrigins.{origin_word_answers_push}
 use Rattle.base.specs.Limits.{most_events}
 use Rattle.base.proofs.SlicesAndCounts.{slice_append_cases, slice_push_cases}
 use Rattle.base.proofs.SliceSets.{slice_get-set_found, slice_get-set_other, slice_get-set_same}
-use Rattle.book.specs.State.{State}
-use Rattle.book.specs.Told.{Represents}
+use Rattle.book.specs.BookState.{BookState}
+use Rattle.book.specs.RepresentedHistory.{Represents}
 use Rattle.book.specs.Transitions.{transition_handed_in}
-use Rattle.book.proofs.Told.Whole.{hand_in_law}
+use Rattle.book.proofs.Told.WholeLaws.{whole_block_law}
 use Rattle.cluster.specs.Copies.Local.{Local}
 use Rattle.cluster.specs.Copies.Sound.{IsSound}
 use Rattle.cluster.specs.declared.keeper.View.{View}
-use Rattle.cluster.specs.KeptViews.{ExtendsView, LockInvariant, KeptWithViews, SeesView, view_added, view_having_seen}
+use Rattle.cluster.specs.KeptViews.{ExtendsView, KeptViewsInvariant, KeptWithViews, SeesKeptView, view_added, view_having_seen}
 use Rattle.cluster.specs.Covers.{IsCovered}
-use Rattle.cluster.specs.Entering.{FindsOnEntering, IsCallOf}
-use Rattle.cluster.specs.Laws.{SeenLaw}
-use Rattle.cluster.proofs.Covering.{covered_on}
-use Rattle.cluster.proofs.Found.{found_may_give}
+use Rattle.cluster.specs.Entering.{FindsOnEntering, IsEnteringCallOf}
+use Rattle.cluster.specs.ClusterHistoryLaws.{ClusterSeenLaw}
+use Rattle.cluster.proofs.CoveringHistories.{covering_history_goes_on}
+use Rattle.cluster.proofs.FoundBook.{found_book_allows_block}
 use Rattle.cluster.proofs.Sums.{sums_by-set_at}
 
-module _ (s : Sizes) (h : List Event) (b : State) (views : List View) (kept : LockInvariant s h b views) (p : ℕ)
-    (es : List Event) (mine : (k : ℕ) (e : Event) → At es k e → e.processor ≡ p) (cut own_cut : ℕ) where
+module _ (s : Sizes) (h : List Event) (b : BookState) (views : List View) (kept : KeptViewsInvariant s h b views) (p : ℕ)
+    (es : List Event) (mine : (k : ℕ) (e : Event) → EventAt es k e → e.processor ≡ p) (cut own_cut : ℕ) where
   -- p has seen all, and for the others it is one of those that went on
   leaving_goes_on : (q : ℕ) (x : View) → slice_get (slice_set views p (view_having_seen s (h ++ es) cut own_cut)) q ≡ Some x
       → ExtendsView s (h ++ es) q x
@@ -78,11 +78,11 @@ module _ (s : Sizes) (h : List Event) (b : State) (views : List View) (kept : Lo
         omega arith)
   ]
 
-  pub leaving_kept_on : (x : View) → slice_get views p ≡ Some x → (c : State) → Represents s (h ++ es) c → Explained (h ++ es)
-      → AreCounted s (h ++ es) → AnswersCopies s (h ++ es) → length c.journal.events ≤ most_events → c.journal.room ≡ b.journal.room
+  pub leaving_kept_on : (x : View) → slice_get views p ≡ Some x → (c : BookState) → Represents s (h ++ es) c → Explained (h ++ es)
+      → FetchesCountGaps s (h ++ es) → AnswersCopies s (h ++ es) → length c.journal.events ≤ most_events → c.journal.room ≡ b.journal.room
       → b.journal.base.cut ≤ c.journal.base.cut → cut ≤ c.journal.base.cut
       → own_cut + b.journal.base.cut ≡ x.own_cut + c.journal.base.cut
-      → LockInvariant s (h ++ es) c (slice_set views p (view_having_seen s (h ++ es) cut own_cut))
+      → KeptViewsInvariant s (h ++ es) c (slice_set views p (view_having_seen s (h ++ es) cut own_cut))
   leaving_kept_on x at c told explained counted copied few room more mine own = record {
     told = told;
     explained = explained;
@@ -104,14 +104,14 @@ module _ (s : Sizes) (h : List Event) (b : State) (views : List View) (kept : Lo
   }
 
 -- what p finds, where the lock's fact holds with what p has seen
-abbrev pub leaving_call_finds : (m : Local) (b : State) (views : List View)
+abbrev pub leaving_call_finds : (m : Local) (b : BookState) (views : List View)
     → slice_get views m.number ≡ Some (view_having_seen m.sizes m.seen m.cut m.own_cut) → KeptWithViews b views → FindsOnEntering m b
 leaving_call_finds m b views at fact =
     let s = fact.0 in
     let h = fact.1 in
     let goes = fact.2.each m.number (view_having_seen m.sizes m.seen m.cut m.own_cut) at in
-    let P : Sizes → Type 0 = λ z. LockInvariant z h b views in
-    let Q : List Event → Type 0 = λ xs. LockInvariant m.sizes xs b views in
+    let P : Sizes → Type 0 = λ z. KeptViewsInvariant z h b views in
+    let Q : List Event → Type 0 = λ xs. KeptViewsInvariant m.sizes xs b views in
     record {
       rest = goes.rest;
       views = views;
@@ -121,21 +121,21 @@ leaving_call_finds m b views at fact =
     }
 
 -- the call keeps the fact
-pub call_kept : (m : Local) (old : State) (es : List Event) (new : State) (call : IsCallOf m old es new)
-    (f : FindsOnEntering m old) → LockInvariant m.sizes ((m.seen ++ f.rest) ++ es) new
+pub leaving_call_kept : (m : Local) (old : BookState) (es : List Event) (new : BookState) (call : IsEnteringCallOf m old es new)
+    (f : FindsOnEntering m old) → KeptViewsInvariant m.sizes ((m.seen ++ f.rest) ++ es) new
     (slice_set f.views m.number
     (view_having_seen m.sizes ((m.seen ++ f.rest) ++ es) new.journal.base.cut (m.own_cut + call.taken)))
-call_kept m old es new call f =
+leaving_call_kept m old es new call f =
     let cuts = call.cuts in
     leaving_kept_on m.sizes (m.seen ++ f.rest) old f.views f.kept m.number es call.mine new.journal.base.cut
     (m.own_cut + call.taken) (view_having_seen m.sizes m.seen m.cut m.own_cut) f.at new (call.told f) (call.explained f)
     (call.counted f) (call.copied f) (call.few f) call.room (omega arith) (omega arith) (omega arith)
 
 -- so p may leave the new book
-pub may_leave : (m : Local) (old : State) (es : List Event) (new : State) → IsCallOf m old es new
+pub leaving_call_may_leave : (m : Local) (old : BookState) (es : List Event) (new : BookState) → IsEnteringCallOf m old es new
     → (views : List View) → slice_get views m.number ≡ Some (view_having_seen m.sizes m.seen m.cut m.own_cut) → KeptWithViews old views
-    → (w : View) × SeesView old new m.number (view_having_seen m.sizes m.seen m.cut m.own_cut) w × KeptWithViews new (slice_set views m.number w)
-may_leave m old es new call views at fact =
+    → (w : View) × SeesKeptView old new m.number (view_having_seen m.sizes m.seen m.cut m.own_cut) w × KeptWithViews new (slice_set views m.number w)
+leaving_call_may_leave m old es new call views at fact =
     let f = leaving_call_finds m old views at fact in
     let h = (m.seen ++ f.rest) ++ es in (
       view_having_seen m.sizes h new.journal.base.cut (m.own_cut + call.taken),
@@ -149,12 +149,12 @@ may_leave m old es new call views at fact =
         cut = refl;
         own_cut = let cuts = call.cuts in omega arith;
       },
-      (m.sizes, h, call_kept m old es new call f),
+      (m.sizes, h, leaving_call_kept m old es new call f),
     )
 
 -- so the longest that was seen is the whole history
-pub seen_law : SeenLaw
-seen_law b views fact = (
+pub leaving_calls_seen_law : ClusterSeenLaw
+leaving_calls_seen_law b views fact = (
   fact.1,
   record {
     holds = fact.2.told.holds;
@@ -172,8 +172,8 @@ leaving_call_adds_nothing : (log : Log) → view_added log log ≡ []
 leaving_call_adds_nothing log = leaving_call_adds_events log log [] (sym (append-nil log.events))
 
 -- a call that changes nothing
-pub call_of_nothing : (m : Local) (b : State) → IsCallOf m b [] b
-call_of_nothing m b = record {
+pub leaving_call_of_nothing : (m : Local) (b : BookState) → IsEnteringCallOf m b [] b
+leaving_call_of_nothing m b = record {
   mine = λ k e at. absurd (none-some e at);
   adds = leaving_call_adds_nothing b.journal;
   room = refl;
@@ -186,24 +186,24 @@ call_of_nothing m b = record {
   cuts = omega arith;
 }
 
-module _ (m : Local) (sound : IsSound m) (b : State) where
+module _ (m : Local) (sound : IsSound m) (b : BookState) where
   leaving_call_covered : (f : FindsOnEntering m b) → IsCovered m (m.seen ++ f.rest)
-  leaving_call_covered f = covered_on m sound f.rest f.away f.kept.told.well_formed f.kept.explained f.kept.counted f.kept.copied
+  leaving_call_covered f = covering_history_goes_on m sound f.rest f.away f.kept.told.well_formed f.kept.explained f.kept.counted f.kept.copied
 
   -- the events that the journal has then are as many
-  leaving_call_few_then : (n : ℕ) (es : List Event) (new : State) → length b.journal.events + n ≤ most_events → length es ≡ n
+  leaving_call_few_then : (n : ℕ) (es : List Event) (new : BookState) → length b.journal.events + n ≤ most_events → length es ≡ n
       → new.journal.events ≡ b.journal.events ++ es → length new.journal.events ≤ most_events
   leaving_call_few_then n es new fits long goes =
       let all = ap length goes in let both = length-append b.journal.events es in omega arith
 
   -- the block is handed in
-  pub call_of_block : length b.journal.events + length m.block ≤ most_events
-      → IsCallOf m b m.block (transition_handed_in b m.block)
-  call_of_block fits = record {
+  pub leaving_call_of_block : length b.journal.events + length m.block ≤ most_events
+      → IsEnteringCallOf m b m.block (transition_handed_in b m.block)
+  leaving_call_of_block fits = record {
     mine = λ k e at. (sound.inner k e at).mine;
     adds = leaving_call_adds_events b.journal (transition_handed_in b m.block).journal m.block refl;
     room = refl;
-    told = λ f. hand_in_law m.sizes (m.seen ++ f.rest) m.block b m.number f.kept.told (found_may_give m sound b f);
+    told = λ f. whole_block_law m.sizes (m.seen ++ f.rest) m.block b m.number f.kept.told (found_book_allows_block m sound b f);
     explained = λ f. (leaving_call_covered f).explained;
     counted = λ f. (leaving_call_covered f).counted;
     copied = λ f. (leaving_call_covered f).copied;
@@ -213,13 +213,13 @@ module _ (m : Local) (sound : IsSound m) (b : State) where
   }
 
   -- the block, and an event after it that is neither a load nor a fetch
-  pub call_of_event : (k : Kind) (new : State) → ((a v : ℕ) → k ≢ Load a v) → ((w n r d : ℕ) → k ≢ Fetch w n r d)
+  pub leaving_call_of_event : (k : Kind) (new : BookState) → ((a v : ℕ) → k ≢ Load a v) → ((w n r d : ℕ) → k ≢ Fetch w n r d)
       → length b.journal.events + length m.block + 1 ≤ most_events
       → new.journal.events ≡ b.journal.events ++ (m.block ++ event m.number k ∷ [])
       → new.journal.room ≡ b.journal.room → new.journal.base.cut ≡ b.journal.base.cut
       → ((f : FindsOnEntering m b) → Represents m.sizes (did ((m.seen ++ f.rest) ++ m.block) m.number k) new)
-      → IsCallOf m b (m.block ++ event m.number k ∷ []) new
-  call_of_event k new no_load no_fetch fits goes room cut told = record {
+      → IsEnteringCallOf m b (m.block ++ event m.number k ∷ []) new
+  leaving_call_of_event k new no_load no_fetch fits goes room cut told = record {
     mine = λ i e at. elim (slice_push_cases m.block (event m.number k) i e at) [
       | inl h ↦ (sound.inner i e h.1).mine
       | inr h ↦ ap (λ (x : Event). x.processor) (sym h.1)
@@ -233,11 +233,11 @@ module _ (m : Local) (sound : IsSound m) (b : State) where
         absurd (no_load a v (ap (λ (x : Event). x.kind) is))));
     counted =
         λ f. rw (← append_assoc (m.seen ++ f.rest) m.block (event m.number k ∷ []))
-        (counted_push m.sizes ((m.seen ++ f.rest) ++ m.block) (event m.number k) (λ p n w r d is.
+        (gaps_counted_push m.sizes ((m.seen ++ f.rest) ++ m.block) (event m.number k) (λ p n w r d is.
         absurd (no_fetch w n r d (ap (λ (x : Event). x.kind) is))) (leaving_call_covered f).counted);
     copied =
         λ f. rw (← append_assoc (m.seen ++ f.rest) m.block (event m.number k ∷ []))
-        (origin_answers_push m.sizes ((m.seen ++ f.rest) ++ m.block) (event m.number k) (λ p a v is.
+        (origin_word_answers_push m.sizes ((m.seen ++ f.rest) ++ m.block) (event m.number k) (λ p a v is.
         no_load a v (ap (λ (x : Event). x.kind) is)) (leaving_call_covered f).copied);
     few =
         λ _. leaving_call_few_then (length m.block + 1) (m.block ++ event m.number k ∷ []) new (omega arith)
@@ -247,13 +247,13 @@ module _ (m : Local) (sound : IsSound m) (b : State) where
   }
 
   -- an event alone that is neither
-  pub call_of_event_alone : (k : Kind) (new : State) → ((a v : ℕ) → k ≢ Load a v)
+  pub leaving_call_of_event_alone : (k : Kind) (new : BookState) → ((a v : ℕ) → k ≢ Load a v)
       → ((w n r d : ℕ) → k ≢ Fetch w n r d) → length b.journal.events + 1 ≤ most_events
       → new.journal.events ≡ b.journal.events ++ event m.number k ∷ [] → new.journal.room ≡ b.journal.room
       → new.journal.base.cut ≡ b.journal.base.cut
       → ((f : FindsOnEntering m b) → Represents m.sizes (did (m.seen ++ f.rest) m.number k) new)
-      → IsCallOf m b (event m.number k ∷ []) new
-  call_of_event_alone k new no_load no_fetch fits goes room cut told = record {
+      → IsEnteringCallOf m b (event m.number k ∷ []) new
+  leaving_call_of_event_alone k new no_load no_fetch fits goes room cut told = record {
     mine = λ i e at. elim (slice_push_cases [] (event m.number k) i e at) [
       | inl h ↦ absurd (none-some e h.1)
       | inr h ↦ ap (λ (x : Event). x.processor) (sym h.1)
@@ -265,10 +265,10 @@ module _ (m : Local) (sound : IsSound m) (b : State) where
         λ f. load_answers_push (m.seen ++ f.rest) (event m.number k) f.kept.explained (λ p a v is.
         absurd (no_load a v (ap (λ (x : Event). x.kind) is)));
     counted =
-        λ f. counted_push m.sizes (m.seen ++ f.rest) (event m.number k) (λ p n w r d is.
+        λ f. gaps_counted_push m.sizes (m.seen ++ f.rest) (event m.number k) (λ p n w r d is.
         absurd (no_fetch w n r d (ap (λ (x : Event). x.kind) is))) f.kept.counted;
     copied =
-        λ f. origin_answers_push m.sizes (m.seen ++ f.rest) (event m.number k) (λ p a v is.
+        λ f. origin_word_answers_push m.sizes (m.seen ++ f.rest) (event m.number k) (λ p a v is.
         no_load a v (ap (λ (x : Event). x.kind) is)) f.kept.copied;
     few = λ _. leaving_call_few_then 1 (event m.number k ∷ []) new fits refl goes;
     taken = 0;

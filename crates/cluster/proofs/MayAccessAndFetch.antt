@@ -8,9 +8,9 @@ use Rattle.page.specs.declared.page.Access.TheVariants.{Valid, Invalid}
 use Rattle.book.specs.declared.refused.Refused.{Refused}
 use Rattle.journal.specs.Sizes.{addresses}
 use Rattle.base.specs.Limits.{most_in_block}
-use Rattle.cluster.specs.Copies.PageReplica.{Copied, may_use_replica}
+use Rattle.cluster.specs.Copies.PageReplica.{PageReplica, may_use_page_replica}
 use Rattle.cluster.specs.Copies.Local.{Local}
-use Rattle.cluster.specs.Refusals.{refusal_copy_serves, refusal_has_valid, refusal_is_waiting, refusal_block_full, access_refusal, fetch_refusal}
+use Rattle.cluster.specs.ProcessorRefusals.{processor_refusal_copy_serves, processor_refusal_has_valid, processor_refusal_is_waiting, processor_refusal_block_full, processor_refusal_of_access, processor_refusal_of_fetch}
 
 -- what becomes of what is there is there
 pub may_access_mapped : {A B : Type 0} (f : A → B) (o : Option A) → is_some (option_map f o) ≡ is_some o
@@ -29,29 +29,29 @@ may_access_unawaited None h = refl
 may_access_unawaited (Some x) h = absurd (cc)
 
 -- a copy that serves is there and valid
-pub may_access_serving : (o : Option Copied) → refusal_copy_serves o ≡ true → (c : Copied) × (o ≡ Some c) × (c.page.access ≡ Valid)
+pub may_access_serving : (o : Option PageReplica) → processor_refusal_copy_serves o ≡ true → (c : PageReplica) × (o ≡ Some c) × (c.page.access ≡ Valid)
 may_access_serving None h = absurd (cc)
 may_access_serving (Some c) h = (c, refl, usable c.page.access h)
   where
-    usable : (a : Access) → may_use_replica a ≡ true → a ≡ Valid
+    usable : (a : Access) → may_use_page_replica a ≡ true → a ≡ Valid
     usable Valid h = refl
     usable Invalid h = absurd (cc)
 
 -- a load or a store at this address is not refused
 pub record MayAccess (m : Local) (a : ℕ) : Type 0 where
   pub within : a < addresses m.sizes
-  pub copy : Copied
+  pub copy : PageReplica
   pub at : slice_get m.copies (a / m.sizes.words) ≡ Some copy
   pub valid : copy.page.access ≡ Valid
   pub idle : m.awaits ≡ None
   pub room : length m.block < most_in_block
 
-pub may_access : (m : Local) (a : ℕ) → access_refusal m a ≡ None → MayAccess m a
+pub may_access : (m : Local) (a : ℕ) → processor_refusal_of_access m a ≡ None → MayAccess m a
 may_access m a none =
     let one = may_access_due_none (nat_le (addresses m.sizes) a) _ _ none in
-    let two = may_access_due_none (not (refusal_has_valid m (a / m.sizes.words))) _ _ one.1 in
-    let three = may_access_due_none (refusal_is_waiting m) _ _ two.1 in
-    let four = may_access_due_none (refusal_block_full m) _ _ three.1 in
+    let two = may_access_due_none (not (processor_refusal_has_valid m (a / m.sizes.words))) _ _ one.1 in
+    let three = may_access_due_none (processor_refusal_is_waiting m) _ _ two.1 in
+    let four = may_access_due_none (processor_refusal_block_full m) _ _ three.1 in
     let found = may_access_serving (slice_get m.copies (a / m.sizes.words)) (not-false _ two.0) in
     record {
       within = leb-false (addresses m.sizes) a one.0;
@@ -63,28 +63,28 @@ may_access m a none =
     }
 
 -- the copy that is read at the address's page is the processor's
-pub access_copy_read : (was m : Local) (a page : ℕ) (x : Copied) → was ≡ m → access_refusal m a ≡ None
+pub may_access_copy_read : (was m : Local) (a page : ℕ) (x : PageReplica) → was ≡ m → processor_refusal_of_access m a ≡ None
     → page ≡ a / m.sizes.words → x ≡ get_or was.copies page x
     → (slice_get m.copies (a / m.sizes.words) ≡ Some x) × (x.page.access ≡ Valid)
-access_copy_read was m a page x same free place read =
+may_access_copy_read was m a page x same free place read =
     let may = may_access m a free in
-    let P : List Copied → ℕ → Type 0 = λ xs k. x ≡ get_or xs k x in
+    let P : List PageReplica → ℕ → Type 0 = λ xs k. x ≡ get_or xs k x in
     let is : x ≡ may.copy =
     subst₂ P (ap (λ (l : Local). l.copies) same) place read
     ∙ get_or_from_slice_get m.copies (a / m.sizes.words) may.copy x may.at in
-    (may.at ∙ ap (λ (c : Copied). Some c) (sym is), ap (λ (c : Copied). c.page.access) is ∙ may.valid)
+    (may.at ∙ ap (λ (c : PageReplica). Some c) (sym is), ap (λ (c : PageReplica). c.page.access) is ∙ may.valid)
 
 -- it has a place among the copies,
-pub access_place_within : (was m : Local) (a page : ℕ) → was ≡ m → access_refusal m a ≡ None → page ≡ a / m.sizes.words
+pub may_access_place_within : (was m : Local) (a page : ℕ) → was ≡ m → processor_refusal_of_access m a ≡ None → page ≡ a / m.sizes.words
     → page < length was.copies
-access_place_within was m a page same free place =
+may_access_place_within was m a page same free place =
     let may = may_access m a free in
     subst₂ (λ (l : Local) (k : ℕ). k < length l.copies) (sym same) (sym place)
     (slice_get_within m.copies (a / m.sizes.words) may.copy may.at)
 
 -- and the open block has room for the event
-pub access_room_within : (was m : Local) (a : ℕ) → was ≡ m → access_refusal m a ≡ None → length was.block < most_in_block
-access_room_within was m a same free =
+pub may_access_room_within : (was m : Local) (a : ℕ) → was ≡ m → processor_refusal_of_access m a ≡ None → length was.block < most_in_block
+may_access_room_within was m a same free =
     subst (λ (l : Local). length l.block < most_in_block) (sym same) (may_access m a free).room
 
 -- a fetch of this page is not refused
@@ -92,14 +92,14 @@ pub record MayFetch (m : Local) (n : ℕ) : Type 0 where
   pub within : n < m.sizes.pages
   pub idle : m.awaits ≡ None
   pub room : length m.block < most_in_block
-  pub invalid : refusal_has_valid m n ≡ false
+  pub invalid : processor_refusal_has_valid m n ≡ false
 
-pub may_fetch : (m : Local) (n : ℕ) → fetch_refusal m n ≡ None → MayFetch m n
+pub may_fetch : (m : Local) (n : ℕ) → processor_refusal_of_fetch m n ≡ None → MayFetch m n
 may_fetch m n none =
     let one = may_access_due_none (nat_le m.sizes.pages n) _ _ none in
-    let two = may_access_due_none (refusal_is_waiting m) _ _ one.1 in
-    let three = may_access_due_none (refusal_block_full m) _ _ two.1 in
-    let four = may_access_due_none (refusal_has_valid m n) _ _ three.1 in
+    let two = may_access_due_none (processor_refusal_is_waiting m) _ _ one.1 in
+    let three = may_access_due_none (processor_refusal_block_full m) _ _ two.1 in
+    let four = may_access_due_none (processor_refusal_has_valid m n) _ _ three.1 in
     record {
       within = leb-false m.sizes.pages n one.0;
       idle = may_access_unawaited m.awaits two.0;
@@ -108,10 +108,10 @@ may_fetch m n none =
     }
 
 -- so the copy is not valid
-pub fetch_stale_copy : (m : Local) (n : ℕ) (c : Copied) → fetch_refusal m n ≡ None → slice_get m.copies n ≡ Some c
+pub may_fetch_stale_copy : (m : Local) (n : ℕ) (c : PageReplica) → processor_refusal_of_fetch m n ≡ None → slice_get m.copies n ≡ Some c
     → c.page.access ≡ Invalid
-fetch_stale_copy m n c free at = unusable c.page.access (ap refusal_copy_serves (sym at) ∙ (may_fetch m n free).invalid)
+may_fetch_stale_copy m n c free at = unusable c.page.access (ap processor_refusal_copy_serves (sym at) ∙ (may_fetch m n free).invalid)
   where
-    unusable : (a : Access) → may_use_replica a ≡ false → a ≡ Invalid
+    unusable : (a : Access) → may_use_page_replica a ≡ false → a ≡ Invalid
     unusable Valid h = absurd (cc)
     unusable Invalid h = refl

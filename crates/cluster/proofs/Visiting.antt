@@ -8,26 +8,26 @@ use Rattle.std.proofs.lemmas.Option.{slice_get_within}
 use Rattle.turn.specs.Chairs.{ChairLockId, lock, chair_view, entries, IsChairInside}
 use Rattle.turn.specs.declared.chair.ChairToken.{ChairToken}
 use Rattle.turn.specs.declared.chair.Held.{Held}
-use Rattle.book.specs.State.{State}
+use Rattle.book.specs.BookState.{BookState}
 use Rattle.cluster.specs.Copies.Local.{Local}
 use Rattle.cluster.specs.Copies.Sound.{IsSound}
 use Rattle.cluster.specs.declared.keeper.View.{View}
-use Rattle.cluster.specs.Seats.{seat_local, IsSeated}
+use Rattle.cluster.specs.SeatedProcessor.{seated_processor, IsChairOfSeatedProcessor}
 use Rattle.cluster.specs.KeptViews.{view_added, view_having_seen}
-use Rattle.cluster.specs.Covers.{IsAllowed}
-use Rattle.cluster.specs.Entering.{FindsOnEntering, FindsBookOnEntering, HasEntered, HasLeftAfterEntering, IsCallOf, IsEnteringChairOf}
-use Rattle.cluster.proofs.LeavingCalls.{leaving_call_finds, call_kept}
+use Rattle.cluster.specs.Covers.{IsCoverAllowed}
+use Rattle.cluster.specs.Entering.{FindsOnEntering, FindsBookOnEntering, HasEntered, HasEnteredAndLeft, IsEnteringCallOf, IsEnteringChairOf}
+use Rattle.cluster.proofs.LeavingCalls.{leaving_call_finds, leaving_call_kept}
 
 -- the processor on this chair
-abbrev pub visiting_processor_on : ChairToken State View → Local → Local
-visiting_processor_on chair m = seat_local chair m.number m.sizes m.block m.copies m.stored m.time m.held m.awaits
+abbrev pub visiting_processor_on : ChairToken BookState View → Local → Local
+visiting_processor_on chair m = seated_processor chair m.number m.sizes m.block m.copies m.stored m.time m.held m.awaits
 
 -- p entered, found this book and left the new one: what its chair tells then
-pub record Visit (m : Local) (b new : State) (after : ChairToken State View) : Type 0 where
+pub record Visit (m : Local) (b new : BookState) (after : ChairToken BookState View) : Type 0 where
   pub sound : IsSound m
   pub some_left : m.entries < m.lock.limit
   pub finds : FindsOnEntering m b
-  pub seated : IsSeated after m.number m.sizes
+  pub seated : IsChairOfSeatedProcessor after m.number m.sizes
   pub same_lock : lock after ≡ m.lock
   pub once_more : entries after ≡ m.entries + 1
   pub seen : (chair_view after).seen ≡ (m.seen ++ finds.rest) ++ view_added b.journal new.journal
@@ -35,11 +35,11 @@ pub record Visit (m : Local) (b new : State) (after : ChairToken State View) : T
   pub own_cut : (chair_view after).own_cut + b.journal.base.cut ≡ m.own_cut + new.journal.base.cut
 
 -- of a book that is left as this one
-pub visit_left_as : {m : Local} {b new last : State} {after : ChairToken State View} → Visit m b new after → new ≡ last
+pub visit_left_as : {m : Local} {b new last : BookState} {after : ChairToken BookState View} → Visit m b new after → new ≡ last
     → Visit m b last after
-visit_left_as {m} {b} {new} {last} {after} v is = subst (λ (n : State). Visit m b n after) is v
+visit_left_as {m} {b} {new} {last} {after} v is = subst (λ (n : BookState). Visit m b n after) is v
 
-module _ {m : Local} {old : ChairToken State View} (sound : IsSound m) (seated : IsSeated old m.number m.sizes)
+module _ {m : Local} {old : ChairToken BookState View} (sound : IsSound m) (seated : IsChairOfSeatedProcessor old m.number m.sizes)
     (is : m ≡ visiting_processor_on old m) where
   -- what the chair has seen is what p has
   pub visit_view_is : chair_view old ≡ view_having_seen m.sizes m.seen m.cut m.own_cut
@@ -49,25 +49,25 @@ module _ {m : Local} {old : ChairToken State View} (sound : IsSound m) (seated :
       (sym (ap (λ (x : Local). x.cut) is))
       ∙ ap (view_having_seen m.sizes m.seen m.cut) (sym (ap (λ (x : Local). x.own_cut) is))
 
-  visiting_chair : {mid : ChairToken State View} {right : Held} {b : State} → HasEntered old mid right b → IsEnteringChairOf m mid
+  visiting_chair : {mid : ChairToken BookState View} {right : Held} {b : BookState} → HasEntered old mid right b → IsEnteringChairOf m mid
   visiting_chair into =
       record { place_is = into.same.1 ∙ seated.place_is; view_is = into.view_is ∙ visit_view_is }
 
   -- the book that it finds
-  pub visited_book_found : (b : State) → FindsBookOnEntering old b → FindsOnEntering m b
-  visited_book_found b stands =
+  pub visit_finds_book : (b : BookState) → FindsBookOnEntering old b → FindsOnEntering m b
+  visit_finds_book b stands =
       let P : ℕ → View → Type 0 = λ k v. slice_get stands.0 k ≡ Some v in
       leaving_call_finds m b stands.0 (subst₂ P seated.place_is visit_view_is stands.1) stands.2
 
   -- a call of p may be given back
-  pub visit_gives_back : {mid : ChairToken State View} {right : Held} {b new : State} → HasEntered old mid right b
-      → ((es : List Event) × IsCallOf m b es new) → (n : Local) × (found : State) × (es : List Event)
-      × IsEnteringChairOf n mid × IsChairInside mid right found × IsCallOf n found es new
+  pub visit_gives_back : {mid : ChairToken BookState View} {right : Held} {b new : BookState} → HasEntered old mid right b
+      → ((es : List Event) × IsEnteringCallOf m b es new) → (n : Local) × (found : BookState) × (es : List Event)
+      × IsEnteringChairOf n mid × IsChairInside mid right found × IsEnteringCallOf n found es new
   visit_gives_back {b = b} into call = (m, b, call.0, visiting_chair into, into.inside, call.1)
 
   -- and it was
-  pub visited : {mid after : ChairToken State View} {right : Held} {b new : State} → HasEntered old mid right b
-      → HasLeftAfterEntering mid after right new → Visit m b new after
+  pub visited : {mid after : ChairToken BookState View} {right : Held} {b new : BookState} → HasEntered old mid right b
+      → HasEnteredAndLeft mid after right new → Visit m b new after
   visited {mid} {b = b} {new} into left =
       let sees = left.seen b into.inside in
       let chair = visiting_chair into in
@@ -115,8 +115,8 @@ visit_telling n t = record n { lock = t.lock_of; entries = t.times; seen = t.his
 visit_same_told : (n : Local) (t u : VisitTelling) → VisitsTellSame t u → visit_telling n t ≡ visit_telling n u
 visit_same_told n t u is = rw (is.lock_is, is.times_are, is.history_is, is.cut_off_is, is.own_cut_off_is) refl
 
-module _ {m : Local} {b new : State} {after : ChairToken State View} (v : Visit m b new after) (es : List Event)
-    (call : IsCallOf m b es new) where
+module _ {m : Local} {b new : BookState} {after : ChairToken BookState View} (v : Visit m b new after) (es : List Event)
+    (call : IsEnteringCallOf m b es new) where
   -- what it has seen then
   abbrev pub visit_seen_then : List Event
   visit_seen_then = (m.seen ++ v.finds.rest) ++ es
@@ -125,7 +125,7 @@ module _ {m : Local} {b new : State} {after : ChairToken State View} (v : Visit 
   visit_own_cut_is = let own = v.own_cut in let cuts = call.cuts in omega arith
 
   -- the processor afterwards, whatever else it changed
-  pub visit_local_after : (n : Local) → n ≡ record (visiting_processor_on after n) { number = m.number; sizes = m.sizes }
+  pub visit_processor_after : (n : Local) → n ≡ record (visiting_processor_on after n) { number = m.number; sizes = m.sizes }
       → n ≡ record n {
         lock = m.lock;
         entries = m.entries + 1;
@@ -135,7 +135,7 @@ module _ {m : Local} {b new : State} {after : ChairToken State View} (v : Visit 
         cut = new.journal.base.cut;
         own_cut = m.own_cut + call.taken;
       }
-  visit_local_after n own =
+  visit_processor_after n own =
       let seen_is = v.seen ∙ ap (λ (xs : List Event). (m.seen ++ v.finds.rest) ++ xs) call.adds in
       let told : VisitTelling = record {
         lock_of = lock after;
@@ -161,7 +161,7 @@ module _ {m : Local} {b new : State} {after : ChairToken State View} (v : Visit 
 
   -- the lock's fact allows what it has seen
   pub visit_allowed_after : (n : Local) → n.number ≡ m.number → n.sizes ≡ m.sizes → n.seen ≡ visit_seen_then
-      → n.cut ≡ new.journal.base.cut → n.own_cut ≡ m.own_cut + call.taken → IsAllowed n
+      → n.cut ≡ new.journal.base.cut → n.own_cut ≡ m.own_cut + call.taken → IsCoverAllowed n
   visit_allowed_after n number sizes seen cut own_cut =
       let f = v.finds in
       let now = view_having_seen m.sizes visit_seen_then new.journal.base.cut (m.own_cut + call.taken) in (
@@ -172,6 +172,6 @@ module _ {m : Local} {b new : State} {after : ChairToken State View} (v : Visit 
           mine =
               rw (number, sizes, seen, cut, own_cut) (slice_get-set_same f.views m.number now
               (slice_get_within f.views m.number (view_having_seen m.sizes m.seen m.cut m.own_cut) f.at));
-          kept = rw sizes (call_kept m b es new call f);
+          kept = rw sizes (leaving_call_kept m b es new call f);
         },
       )

@@ -1,8 +1,8 @@
 pub mod Backlogs
 pub mod PageReplica
-pub mod Counts
+pub mod MissingRecordCounts
 pub mod Local
 pub mod Sound
 pub mod AfterNews
-pub mod MarksAndHarvests
+pub mod MarkedCopiesAndHarvests
 pub mod Prelude

@@ -3,20 +3,20 @@ use Rattle.std.specs.Prelude.{ℕ, ◌≡◌, ◌≢◌, ◌*◌, ◌+◌, ◌<�
 use Rattle.std.specs.List.{flat_map}
 use Rattle.journal.specs.declared.event.Event.{Event}
 use Rattle.journal.specs.Sizes.{Sizes}
-use Rattle.journal.specs.Events.{At, events_of}
+use Rattle.journal.specs.Events.{EventAt, events_of}
 use Rattle.journal.specs.ExplainedAnswers.{Explained}
-use Rattle.journal.specs.Counted.{AreCounted}
+use Rattle.journal.specs.FetchesCountGaps.{FetchesCountGaps}
 use Rattle.journal.specs.CopyAnswers.{AnswersCopies}
 use Rattle.journal.specs.Log.{Log}
 use Rattle.base.specs.Limits.{most_in_block}
 use Rattle.turn.specs.Chairs.{lock, IsChairOutside}
 use Rattle.turn.specs.declared.chair.ChairToken.{ChairToken}
-use Rattle.book.specs.State.{State}
-use Rattle.book.specs.Told.{Represents}
+use Rattle.book.specs.BookState.{BookState}
+use Rattle.book.specs.RepresentedHistory.{Represents}
 use Rattle.cluster.specs.Copies.Local.{Local, calls}
 use Rattle.cluster.specs.Copies.Sound.{IsSound}
 use Rattle.cluster.specs.declared.keeper.View.{View}
-use Rattle.cluster.specs.Clusters.{SharedCluster}
+use Rattle.cluster.specs.NewClusters.{SharedCluster}
 use Rattle.cluster.specs.Entering.{IsEnteringChairOf}
 use Rattle.cluster.specs.FaithfulJournals.{IsFaithful, IsJournalOf}
 
@@ -40,7 +40,7 @@ pub record HasCallsToFinish (h : List Event) (m : Local) : Type 0 where
 pub record IsToFinish (h : List Event) (m : Local) : Type 0 where
   pub rest : List Event
   pub begins : h ≡ m.seen ++ rest
-  pub away : (k : ℕ) (e : Event) → At rest k e → e.processor ≢ m.number
+  pub away : (k : ℕ) (e : Event) → EventAt rest k e → e.processor ≢ m.number
 
 -- the journal holds what is left, after their own cuts took off the rest, of a faithful history with the calls of all
 -- processors, and at its end their open blocks in turn; what stands before these goes on from what each had seen, without it
@@ -53,10 +53,10 @@ pub record IsFinished (s : Sizes) (ms : List Local) (j : Log) : Type 0 where
   pub each : (p : ℕ) (m : Local) → slice_get ms p ≡ Some m → HasCallsToFinish history m
   pub in_turn : (front : List Event) × (history ≡ front ++ flat_map (λ m. m.block) ms)
   pub goes_on : (p : ℕ) (m : Local) → slice_get ms p ≡ Some m → IsToFinish in_turn.0 m
-  pub own : (p : ℕ) (m : Local) → slice_get ms p ≡ Some m → (k : ℕ) (e : Event) → At m.block k e → e.processor ≡ p
+  pub own : (p : ℕ) (m : Local) → slice_get ms p ≡ Some m → (k : ℕ) (e : Event) → EventAt m.block k e → e.processor ≡ p
 
 -- a sound processor was taken apart into its chair and its open block
-pub record IsTakenApartToFinish (m : Local) (c : ChairToken State View) (block : List Event) : Type 0 where
+pub record IsDismantledToFinish (m : Local) (c : ChairToken BookState View) (block : List Event) : Type 0 where
   pub sound : IsSound m
   pub chair : IsEnteringChairOf m c
   pub lock_is : lock c ≡ m.lock
@@ -64,17 +64,17 @@ pub record IsTakenApartToFinish (m : Local) (c : ChairToken State View) (block :
   pub block_is : block ≡ m.block
 
 -- all of them
-pub record AreTakenApartToFinish (ms : List Local) (cs : List (ChairToken State View)) (blocks : List (List Event)) : Type 0 where
+pub record AreDismantledToFinish (ms : List Local) (cs : List (ChairToken BookState View)) (blocks : List (List Event)) : Type 0 where
   pub chairs : length cs ≡ length ms
   pub blocks_are : length blocks ≡ length ms
-  pub each : (p : ℕ) (m : Local) (c : ChairToken State View) (block : List Event) → slice_get ms p ≡ Some m
-      → slice_get cs p ≡ Some c → slice_get blocks p ≡ Some block → IsTakenApartToFinish m c block
+  pub each : (p : ℕ) (m : Local) (c : ChairToken BookState View) (block : List Event) → slice_get ms p ≡ Some m
+      → slice_get cs p ≡ Some c → slice_get blocks p ≡ Some block → IsDismantledToFinish m c block
 
 -- the blocks of the first k processors are handed in
-pub record IsFinishing (s : Sizes) (ms : List Local) (k : ℕ) (h : List Event) (b : State) : Type 0 where
+pub record IsFinishing (s : Sizes) (ms : List Local) (k : ℕ) (h : List Event) (b : BookState) : Type 0 where
   pub told : Represents s h b
   pub explained : Explained h
-  pub counted : AreCounted s h
+  pub counted : FetchesCountGaps s h
   pub copied : AnswersCopies s h
   pub cuts : b.journal.base.cut ≡ sum_by (λ m. m.own_cut) ms
   pub room : most_in_block * length ms ≤ b.journal.room + most_in_block * k

@@ -2,11 +2,11 @@
 ghost use Rattle.std.specs.Prelude.{◌≡◌, ◌≢◌, ◌⊎◌, ◌↔◌, ◌^◌, ◌≤◌, ◌<◌, Err, IfErr, IfOk, IsTrue, ℕ, List, [], length};
 ghost use Rattle.std.specs.Prelude.{vec_len, vec_capacity, slice_get, Some};
 ghost use Rattle.cluster.specs.Copies.Prelude.{AreSoundSizes};
-ghost use Rattle.cluster.specs.Prelude.{AreClusterParts, AreNewClusterChairs, IsClusterSeated, IsNewCluster, IsClusterCovered};
+ghost use Rattle.cluster.specs.Prelude.{AreNewClusterParts, AreNewClusterChairs, IsNewClusterSeated, IsNewCluster, HasClusterCoverage};
 
 mod calls;
 mod catching_up;
-mod closing;
+mod closing_calls;
 mod cutting;
 mod entering;
 mod finishing;
@@ -14,10 +14,10 @@ mod flush_and_audit;
 mod taking;
 mod waiting;
 
-use self::finishing::Spare;
+use self::finishing::FinishingRoom;
 use crate::bells::Bells;
 use crate::keeper::{BookTurn, Rule};
-use crate::processor::{Parts, Processor};
+use crate::processor::{Processor, ProcessorParts};
 use crate::shape::Shape;
 use book::{Book, Refused};
 use std::alloc::{AllocError, Global};
@@ -32,13 +32,13 @@ pub struct Cluster<T: BookTurn> {
     shape: Shape,
     bells: Bells,
     // Behind a mutex since a chair is not `Sync`, though nobody locks it.
-    spare: Mutex<Spare>,
+    spare: Mutex<FinishingRoom>,
 }
 
 impl<T: BookTurn> Model for Cluster<T> {
     ghost use Rattle.std.specs.Prelude.{◌≡◌};
     ghost use Rattle.cluster.specs.Copies.Sound.{AreSoundSizes};
-    ghost use Rattle.cluster.specs.Clusters.{SharedCluster, shared_cluster};
+    ghost use Rattle.cluster.specs.NewClusters.{SharedCluster, shared_cluster};
 
     ghost Value = { SharedCluster };
 
@@ -79,7 +79,7 @@ impl<T: BookTurn> Cluster<T> {
         }) }
         ensures limit { IfOk result (λ r. r.0.lock.limit ≡ T.ENTRIES) }
         ensures new { IfOk result (λ r. IsNewCluster r.0 r.1.items) }
-        ensures covers { IfOk result (λ r. IsClusterCovered r.1.items) }
+        ensures covers { IfOk result (λ r. HasClusterCoverage r.1.items) }
     {
         let shape = Shape {
             processors,
@@ -102,7 +102,7 @@ impl<T: BookTurn> Cluster<T> {
         ensures sizes { IfOk result (λ r. r.0.sizes ≡ shape) }
         ensures limit { IfOk result (λ r. r.0.lock.limit ≡ T.ENTRIES) }
         ensures new { IfOk result (λ r. IsNewCluster r.0 r.1.items) }
-        ensures covers { IfOk result (λ r. IsClusterCovered r.1.items) }
+        ensures covers { IfOk result (λ r. HasClusterCoverage r.1.items) }
     {
         let Shape {
             processors,
@@ -112,8 +112,8 @@ impl<T: BookTurn> Cluster<T> {
             flags,
         } = shape;
         let all = Vec::with_capacity(alloc, processors)?;
-        let parts = parts_of(alloc, shape)?;
-        let spare = Mutex::new(Spare::new(alloc)?);
+        let parts = cluster_parts_of(alloc, shape)?;
+        let spare = Mutex::new(FinishingRoom::new(alloc)?);
         let bells = Bells::new(alloc, processors)?;
         let book = Book::new(alloc, processors, pages, words, locks, flags)?;
         let (turn, chairs) = T::new(alloc, book, processors)?;
@@ -131,15 +131,15 @@ impl<T: BookTurn> Cluster<T> {
     fn seat_all(
         shape: Shape,
         chairs: Vec<Chair<Book, Rule>>,
-        mut parts: Vec<Parts>,
+        mut parts: Vec<ProcessorParts>,
         mut all: Vec<Processor<T>>,
     ) -> Vec<Processor<T>>
         requires sizes { AreSoundSizes shape }
         requires chairs { (vec_len chairs ≡ shape.processors) × AreNewClusterChairs shape chairs.items }
         requires parts { (vec_len parts ≡ shape.processors)
-            × ((p : ℕ) (x : Parts) → slice_get parts.items p ≡ Some x → AreClusterParts shape x) }
+            × ((p : ℕ) (x : ProcessorParts) → slice_get parts.items p ≡ Some x → AreNewClusterParts shape x) }
         requires room { (all.items ≡ []) × (shape.processors ≤ vec_capacity all) }
-        ensures { IsClusterSeated shape chairs.items result.items }
+        ensures { IsNewClusterSeated shape chairs.items result.items }
     {
         for chair in chairs {
             let Some(own) = parts.pop() else {
@@ -152,15 +152,15 @@ impl<T: BookTurn> Cluster<T> {
 }
 
 /// What each processor has before it has a chair.
-fn parts_of(alloc: Global, shape: Shape) -> Result<Vec<Parts>, AllocError>
+fn cluster_parts_of(alloc: Global, shape: Shape) -> Result<Vec<ProcessorParts>, AllocError>
     requires { AreSoundSizes shape }
     ensures long { IfOk result (λ all. vec_len all ≡ shape.processors) }
-    ensures each { IfOk result (λ all. (p : ℕ) (x : Parts) → slice_get all.items p ≡ Some x
-        → AreClusterParts shape x) }
+    ensures each { IfOk result (λ all. (p : ℕ) (x : ProcessorParts) → slice_get all.items p ≡ Some x
+        → AreNewClusterParts shape x) }
 {
     let mut all = Vec::with_capacity(alloc, shape.processors)?;
     for _ in 0..shape.processors {
-        all.push(Parts::new(alloc, shape)?)?;
+        all.push(ProcessorParts::new(alloc, shape)?)?;
     }
     Ok(all)
 }

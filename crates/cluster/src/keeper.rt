@@ -1,5 +1,5 @@
 //! What the book's lock keeps.
-ghost use Rattle.cluster.specs.Prelude.{KeptWithViews, view_of_nothing, view_book_sizes, SeesBeside, SeesView};
+ghost use Rattle.cluster.specs.Prelude.{KeptWithViews, view_of_nothing, view_book_sizes, SeesKeptViewBeside, SeesKeptView};
 
 use crate::shape::Shape;
 use book::Book;
@@ -38,18 +38,18 @@ impl Keeper<Book> for Rule {
 pub(crate) struct Looking;
 
 impl Outcome<Book, View> for Looking {
-    ghost use Rattle.cluster.specs.KeptViews.{SeesView};
+    ghost use Rattle.cluster.specs.KeptViews.{SeesKeptView};
 
-    ghost then = { SeesView };
+    ghost then = { SeesKeptView };
 }
 
 /// Of two processors in one thread's hands: the one has seen all that there is, and so all that the other has.
 pub(crate) struct LookingOver;
 
 impl Lesson<View> for LookingOver {
-    ghost use Rattle.cluster.specs.KeptViews.{SeesBeside};
+    ghost use Rattle.cluster.specs.KeptViews.{SeesKeptViewBeside};
 
-    ghost then = { SeesBeside };
+    ghost then = { SeesKeptViewBeside };
 }
 
 /// A lock round the book, under this crate's rule. A lock of one's own that meets [`Turn`] gets it by an impl with nothing

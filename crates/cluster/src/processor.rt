@@ -6,14 +6,14 @@ ghost use Rattle.std.specs.Option.{option_map};
 ghost use Rattle.std.specs.Result.{result_err};
 ghost use Rattle.base.specs.Prelude.{most_in_block, most_pages};
 ghost use Rattle.turn.specs.Prelude.{lock};
-ghost use Rattle.journal.specs.Prelude.{awaited_kind, closing_kind, event};
-ghost use Rattle.cluster.specs.Copies.Prelude.{blank, DirtyAreMarked, copy_cleaned_after_news, AreSoundSizes, calls, local_noted, new_local};
-ghost use Rattle.cluster.specs.Copies.Prelude.{AreHarvests, held_after};
-ghost use Rattle.cluster.specs.Prelude.{AreClusterParts, IsNewClusterChair, refusal_page_of, refusal_has_valid, refusal_is_waiting, access_refusal};
-ghost use Rattle.cluster.specs.Prelude.{fetch_refusal, event_refusal, arrive_refusal, ask_refusal, release_refusal, flag_refusal};
-ghost use Rattle.cluster.specs.Prelude.{take_refusal, closing_refusal, HasWordToAccess, StoreAccessDone, FetchDone, HasCoverage, IsTakenApartToFinish};
+ghost use Rattle.journal.specs.Prelude.{closing_awaits_kind, closing_kind, event};
+ghost use Rattle.cluster.specs.Copies.Prelude.{blank_local_copy, CopiesToHarvestAreMarked, copy_cleaned_after_news, AreSoundSizes, calls, local_noted, new_local};
+ghost use Rattle.cluster.specs.Copies.Prelude.{AreHarvestsOfCopies, locks_held_after_news};
+ghost use Rattle.cluster.specs.Prelude.{AreNewClusterParts, IsNewClusterChair, processor_refusal_page_of, processor_refusal_has_valid, processor_refusal_is_waiting, processor_refusal_of_access};
+ghost use Rattle.cluster.specs.Prelude.{processor_refusal_of_fetch, processor_refusal_of_event, processor_refusal_of_arrival, processor_refusal_of_ask, processor_refusal_of_release, processor_refusal_of_flag};
+ghost use Rattle.cluster.specs.Prelude.{processor_refusal_of_take, processor_refusal_of_closing, LoadAccessDone, StoreAccessDone, FetchAccessDone, HasCoverage, IsDismantledToFinish};
 
-use crate::copies::{Marks, Replica};
+use crate::copies::{MarkSet, Replica};
 use crate::keeper::{BookTurn, Rule};
 use crate::shape::Shape;
 use base::MOST_IN_BLOCK;
@@ -28,22 +28,22 @@ use vtime::VTime;
 
 /// What a processor has before it has a chair.
 #[derive(Drop)]
-pub(crate) struct Parts {
+pub(crate) struct ProcessorParts {
     pub(crate) block: Vec<Event>,
     pub(crate) replicas: Vec<Replica>,
     pub(crate) held: Vec<bool>,
     pub(crate) time: VTime,
 }
 
-impl Parts {
+impl ProcessorParts {
     /// An open block with room, a zero copy of each page, and a zero timestamp.
-    pub(crate) fn new(alloc: Global, shape: Shape) -> Result<Parts, AllocError>
+    pub(crate) fn new(alloc: Global, shape: Shape) -> Result<ProcessorParts, AllocError>
         requires { AreSoundSizes shape }
-        ensures { IfOk result (λ x. AreClusterParts shape x) }
+        ensures { IfOk result (λ x. AreNewClusterParts shape x) }
     {
-        Ok(Parts {
+        Ok(ProcessorParts {
             block: Vec::with_capacity(alloc, MOST_IN_BLOCK)?,
-            replicas: replicas_of(alloc, shape)?,
+            replicas: processor_copies(alloc, shape)?,
             held: vec![in alloc; false; shape.locks]?,
             time: VTime::zero(alloc, shape.processors),
         })
@@ -51,9 +51,9 @@ impl Parts {
 }
 
 /// A zero copy of each page.
-fn replicas_of(alloc: Global, shape: Shape) -> Result<Vec<Replica>, AllocError>
+fn processor_copies(alloc: Global, shape: Shape) -> Result<Vec<Replica>, AllocError>
     requires { AreSoundSizes shape }
-    ensures { IfOk result (λ all. all.items ≡ replicate shape.pages (blank shape)) }
+    ensures { IfOk result (λ all. all.items ≡ replicate shape.pages (blank_local_copy shape)) }
 {
     let mut replicas = Vec::with_capacity(alloc, shape.pages)?;
     for _ in 0..shape.pages {
@@ -71,7 +71,7 @@ pub struct Processor<T: BookTurn> {
     pub(crate) chair: Chair<Book, Rule>,
     pub(crate) block: Vec<Event>,
     pub(crate) replicas: Vec<Replica>,
-    pub(crate) stored: Marks,
+    pub(crate) stored: MarkSet,
     pub(crate) time: VTime,
     pub(crate) held: Vec<bool>,
     pub(crate) awaits: Option<Awaited>,
@@ -83,21 +83,21 @@ impl<T: BookTurn> Model for Processor<T> {
     ghost use Rattle.std.specs.Option.{option_map};
     ghost use Rattle.turn.specs.Chairs.{lock, chair_view, entries, chair_place, IsChairOutside};
     ghost use Rattle.base.specs.Limits.{most_in_block};
-    ghost use Rattle.journal.specs.Closing.{awaited_kind};
+    ghost use Rattle.journal.specs.ClosingKinds.{closing_awaits_kind};
     ghost use Rattle.cluster.specs.Copies.Local.{Local};
-    ghost use Rattle.cluster.specs.Seats.{seat_local};
+    ghost use Rattle.cluster.specs.SeatedProcessor.{seated_processor};
     ghost use Rattle.cluster.specs.Copies.Sound.{IsSound};
-    ghost use Rattle.cluster.specs.Seats.{IsSeated};
+    ghost use Rattle.cluster.specs.SeatedProcessor.{IsChairOfSeatedProcessor};
 
     ghost Value = { Local };
 
-    ghost view = { λ m. seat_local m.chair m.number m.shape m.block.items m.replicas.items m.stored
-        m.time m.held.items (option_map awaited_kind m.awaits) };
+    ghost view = { λ m. seated_processor m.chair m.number m.shape m.block.items m.replicas.items m.stored
+        m.time m.held.items (option_map closing_awaits_kind m.awaits) };
 
     ghost invariant = { λ m.
-        IsSound (seat_local m.chair m.number m.shape m.block.items m.replicas.items m.stored m.time m.held.items
-        (option_map awaited_kind m.awaits))
-        × IsSeated m.chair m.number m.shape
+        IsSound (seated_processor m.chair m.number m.shape m.block.items m.replicas.items m.stored m.time m.held.items
+        (option_map closing_awaits_kind m.awaits))
+        × IsChairOfSeatedProcessor m.chair m.number m.shape
         × (most_in_block ≤ vec_capacity m.block) };
 }
 
@@ -107,15 +107,15 @@ impl<T: BookTurn> Processor<T> {
         number: usize,
         shape: Shape,
         chair: Chair<Book, Rule>,
-        parts: Parts,
+        parts: ProcessorParts,
     ) -> Processor<T>
         requires sizes { AreSoundSizes shape }
         requires number { number < shape.processors }
         requires chair { IsNewClusterChair (lock chair) shape number chair }
-        requires parts { AreClusterParts shape parts }
+        requires parts { AreNewClusterParts shape parts }
         ensures { result ≡ new_local (lock chair) number shape }
     {
-        let Parts {
+        let ProcessorParts {
             block,
             replicas,
             held,
@@ -127,7 +127,7 @@ impl<T: BookTurn> Processor<T> {
             chair,
             block,
             replicas,
-            stored: Marks::none(),
+            stored: MarkSet::none(),
             time,
             held,
             awaits: None,
@@ -137,7 +137,7 @@ impl<T: BookTurn> Processor<T> {
 
     /// Its chair and its open block, at the end.
     pub(crate) fn into_parts(self) -> (Chair<Book, Rule>, Vec<Event>)
-        ensures { IsTakenApartToFinish self result.0 result.1.items }
+        ensures { IsDismantledToFinish self result.0 result.1.items }
     {
         (self.chair, self.block)
     }
@@ -151,14 +151,14 @@ impl<T: BookTurn> Processor<T> {
 
     /// Its copy of the page: None if that lacks records, or past the last page.
     pub fn page(&self, page: usize) -> Option<&[u32]>
-        ensures { option_map (λ words. words.now) result ≡ refusal_page_of self.now page }
+        ensures { option_map (λ words. words.now) result ≡ processor_refusal_page_of self.now page }
     {
         self.replicas.get(page)?.words()
     }
 
     /// Whether its copy of the page lacks nothing; false past the last page.
     pub fn is_valid(&self, page: usize) -> bool
-        ensures { result ≡ refusal_has_valid self.now page }
+        ensures { result ≡ processor_refusal_has_valid self.now page }
     {
         match self.replicas.get(page) {
             Some(replica) => replica.is_valid(),
@@ -179,7 +179,7 @@ impl<T: BookTurn> Processor<T> {
     /// Whether it has asked, arrived or watched, and not yet taken.
     #[tactic(auto, using(crate::proofs::MayAccessAndFetch::may_access_mapped))]
     pub fn waiting(&self) -> bool
-        ensures { result ≡ refusal_is_waiting self.now }
+        ensures { result ≡ processor_refusal_is_waiting self.now }
     {
         self.awaits.is_some()
     }
@@ -208,9 +208,9 @@ impl<T: BookTurn> Processor<T> {
     /// [`Waiting`](Refused::Waiting) between a call that waits and its take, and
     /// [`BlockFull`](Refused::BlockFull) at 256 events.
     pub fn load(&mut self, address: usize) -> Result<u32, Refused>
-        ensures refused { result_err result ≡ access_refusal self.old address }
+        ensures refused { result_err result ≡ processor_refusal_of_access self.old address }
         ensures err { OnErr result (self.new ≡ self.old) }
-        ensures word { IfOk result (λ v. HasWordToAccess self.old address v) }
+        ensures word { IfOk result (λ v. LoadAccessDone self.old address v) }
         ensures ok { IfOk result (λ v. self.new ≡ local_noted self.old (Kind.Load address v)) }
         ensures calls { IfOk result (λ v. calls self.new
             ≡ calls self.old ++ event self.old.number (Kind.Load address v) ∷ []) }
@@ -228,7 +228,7 @@ impl<T: BookTurn> Processor<T> {
     /// Writes the word at the address in the processor's own copy, and marks it as stored to. It costs what a
     /// load costs, and is refused as a load is.
     pub fn store(&mut self, address: usize, value: u32) -> Result<(), Refused>
-        ensures refused { result_err result ≡ access_refusal self.old address }
+        ensures refused { result_err result ≡ processor_refusal_of_access self.old address }
         ensures err { OnErr result (self.new ≡ self.old) }
         ensures ok { OnOk result (StoreAccessDone self.old address value self.new) }
         ensures calls { OnOk result (calls self.new
@@ -252,9 +252,9 @@ impl<T: BookTurn> Processor<T> {
     /// [`Waiting`](Refused::Waiting), [`BlockFull`](Refused::BlockFull), and
     /// [`AlreadyValid`](Refused::AlreadyValid) if the copy lacks nothing.
     pub fn fetch(&mut self, page: usize) -> Result<(), Refused>
-        ensures refused { result_err result ≡ fetch_refusal self.old page }
+        ensures refused { result_err result ≡ processor_refusal_of_fetch self.old page }
         ensures err { OnErr result (self.new ≡ self.old) }
-        ensures ok { OnOk result (FetchDone self.old page self.new) }
+        ensures ok { OnOk result (FetchAccessDone self.old page self.new) }
         ensures covers { HasCoverage self.new }
     {
         self.admit_fetch(page)?;
@@ -273,7 +273,7 @@ impl<T: BookTurn> Processor<T> {
 
     /// The records of the open interval.
     pub(crate) fn harvest(&self) -> Result<Vec<Arc<Record>>, AllocError>
-        ensures { IfOk result (λ rs. AreHarvests self.now.copies (map arc_value rs.items)) }
+        ensures { IfOk result (λ rs. AreHarvestsOfCopies self.now.copies (map arc_value rs.items)) }
     {
         crate::copies::harvest(
             *self.block.allocator(),
@@ -284,7 +284,7 @@ impl<T: BookTurn> Processor<T> {
 
     /// Whether a fetch of the page may be done.
     fn admit_fetch(&self, page: usize) -> Result<(), Refused>
-        ensures { result_err result ≡ fetch_refusal self.now page }
+        ensures { result_err result ≡ processor_refusal_of_fetch self.now page }
     {
         let Some(replica) = self.replicas.get(page) else {
             return Err(Refused::OutOfRange);
@@ -298,7 +298,7 @@ impl<T: BookTurn> Processor<T> {
 
     /// Whether the open block may have one more event.
     fn admit_event(&self) -> Result<(), Refused>
-        ensures { result_err result ≡ event_refusal self.now }
+        ensures { result_err result ≡ processor_refusal_of_event self.now }
     {
         if self.waiting() {
             return Err(Refused::Waiting);
@@ -311,7 +311,7 @@ impl<T: BookTurn> Processor<T> {
 
     /// Whether the processor may make the call that closes its interval.
     pub(crate) fn admit_closing(&self, closing: Closing) -> Result<(), Refused>
-        ensures { result_err result ≡ closing_refusal self.now (closing_kind closing) }
+        ensures { result_err result ≡ processor_refusal_of_closing self.now (closing_kind closing) }
     {
         match closing {
             Closing::Ask(lock) => self.admit_ask(lock),
@@ -323,7 +323,7 @@ impl<T: BookTurn> Processor<T> {
 
     /// Whether the processor may arrive at the barrier.
     fn admit_arrival(&self) -> Result<(), Refused>
-        ensures { result_err result ≡ arrive_refusal self.now }
+        ensures { result_err result ≡ processor_refusal_of_arrival self.now }
     {
         if self.waiting() {
             Err(Refused::Waiting)
@@ -334,7 +334,7 @@ impl<T: BookTurn> Processor<T> {
 
     /// Whether it may ask for the lock.
     fn admit_ask(&self, lock: usize) -> Result<(), Refused>
-        ensures { result_err result ≡ ask_refusal self.now lock }
+        ensures { result_err result ≡ processor_refusal_of_ask self.now lock }
     {
         if lock >= self.shape.locks {
             Err(Refused::BadLock)
@@ -349,7 +349,7 @@ impl<T: BookTurn> Processor<T> {
 
     /// Whether it may release the lock.
     fn admit_release(&self, lock: usize) -> Result<(), Refused>
-        ensures { result_err result ≡ release_refusal self.now lock }
+        ensures { result_err result ≡ processor_refusal_of_release self.now lock }
     {
         if lock >= self.shape.locks {
             Err(Refused::BadLock)
@@ -364,7 +364,7 @@ impl<T: BookTurn> Processor<T> {
 
     /// Whether it may set the flag, or watch it.
     fn admit_flag(&self, flag: usize) -> Result<(), Refused>
-        ensures { result_err result ≡ flag_refusal self.now flag }
+        ensures { result_err result ≡ processor_refusal_of_flag self.now flag }
     {
         if flag >= self.shape.flags {
             Err(Refused::BadFlag)
@@ -377,8 +377,8 @@ impl<T: BookTurn> Processor<T> {
 
     /// What it waits for.
     pub(crate) fn admit_take(&self) -> Result<Awaited, Refused>
-        ensures test { result_err result ≡ take_refusal self.now }
-        ensures waits { IfOk result (λ awaited. self.now.awaits ≡ Some (awaited_kind awaited)) }
+        ensures test { result_err result ≡ processor_refusal_of_take self.now }
+        ensures waits { IfOk result (λ awaited. self.now.awaits ≡ Some (closing_awaits_kind awaited)) }
     {
         match self.awaits {
             Some(awaited) => Ok(awaited),
@@ -388,7 +388,7 @@ impl<T: BookTurn> Processor<T> {
 
     /// Where the word at the address is, if a load or a store may use it: its page and its offset there.
     fn admit(&self, address: usize) -> Result<(usize, usize), Refused>
-        ensures refused { result_err result ≡ access_refusal self.now address }
+        ensures refused { result_err result ≡ processor_refusal_of_access self.now address }
         ensures place { IfOk result (λ r. (r.0 ≡ address / self.now.sizes.words)
             × (r.1 ≡ address % self.now.sizes.words)) }
     {
@@ -406,8 +406,8 @@ impl<T: BookTurn> Processor<T> {
 }
 
 /// Cleans the copies, and unmarks all pages.
-pub(crate) fn clean(replicas: &mut Vec<Replica>, stored: &mut Marks)
-    requires { DirtyAreMarked replicas.old.items stored.old }
+pub(crate) fn clean(replicas: &mut Vec<Replica>, stored: &mut MarkSet)
+    requires { CopiesToHarvestAreMarked replicas.old.items stored.old }
     ensures copies { replicas.new.items ≡ map copy_cleaned_after_news replicas.old.items }
     ensures stored { stored.new ≡ replicate most_pages false }
 {
@@ -415,19 +415,19 @@ pub(crate) fn clean(replicas: &mut Vec<Replica>, stored: &mut Marks)
 }
 
 /// The locks held after the event: a grant gives one, and a release gives one away.
-pub(crate) fn mark_held(held: &mut Vec<bool>, kind: Kind)
-    ensures { held.new.items ≡ held_after kind held.old.items }
+pub(crate) fn update_held_by_processor(held: &mut Vec<bool>, kind: Kind)
+    ensures { held.new.items ≡ locks_held_after_news kind held.old.items }
 {
     match kind {
-        Kind::Acquire(lock) => mark_lock(held, lock, true),
-        Kind::Release(lock) => mark_lock(held, lock, false),
+        Kind::Acquire(lock) => update_one_held_by_processor(held, lock, true),
+        Kind::Release(lock) => update_one_held_by_processor(held, lock, false),
         _ => {}
     }
 }
 
 /// Says whether the lock is held; past the last lock it does nothing.
 #[tactic(auto, using(std::proofs::lemmas::List::set_past))]
-fn mark_lock(held: &mut Vec<bool>, lock: usize, is_held: bool)
+fn update_one_held_by_processor(held: &mut Vec<bool>, lock: usize, is_held: bool)
     ensures { held.new.items ≡ slice_set held.old.items lock is_held }
 {
     if lock < held.len() {

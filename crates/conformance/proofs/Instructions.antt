@@ -6,7 +6,7 @@ use Rattle.journal.specs.declared.event.Kind.{Kind}
 use Rattle.journal.specs.declared.event.Kind.TheVariants as kind
 use Rattle.lrc_script.specs.declared.script.Instruction.{Instruction}
 use Rattle.lrc_script.specs.declared.script.Instruction.TheVariants.{Load, Store, Add, Acquire, Release, Barrier, Set, Await, Cut}
-use Rattle.conformance.specs.Instructions.{AreEventsOfInstruction, AreEventsOfInstructions}
+use Rattle.conformance.specs.InstructionEvents.{AreEventsOfInstruction, AreEventsOfInstructions}
 use Rattle.conformance.specs.Follows.{is_fetch, load_of, FollowsSection}
 
 -- the events of these instructions, and of those that come after them
@@ -31,10 +31,10 @@ pub instructions-push : (is : List Instruction) (i : Instruction) (xs ks : List 
 instructions-push is i xs ks front last = instructions-append is (i ∷ []) xs ks front (instructions-one i ks last)
 
 -- a section's events, the closing barrier and the loads of what is shown follow the section
-pub follows_section_instructions : (section : List Instruction) (shown : List ℕ) (kinds own : List Kind) (loads : List (ℕ × ℕ))
+pub instructions_follow_section : (section : List Instruction) (shown : List ℕ) (kinds own : List Kind) (loads : List (ℕ × ℕ))
     → AreEventsOfInstructions section own → kinds ≡ own ++ kind.Arrive ∷ kind.Depart ∷ map load_of loads
     → map (λ (x : ℕ × ℕ). x.0) loads ≡ shown → FollowsSection section shown kinds
-follows_section_instructions section shown kinds own loads are is addresses =
+instructions_follow_section section shown kinds own loads are is addresses =
     record { own = own; loads = loads; kinds_are = is; follows = are; addresses_are = addresses }
 
 -- none of these is a fetch

@@ -1,5 +1,5 @@
-pub mod Calls
-pub mod Begins
+pub mod FollowedCalls
+pub mod SectionBegins
 pub mod Instructions
 pub mod Like
 pub mod Script
@@ -8,6 +8,6 @@ pub mod Projections
 pub mod WithoutFetches
 pub mod SameTurns
 pub mod TurnCalls
-pub mod OpenBlocks
+pub mod OpenBlockCalls
 pub mod WantedFetches
-pub mod Schedules
+pub mod SchedulesRead

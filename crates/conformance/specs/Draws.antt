@@ -4,7 +4,7 @@ use Rattle.std.specs.List.{range_with_len}
 use Rattle.rand_core.specs.Pcg32Seed.{pcg32_seed}
 use Rattle.rand_pcg.specs.Lcg.{Lcg}
 use Rattle.rand_pcg.specs.Pcg.{pcg32, pcg32_of_seed}
-use Rattle.conformance.specs.Orders.{ordered}
+use Rattle.conformance.specs.RoundOrders.{round_ordered}
 
 -- the order of the next turn, and the generator then
 pub record Drawing : Type 0 where
@@ -16,7 +16,7 @@ drawing x = record { order = x.0; generator = x.1 }
 
 -- at the start, of n processors
 abbrev pub drawing_of : ℕ → ℕ → Drawing
-drawing_of seed n = drawing (ordered (pcg32_of_seed (pcg32_seed 16 seed)) (range_with_len 0 n))
+drawing_of seed n = drawing (round_ordered (pcg32_of_seed (pcg32_seed 16 seed)) (range_with_len 0 n))
 
 -- whoever stands at this place comes last
 abbrev pub draws_lowered : List ℕ → ℕ → List ℕ
@@ -25,7 +25,7 @@ draws_lowered order place = take place order ++ drop (place + 1) order ++ slice_
 -- after the turn of the processor at this place, of about m turns: a walk draws an order anew; else whoever had the turn
 -- comes last, if a word modulo m is below 3
 abbrev pub next_drawing : Bool → ℕ → ℕ → Drawing → Drawing
-next_drawing walks m place d = cond walks (drawing (ordered d.generator d.order)) (record {
+next_drawing walks m place d = cond walks (drawing (round_ordered d.generator d.order)) (record {
   order = cond (nat_lt ((pcg32 d.generator).0 % m) 3) (draws_lowered d.order place) d.order;
   generator = (pcg32 d.generator).1;
 })

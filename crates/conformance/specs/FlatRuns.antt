@@ -1,10 +1,10 @@
 -- A history with each load's reply, and each value that an add stores, computed again on one flat memory.
 use Rattle.std.specs.Prelude.{ℕ, ◌≡◌, ◌↔◌, false, List, replicate}
 use Rattle.journal.specs.declared.event.Event.{Event}
-use Rattle.journal.specs.Events.{At}
+use Rattle.journal.specs.Events.{EventAt}
 use Rattle.journal.specs.WellFormed.{WellFormed}
 use Rattle.journal.specs.Races.{Race, RaceFree}
-use Rattle.journal.specs.FlatMemory.{Replays}
+use Rattle.journal.specs.ReplayMemory.{Replays}
 use Rattle.lrc_script.specs.Plan.{Plan}
 use Rattle.lrc_script.specs.Lawful.{plan_addresses}
 use Rattle.conformance.specs.Follows.{plan_sizes, is_fetch, Follows}
@@ -24,7 +24,7 @@ pub record IsRecomputedFlat (s : Plan) (h g : List Event) : Type 0 where
 
 -- nothing is fetched in it
 abbrev pub FlatRunHasNoFetch : List Event → Type 0
-FlatRunHasNoFetch g = (i : ℕ) (e : Event) → At g i e → is_fetch e.kind ≡ false
+FlatRunHasNoFetch g = (i : ℕ) (e : Event) → EventAt g i e → is_fetch e.kind ≡ false
 
 -- whatever its order, the script doesn't race on one flat memory, of which nothing is fetched
 abbrev pub NeverRacesFlat : Plan → Type 0

@@ -8,7 +8,7 @@ use Rattle.journal.specs.Events.{events_of}
 use Rattle.journal.specs.Sizes.{Sizes}
 use Rattle.lrc_script.specs.declared.script.Instruction.{Instruction}
 use Rattle.lrc_script.specs.Plan.{Plan}
-use Rattle.conformance.specs.Instructions.{AreEventsOfInstructions}
+use Rattle.conformance.specs.InstructionEvents.{AreEventsOfInstructions}
 
 -- the sizes that a script asks for
 abbrev pub plan_sizes : Plan → Sizes

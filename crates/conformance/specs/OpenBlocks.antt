@@ -4,9 +4,9 @@ use Rattle.base.specs.Limits.{most_in_block}
 use Rattle.journal.specs.declared.event.Event.{Event}
 use Rattle.journal.specs.declared.event.Kind.{Kind}
 use Rattle.journal.specs.declared.event.Kind.TheVariants.{Fetch}
-use Rattle.journal.specs.BroughtCopy.{CopyHasNoGap}
+use Rattle.journal.specs.BroughtCopy.{BroughtCopyHasNoGap}
 use Rattle.journal.specs.DidEvent.{event}
-use Rattle.journal.specs.Events.{address_of}
+use Rattle.journal.specs.Events.{event_address}
 use Rattle.journal.specs.PageImages.{GapCounts}
 use Rattle.journal.specs.Sizes.{Sizes}
 
@@ -19,17 +19,17 @@ abbrev pub open_block : List Event → List Kind → OpenBlock
 open_block h kinds = record { history = h; pending = kinds }
 
 -- the history, if p handed its block in
-abbrev pub block_handed_in : ℕ → OpenBlock → List Event
-block_handed_in p x = x.history ++ map (event p) x.pending
+abbrev pub open_block_handed_in : ℕ → OpenBlock → List Event
+open_block_handed_in p x = x.history ++ map (event p) x.pending
 
 -- one more in p's block, which is handed in before if it is full
-abbrev pub block_noted : ℕ → Kind → OpenBlock → OpenBlock
-block_noted p k x = cond (nat_lt (length x.pending) most_in_block) (open_block x.history (x.pending ++ k ∷ []))
-    (open_block (block_handed_in p x) (k ∷ []))
+abbrev pub open_block_noted : ℕ → Kind → OpenBlock → OpenBlock
+open_block_noted p k x = cond (nat_lt (length x.pending) most_in_block) (open_block x.history (x.pending ++ k ∷ []))
+    (open_block (open_block_handed_in p x) (k ∷ []))
 
 -- p's copy of page n lacks something, and this is the fetch that counts it
-pub record IsFetchDue (s : Sizes) (h : List Event) (p n : ℕ) (k : Kind) : Type 0 where
-  pub gap : ¬ CopyHasNoGap s h p n
+pub record IsFetchDueForOpenBlock (s : Sizes) (h : List Event) (p n : ℕ) (k : Kind) : Type 0 where
+  pub gap : ¬ BroughtCopyHasNoGap s h p n
   pub writers : ℕ
   pub records : ℕ
   pub words : ℕ
@@ -37,17 +37,17 @@ pub record IsFetchDue (s : Sizes) (h : List Event) (p n : ℕ) (k : Kind) : Type
   pub kind_is : k ≡ Fetch writers n records words
 
 -- p's access to page n is noted, and before it a fetch of the page exactly if p's copy lacks something
-abbrev pub IsAccessNoted : Sizes → ℕ → ℕ → Kind → OpenBlock → OpenBlock → Type 0
-IsAccessNoted s p n k x y = (CopyHasNoGap s (block_handed_in p x) p n × (y ≡ block_noted p k x))
-    ⊎ ((fetch : Kind) × IsFetchDue s (block_handed_in p x) p n fetch × (y ≡ block_noted p k (block_noted p fetch x)))
+abbrev pub OpenBlockNotesAccess : Sizes → ℕ → ℕ → Kind → OpenBlock → OpenBlock → Type 0
+OpenBlockNotesAccess s p n k x y = (BroughtCopyHasNoGap s (open_block_handed_in p x) p n × (y ≡ open_block_noted p k x))
+    ⊎ ((fetch : Kind) × IsFetchDueForOpenBlock s (open_block_handed_in p x) p n fetch × (y ≡ open_block_noted p k (open_block_noted p fetch x)))
 
 -- p's call, by the address that it accesses; any other call hands p's block in, with itself at the end
-abbrev pub IsCallNotedAt : Sizes → ℕ → Kind → Option ℕ → OpenBlock → OpenBlock → Type 0
-IsCallNotedAt s p k (Some a) x y = IsAccessNoted s p (a / s.words) k x y
-IsCallNotedAt s p k None x y = y ≡ open_block (block_handed_in p x ++ event p k ∷ []) []
+abbrev pub OpenBlockNotesAt : Sizes → ℕ → Kind → Option ℕ → OpenBlock → OpenBlock → Type 0
+OpenBlockNotesAt s p k (Some a) x y = OpenBlockNotesAccess s p (a / s.words) k x y
+OpenBlockNotesAt s p k None x y = y ≡ open_block (open_block_handed_in p x ++ event p k ∷ []) []
 
 -- p's calls, one after another
-abbrev pub AreCallsNoted : Sizes → ℕ → List Kind → OpenBlock → OpenBlock → Type 0
-AreCallsNoted s p [] x y = y ≡ x
-AreCallsNoted s p (k ∷ kinds) x y =
-    (between : OpenBlock) × IsCallNotedAt s p k (address_of k) x between × AreCallsNoted s p kinds between y
+abbrev pub OpenBlockNotesAll : Sizes → ℕ → List Kind → OpenBlock → OpenBlock → Type 0
+OpenBlockNotesAll s p [] x y = y ≡ x
+OpenBlockNotesAll s p (k ∷ kinds) x y =
+    (between : OpenBlock) × OpenBlockNotesAt s p k (event_address k) x between × OpenBlockNotesAll s p kinds between y

@@ -7,34 +7,34 @@ use Rattle.journal.specs.WellFormed.{WellFormed}
 use Rattle.lrc_script.specs.Lawful.{IsLawful}
 use Rattle.lrc_script.specs.Plan.{Plan}
 use Rattle.lrc_report.specs.declared.report.Report.{Report}
-use Rattle.conformance.specs.Begins.{BeginsScript}
-use Rattle.conformance.specs.ByTurns.{IsEndByTurns, IsReportByTurns}
+use Rattle.conformance.specs.ScriptBegins.{BeginsScript}
+use Rattle.conformance.specs.OrderedTurns.{IsEndByOrderedTurns, IsReportByOrderedTurns}
 use Rattle.conformance.specs.Follows.{plan_sizes}
 use Rattle.conformance.specs.Like.{SameButValues, like_without_value}
-use Rattle.conformance.specs.Turns.{AreScriptTurns, TurnStage, first_stages}
+use Rattle.conformance.specs.ScriptTurns.{AreScriptTurns, ScriptTurnStage, first_script_turn_stages}
 use Rattle.conformance.specs.declared.ended.Ended.{Ended}
 use Rattle.conformance.specs.declared.ended.Ended.TheVariants.{Halted, Whole}
 use Rattle.conformance.specs.declared.progress.TurnProgress.{TurnProgress}
 
 -- the calls, with 0 for the values that loads answer and that stores store
-abbrev pub calls_without_values : List Kind → List Kind
-calls_without_values kinds = map like_without_value kinds
+abbrev pub same_turn_calls_valueless : List Kind → List Kind
+same_turn_calls_valueless kinds = map like_without_value kinds
 
 -- how far a processor is, its calls so, and its open block so
-abbrev pub stage_without_values : TurnStage → TurnProgress × List Kind × List Kind
-stage_without_values x = (x.progress, calls_without_values x.calls, calls_without_values x.pending)
+abbrev pub same_turn_stage_valueless : ScriptTurnStage → TurnProgress × List Kind × List Kind
+same_turn_stage_valueless x = (x.progress, same_turn_calls_valueless x.calls, same_turn_calls_valueless x.pending)
 
 -- the histories have the same events at the same places except for values, fetches and their counts too, and each
 -- processor is as far, by the same calls, with the same open block, except for values
-pub record AreSameTurns (g h : List Event) (xs ys : List TurnStage) : Type 0 where
+pub record AreSameTurns (g h : List Event) (xs ys : List ScriptTurnStage) : Type 0 where
   pub events : SameButValues g h
-  pub stages : map stage_without_values xs ≡ map stage_without_values ys
+  pub stages : map same_turn_stage_valueless xs ≡ map same_turn_stage_valueless ys
 
 -- so are those that the same turns of a script make
 abbrev pub SameTurnsLaw : Type 0
-SameTurnsLaw = (s : Plan) (turns : List ℕ) (g h : List Event) (xs ys : List TurnStage) → WellFormed (plan_sizes s) g
-    → WellFormed (plan_sizes s) h → AreScriptTurns s turns [] (first_stages s) g xs
-    → AreScriptTurns s turns [] (first_stages s) h ys → AreSameTurns g h xs ys
+SameTurnsLaw = (s : Plan) (turns : List ℕ) (g h : List Event) (xs ys : List ScriptTurnStage) → WellFormed (plan_sizes s) g
+    → WellFormed (plan_sizes s) h → AreScriptTurns s turns [] (first_script_turn_stages s) g xs
+    → AreScriptTurns s turns [] (first_script_turn_stages s) h ys → AreSameTurns g h xs ys
 
 -- the history is well formed and begins the script, and each of its loads answers the word of its processor's copy
 pub record BeginsWithCopies (s : Plan) (h : List Event) : Type 0 where
@@ -47,7 +47,7 @@ abbrev pub SameValuesLaw : Type 0
 SameValuesLaw = (s : Plan) (g h : List Event) → IsLawful s → BeginsWithCopies s g → BeginsWithCopies s h → SameButValues g h → g ≡ h
 
 -- the history of a run's end
-abbrev pub history_by_turns : (s : Plan) (orders : ℕ → List ℕ) (e : Ended) → IsEndByTurns s orders e → List Event
+abbrev pub history_by_turns : (s : Plan) (orders : ℕ → List ℕ) (e : Ended) → IsEndByOrderedTurns s orders e → List Event
 history_by_turns s orders (Whole report) end = end.report.history
 history_by_turns s orders (Halted halt) end = end.journal.history
 
@@ -63,7 +63,7 @@ pub record AreSameEnds (d e : Ended) (g h : List Event) : Type 0 where
 
 -- so are any two runs of a lawful script by turns in the same orders
 abbrev pub SameEndsLaw : Type 0
-SameEndsLaw = (s : Plan) (orders : ℕ → List ℕ) (d e : Ended) (x : IsEndByTurns s orders d) (y : IsEndByTurns s orders e) → IsLawful s
+SameEndsLaw = (s : Plan) (orders : ℕ → List ℕ) (d e : Ended) (x : IsEndByOrderedTurns s orders d) (y : IsEndByOrderedTurns s orders e) → IsLawful s
     → AreSameEnds d e (history_by_turns s orders d x) (history_by_turns s orders e y)
 
 -- the reports have one verdict, show the same words and count the same traffic
@@ -76,5 +76,5 @@ pub record AreSameReports (q r : Report) : Type 0 where
 
 -- so do any two reports of such runs
 abbrev pub SameReportsLaw : Type 0
-SameReportsLaw = (s : Plan) (orders : ℕ → List ℕ) (q r : Report) → IsReportByTurns s orders q → IsReportByTurns s orders r → IsLawful s
+SameReportsLaw = (s : Plan) (orders : ℕ → List ℕ) (q r : Report) → IsReportByOrderedTurns s orders q → IsReportByOrderedTurns s orders r → IsLawful s
     → AreSameReports q r

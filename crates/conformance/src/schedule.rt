@@ -1,11 +1,11 @@
 //! Schedules: which processor has its turn, one turn after another.
 ghost use Rattle.std.specs.Prelude.{ℕ, ◌≡◌, ◌++◌, IfOk, IfSome, List, OnOk, Some, replicate, string_bytes};
-ghost use Rattle.lrc_script.specs.Prelude.{parts_of_line};
-ghost use Rattle.conformance.specs.Prelude.{IsScheduleText, schedule_item_text, schedule_item_turns, schedule_text, schedule_turns_text};
+ghost use Rattle.lrc_script.specs.Prelude.{parts_of_read_line};
+ghost use Rattle.conformance.specs.Prelude.{IsScheduleText, schedule_item_text, schedule_text_item_turns, schedule_text, schedule_turns_text};
 
 use crate::cause::{Cause, RunFault};
 use crate::ended::Ended;
-use lrc_script::line::{number, split_at_byte};
+use lrc_script::line::{number, split_script_line_at};
 use std::alloc::{AllocError, Global};
 use thiserror::Error;
 
@@ -77,15 +77,15 @@ pub struct DrawnRun {
 }
 
 /// The processor and the number of its turns that an item of a schedule's text gives: `P`, or `P:K` with K above 0.
-fn item_of(item: &[u8]) -> Option<(usize, usize)>
-    ensures { IfSome result (λ x. schedule_item_turns (parts_of_line 58 item.now) ≡ Some (replicate x.1 x.0)) }
+fn schedule_item_of(item: &[u8]) -> Option<(usize, usize)>
+    ensures { IfSome result (λ x. schedule_text_item_turns (parts_of_read_line 58 item.now) ≡ Some (replicate x.1 x.0)) }
 {
-    let (word, rest) = split_at_byte(item, b':');
+    let (word, rest) = split_script_line_at(item, b':');
     let processor = number(word)?;
     let Some(rest) = rest else {
         return Some((processor as usize, 1));
     };
-    let (word, more) = split_at_byte(rest, b':');
+    let (word, more) = split_script_line_at(rest, b':');
     let count = number(word)?;
     if count == 0 || more.is_some() {
         return None;
@@ -104,12 +104,12 @@ fn repeat(turns: &mut Vec<usize>, processor: usize, count: usize) -> Result<(), 
 }
 
 /// Adds the turns that an item gives.
-fn add_item(turns: &mut Vec<usize>, item: &[u8]) -> Result<(), ScheduleFault>
-    ensures { OnOk result ((new : List ℕ) × (schedule_item_turns (parts_of_line 58 item.now) ≡ Some new)
+fn add_schedule_item(turns: &mut Vec<usize>, item: &[u8]) -> Result<(), ScheduleFault>
+    ensures { OnOk result ((new : List ℕ) × (schedule_text_item_turns (parts_of_read_line 58 item.now) ≡ Some new)
         × (turns.new.items ≡ turns.old.items ++ new)) }
 {
     let before = turns.len();
-    let Some((processor, count)) = item_of(item) else {
+    let Some((processor, count)) = schedule_item_of(item) else {
         return Err(ScheduleFault::Misfit(before + 1, Misfit::NotUnderstood));
     };
     if count > MOST_TURNS.saturating_sub(before) {
@@ -119,7 +119,7 @@ fn add_item(turns: &mut Vec<usize>, item: &[u8]) -> Result<(), ScheduleFault>
 }
 
 /// Adds the text of so many turns of a processor in a row.
-fn put_item(text: &mut String, processor: usize, count: usize) -> Result<(), AllocError>
+fn put_schedule_item(text: &mut String, processor: usize, count: usize) -> Result<(), AllocError>
     ensures { OnOk result (string_bytes text.new ≡ string_bytes text.old ++ schedule_item_text processor count) }
 {
     if count == 1 {
@@ -130,7 +130,7 @@ fn put_item(text: &mut String, processor: usize, count: usize) -> Result<(), All
 }
 
 /// Adds the text of a turn and those behind it.
-fn put_turns(text: &mut String, first: usize, rest: &[usize]) -> Result<(), AllocError>
+fn put_schedule_rest(text: &mut String, first: usize, rest: &[usize]) -> Result<(), AllocError>
     ensures { OnOk result (string_bytes text.new ≡ string_bytes text.old ++ schedule_turns_text first 1 rest.now) }
 {
     let mut processor = first;
@@ -139,13 +139,13 @@ fn put_turns(text: &mut String, first: usize, rest: &[usize]) -> Result<(), Allo
         if *next == processor {
             count += 1;
         } else {
-            put_item(text, processor, count)?;
+            put_schedule_item(text, processor, count)?;
             text.push_str(",")?;
             processor = *next;
             count = 1;
         }
     }
-    put_item(text, processor, count)
+    put_schedule_item(text, processor, count)
 }
 
 impl Schedule {
@@ -165,8 +165,8 @@ impl Schedule {
         }
         let mut rest = Some(text.as_bytes());
         while let Some(bytes) = rest {
-            let (item, after) = split_at_byte(bytes, b',');
-            add_item(&mut turns, item)?;
+            let (item, after) = split_script_line_at(bytes, b',');
+            add_schedule_item(&mut turns, item)?;
             rest = after;
         }
         Ok(Schedule { turns })
@@ -178,7 +178,7 @@ impl Schedule {
     {
         match self.turns.as_slice() {
             [] => text.push_str("-"),
-            [first, rest @ ..] => put_turns(text, *first, rest),
+            [first, rest @ ..] => put_schedule_rest(text, *first, rest),
         }
     }
 }

@@ -2,11 +2,11 @@
 use Rattle.std.specs.Prelude.{ℕ, ◌≡◌, ◌%◌, ◌^◌, Bool, true, Some, [], ◌∷◌, List, slice_get}
 use Rattle.journal.specs.declared.event.Kind.{Kind}
 use Rattle.journal.specs.Log.{Log}
-use Rattle.seats.specs.Balances.{balance_fact, sum_at}
+use Rattle.seats.specs.BalanceFacts.{balance_fact, sum_at}
 use Rattle.seats.specs.GuardedRuns.{IsGuardedRun}
 use Rattle.seats.specs.Tables.{GuardTables}
 use Rattle.seats.specs.Tenures.{IsBetweenTenures, KeptFact, ReadsKept}
-use Rattle.seats.specs.Totals.{AddsUpTo}
+use Rattle.seats.specs.WordTallies.{AddsUpTo}
 
 -- the accounts, at addresses 0 and 1, come to what was paid in, which is at 2
 abbrev pub bank_fact : KeptFact

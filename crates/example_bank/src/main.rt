@@ -11,16 +11,51 @@
 #![tactic(auto)]
 
 ghost use Rattle.std.specs.Prelude.{IfOk};
-ghost use Rattle.example_bank.specs.Prelude.{IsBankRun};
+ghost use Rattle.example_bank.specs.Prelude.{HasBanked, IsBankRun};
 
-mod bank;
-
-use crate::bank::{Bank, LOCK, PROCESSORS, WORDS};
 use anyhow::Result;
-use seats::{Guard, GuardedRun, Layout, ProcessorFault};
+use seats::{Guard, GuardedRun, Layout, ProcessorFault, Program, Seat, SeatFault, Sitting};
 use std::alloc::Global;
 use std::sync::Wait;
 use std::thread::Threads;
+
+/// Processors.
+const PROCESSORS: usize = 4;
+/// How many coins each pays in.
+const ROUNDS: usize = 250;
+/// The lock that guards all words.
+const LOCK: usize = 0;
+/// The first account's address.
+const FIRST: usize = 0;
+/// The second account's address.
+const SECOND: usize = 1;
+/// The address of how many coins were paid in.
+const PAID: usize = 2;
+/// Words.
+const WORDS: usize = 3;
+/// One coin less, modulo 2^32.
+const ONE_LESS: u32 = u32::MAX;
+
+/// What each processor's thread does.
+struct Bank;
+
+impl Program for Bank {
+    /// Whether the bank balanced when it looked.
+    type Answer = bool;
+
+    // It has paid in 250 coins; and supposing that the others keep the bank balanced, too, it found it so.
+    ghost did = { HasBanked };
+
+    fn work<S: Sitting>(&self, seat: &mut Seat<'_, S>) -> Result<bool, SeatFault> {
+        for round in 0..ROUNDS {
+            // A coin into the first account, and then one from there to the second.
+            seat.add_two(LOCK, (FIRST, 1), (PAID, 1))?;
+            seat.add_two(LOCK, (FIRST, ONE_LESS), (SECOND, 1))?;
+        }
+        let balanced = seat.balances(LOCK, &[FIRST, SECOND], &[PAID])?;
+        Ok(balanced)
+    }
+}
 
 /// Runs the bank with four processors on threads of their own.
 fn run<R: Threads + Wait + Sync>(rt: &R, alloc: Global) -> Result<GuardedRun<bool>, ProcessorFault>

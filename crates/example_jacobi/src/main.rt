@@ -1,7 +1,7 @@
 //! `example_jacobi`: a plate that four processors cool, told in docs/EMBEDDING.md.
 //!
 //! The plate is hot at its upper border. A sweep makes each word inside the mean of the four round it, by Jacobi's method, and
-//! behind each all meet at the barrier. At the end the program prints the plate.
+//! behind each all meet at the barrier. The program prints the plate at the end.
 //!
 //! **What is proved**, by `run`: the plate that it answers is the start after ten sweeps of a pure function (`swept`). **What
 //! is only tested**: that it answers.
@@ -17,7 +17,6 @@ use std::alloc::Global;
 use std::sync::Wait;
 use std::thread::Threads;
 
-/// Processors.
 const PROCESSORS: usize = 4;
 /// Words of a row, which is a page.
 const COLUMNS: usize = 8;
@@ -75,7 +74,8 @@ impl Stencil for Plate {
 fn is_border(cell: usize) -> bool
     ensures { result ≡ is_border cell }
 {
-    cell < COLUMNS || CELLS - COLUMNS <= cell || cell % COLUMNS == 0 || cell % COLUMNS == 7
+    let column = cell % COLUMNS;
+    cell < COLUMNS || CELLS - COLUMNS <= cell || column == 0 || column == COLUMNS - 1
 }
 
 /// Cools the plate with four processors on threads of their own.
@@ -84,7 +84,8 @@ fn run<R: Threads + Wait + Sync>(rt: &R, alloc: Global) -> Result<Vec<u32>, Proc
 {
     let layout = GRIDS.layout(alloc, PROCESSORS)?;
     // A page for each row of both grids, no locks, no flags.
-    let mut ran = seats::run_guarded(rt, alloc, PROCESSORS, 28, COLUMNS, 0, 0, &layout, &Plate)?;
+    let rows = 2 * CELLS / COLUMNS;
+    let mut ran = seats::run_guarded(rt, alloc, PROCESSORS, rows, COLUMNS, 0, 0, &layout, &Plate)?;
     // The tenth sweep has made the first grid.
     ran.memory.truncate(CELLS);
     Ok(ran.memory)

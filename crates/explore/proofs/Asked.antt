@@ -10,48 +10,48 @@ use Rattle.journal.specs.declared.event.Kind.{Kind}
 use Rattle.journal.specs.declared.event.Kind.TheVariants.{Ask, Acquire, Arrive, Watch}
 use Rattle.journal.specs.DidEvent.{did, event}
 use Rattle.journal.specs.Sizes.{Sizes}
-use Rattle.journal.specs.Events.{At}
-use Rattle.journal.specs.Waits.{awaited}
-use Rattle.journal.specs.WellFormed.{AnswersCall, Holds, LastIs, MayBeGranted, MayFollow}
-use Rattle.journal.proofs.Order.CountedAndNumbered.{numbered_at_within}
-use Rattle.journal.proofs.Journals.WellFormedLast.{last_unique, last_now, last_longer, last_shorter}
-use Rattle.judge.specs.Why.{AwaitsKind}
-use Rattle.explore.specs.Waiting.{WaitingAsksAt, IsWaitingForLock, IsFirstWaiting, TellsWaiting}
-use Rattle.explore.specs.Waits.{WaitsAreKept, wait_code_ending, wait_code_seated}
-use Rattle.explore.specs.declared.wait.WaitCode.{WaitCode}
-use Rattle.explore.specs.declared.wait.Seat.{Seat}
+use Rattle.journal.specs.Events.{EventAt}
+use Rattle.journal.specs.AwaitedNext.{awaited_next}
+use Rattle.journal.specs.WellFormed.{WellFormedAnswer, Holds, LastIs, WellFormedGrant, WellFormedNext}
+use Rattle.journal.proofs.Order.EventPlacesAndCounts.{event_place_inside}
+use Rattle.journal.proofs.Journals.WellFormedStays.{well_formed_stays_last_unique, well_formed_stays_last_now, well_formed_stays_last_longer, well_formed_stays_last_shorter}
+use Rattle.judge.specs.Why.{WhyWaitsFor}
+use Rattle.explore.specs.KeptWaiting.{KeptWaitingAsksAt, IsKeptWaitingForLock, IsFirstKeptWaiting, TellsKeptWaiting}
+use Rattle.explore.specs.WaitCodes.{WaitCodesAreKept, wait_code_ending, wait_code_seated}
+use Rattle.explore.specs.declared.wait_code.WaitCode.{WaitCode}
+use Rattle.explore.specs.declared.wait_code.Seat.{Seat}
 use Rattle.explore.specs.declared.waiting.Waiting.{Waiting}
-use Rattle.explore.proofs.Waits.{wait_code_ending_lock}
+use Rattle.explore.proofs.WaitCodes.{wait_code_ending_lock}
 
 -- who asks for a lock waits for it
-asks_waits : (j : List Event) (p i l : ℕ) → LastIs j p i (Ask l) → AwaitsKind j p (Acquire l)
+asks_waits : (j : List Event) (p i l : ℕ) → LastIs j p i (Ask l) → WhyWaitsFor j p (Acquire l)
 asks_waits j p i l last = record { place = i; kind = Ask l; last = last; awaits = refl }
 
 -- and who waits for a lock has asked for it
-acquire_awaited_asked : (a : Kind) (l : ℕ) → awaited a ≡ Some (Acquire l) → a ≡ Ask l
-acquire_awaited_asked (Ask m) l is = cc
-acquire_awaited_asked Arrive l is = absurd cc
-acquire_awaited_asked (Watch f) l is = absurd cc
-acquire_awaited_asked _ l is = absurd (none-some (Acquire l) is)
+asked_if_acquire_awaited : (a : Kind) (l : ℕ) → awaited_next a ≡ Some (Acquire l) → a ≡ Ask l
+asked_if_acquire_awaited (Ask m) l is = cc
+asked_if_acquire_awaited Arrive l is = absurd cc
+asked_if_acquire_awaited (Watch f) l is = absurd cc
+asked_if_acquire_awaited _ l is = absurd (none-some (Acquire l) is)
 
-pub waits_asks : (j : List Event) (p l : ℕ) → AwaitsKind j p (Acquire l) → (i : ℕ) × LastIs j p i (Ask l)
-waits_asks j p l w = (w.place, subst (LastIs j p w.place) (acquire_awaited_asked w.kind l w.awaits) w.last)
+pub waits_asks : (j : List Event) (p l : ℕ) → WhyWaitsFor j p (Acquire l) → (i : ℕ) × LastIs j p i (Ask l)
+waits_asks j p l w = (w.place, subst (LastIs j p w.place) (asked_if_acquire_awaited w.kind l w.awaits) w.last)
 
 -- a processor's open ask is one
 asks_once : (j : List Event) (p i k l m : ℕ) → LastIs j p i (Ask l) → LastIs j p k (Ask m) → (i ≡ k) × (l ≡ m)
 asks_once j p i k l m x y =
-    let same = last_unique j p i k (Ask l) (Ask m) x y in
+    let same = well_formed_stays_last_unique j p i k (Ask l) (Ask m) x y in
     (same.0, cc same.1)
 
 -- who is the first among those that wait for l asked first
-pub first_asked : (j : List Event) (x : Waiting) (p i l q : ℕ) → TellsWaiting j x → LastIs j p i (Ask l)
-    → IsFirstWaiting x.asked.items x.waits l q → (q ≡ p) ↔ ((k r : ℕ) → k < i → ¬ LastIs j r k (Ask l))
-first_asked j x p i l q tells mine found = (there, back)
+pub asked_first_waits_first : (j : List Event) (x : Waiting) (p i l q : ℕ) → TellsKeptWaiting j x → LastIs j p i (Ask l)
+    → IsFirstKeptWaiting x.asked.items x.waits l q → (q ≡ p) ↔ ((k r : ℕ) → k < i → ¬ LastIs j r k (Ask l))
+asked_first_waits_first j x p i l q tells mine found = (there, back)
   where
     place_of : (r k : ℕ) → LastIs j r k (Ask l) → Has x.asked.items r
     place_of r k last = (tells.asked.each r).1 (k, (l, last))
 
-    awaits_of : (r k : ℕ) → LastIs j r k (Ask l) → IsWaitingForLock x.waits r l
+    awaits_of : (r k : ℕ) → LastIs j r k (Ask l) → IsKeptWaitingForLock x.waits r l
     awaits_of r k last =
         wait_code_ending_lock (slice_index_or x.waits r None) l ((tells.waits r (Acquire l)).1 (asks_waits j r k l last))
 
@@ -91,12 +91,12 @@ first_asked j x p i l q tells mine found = (there, back)
         ]
 
 -- nobody holds the lock
-pub asked_nobody_holds : (j : List Event) (x : Waiting) (l : ℕ) → TellsWaiting j x → slice_index_or x.holders l None ≡ None
+pub asked_nobody_holds : (j : List Event) (x : Waiting) (l : ℕ) → TellsKeptWaiting j x → slice_index_or x.holders l None ≡ None
     → (q : ℕ) → ¬ Holds j q l
 asked_nobody_holds j x l tells none q holds = none-some q (sym (ap wait_code_seated none) ∙ (tells.holders l q).1 holds)
 
-pub asked_somebody_holds : (j : List Event) (x : Waiting) (l : ℕ) (seat : Seat) (i : ℕ) → TellsWaiting j x
-    → slice_index_or x.holders l None ≡ Some seat → ¬ MayBeGranted j i l
+pub asked_somebody_holds : (j : List Event) (x : Waiting) (l : ℕ) (seat : Seat) (i : ℕ) → TellsKeptWaiting j x
+    → slice_index_or x.holders l None ≡ Some seat → ¬ WellFormedGrant j i l
 asked_somebody_holds j x l seat i tells some may = may.free seat.0 ((tells.holders l seat.0).0 (ap wait_code_seated some))
 
 -- these are processors
@@ -104,7 +104,7 @@ pub asked_small : (asked : List ℕ) → ((p : ℕ) → Has asked p → p < 16) 
 asked_small asked small k d lt = small (slice_index_or asked k d) (k, slice_get-get_or asked k d lt)
 
 -- one event and no other
-asked_one_away : (e : Event) (p : ℕ) → e.processor ≢ p → (m : ℕ) (f : Event) → At (e ∷ []) m f → f.processor ≢ p
+asked_one_away : (e : Event) (p : ℕ) → e.processor ≢ p → (m : ℕ) (f : Event) → EventAt (e ∷ []) m f → f.processor ≢ p
 asked_one_away e p isnt m f at is = elim (slice_push_cases [] e m f at) [
   | inl none ↦ absurd (omega (arith, none.0))
   | inr same ↦ isnt (ap (λ (x : Event). x.processor) same.1 ∙ is)
@@ -113,18 +113,18 @@ asked_one_away e p isnt m f at is = elim (slice_push_cases [] e m f at) [
 -- another's event leaves the last one
 asked_last_others : (j : List Event) (p q i : ℕ) (k a : Kind) → p ≢ q → LastIs j q i a ↔ LastIs (did j p k) q i a
 asked_last_others j p q i k a apart = (
-  last_longer j (event p k ∷ []) q i a (asked_one_away (event p k) q apart),
-  last_shorter j (event p k ∷ []) q i a (asked_one_away (event p k) q apart),
+  well_formed_stays_last_longer j (event p k ∷ []) q i a (asked_one_away (event p k) q apart),
+  well_formed_stays_last_shorter j (event p k ∷ []) q i a (asked_one_away (event p k) q apart),
 )
 
-asked_waits_own : (j : List Event) (p : ℕ) (k b : Kind) → (awaited k ≡ Some b) ↔ AwaitsKind (did j p k) p b
+asked_waits_own : (j : List Event) (p : ℕ) (k b : Kind) → (awaited_next k ≡ Some b) ↔ WhyWaitsFor (did j p k) p b
 asked_waits_own j p k b = (
-  λ is. record { place = length j; kind = k; last = last_now j (event p k); awaits = is },
-  λ w. let same = last_unique (did j p k) p (length j) w.place k w.kind (last_now j (event p k)) w.last in
-      ap awaited same.1 ∙ w.awaits,
+  λ is. record { place = length j; kind = k; last = well_formed_stays_last_now j (event p k); awaits = is },
+  λ w. let same = well_formed_stays_last_unique (did j p k) p (length j) w.place k w.kind (well_formed_stays_last_now j (event p k)) w.last in
+      ap awaited_next same.1 ∙ w.awaits,
 )
 
-asked_waits_others : (j : List Event) (p q : ℕ) (k b : Kind) → p ≢ q → AwaitsKind j q b ↔ AwaitsKind (did j p k) q b
+asked_waits_others : (j : List Event) (p q : ℕ) (k b : Kind) → p ≢ q → WhyWaitsFor j q b ↔ WhyWaitsFor (did j p k) q b
 asked_waits_others j p q k b apart = (
   λ w. record {
     place = w.place;
@@ -142,64 +142,64 @@ asked_waits_others j p q k b apart = (
 
 -- what is waited for after one more event
 pub asked_waits_next : (j : List Event) (p : ℕ) (k : Kind) (waits : List (Option WaitCode)) (w : Option WaitCode) → p < length waits
-    → wait_code_ending w ≡ awaited k → WaitsAreKept j waits → WaitsAreKept (did j p k) (slice_set waits p w)
+    → wait_code_ending w ≡ awaited_next k → WaitCodesAreKept j waits → WaitCodesAreKept (did j p k) (slice_set waits p w)
 asked_waits_next j p k waits w within ends old q b = elim (cases_eq q p) [
   | inl is ↦
-      subst (λ r. (wait_code_ending (slice_index_or (slice_set waits p w) r None) ≡ Some b) ↔ AwaitsKind (did j p k) r b) (sym is)
-      (subst (λ o. (o ≡ Some b) ↔ AwaitsKind (did j p k) p b)
+      subst (λ r. (wait_code_ending (slice_index_or (slice_set waits p w) r None) ≡ Some b) ↔ WhyWaitsFor (did j p k) r b) (sym is)
+      (subst (λ o. (o ≡ Some b) ↔ WhyWaitsFor (did j p k) p b)
       (sym (ap wait_code_ending (get_or-set_same waits p w None within) ∙ ends)) (asked_waits_own j p k b))
   | inr isnt ↦
       (let other = asked_waits_others j p q k b (λ same. isnt (sym same)) in
-      subst (λ o. (wait_code_ending o ≡ Some b) ↔ AwaitsKind (did j p k) q b) (sym (get_or-set_other waits p q w None isnt))
+      subst (λ o. (wait_code_ending o ≡ Some b) ↔ WhyWaitsFor (did j p k) q b) (sym (get_or-set_other waits p q w None isnt))
       ((λ is. other.0 ((old q b).0 is)), (λ w. (old q b).1 (other.1 w))))
 ]
 
 -- what answers an ask
-answers_ask : (l : ℕ) (k : Kind) → AnswersCall (Ask l) k → k ≡ Acquire l
-answers_ask l k is = is
+asked_answered_by_acquire : (l : ℕ) (k : Kind) → WellFormedAnswer (Ask l) k → k ≡ Acquire l
+asked_answered_by_acquire l k is = is
 
-module _ (s : Sizes) (j : List Event) (p : ℕ) (k : Kind) (may : MayFollow s j (event p k)) where
+module _ (s : Sizes) (j : List Event) (p : ℕ) (k : Kind) (may : WellFormedNext s j (event p k)) where
   -- who asks anew doesn't wait
-  pub asks_fresh : (l i : ℕ) → k ≡ Ask l → ¬ WaitingAsksAt j p i
+  pub asks_fresh : (l i : ℕ) → k ≡ Ask l → ¬ KeptWaitingAsksAt j p i
   asks_fresh l i is asks =
-      let answer = answers_ask asks.0 k (may.answers i (Ask asks.0) asks.1) in
+      let answer = asked_answered_by_acquire asks.0 k (may.answers i (Ask asks.0) asks.1) in
       absurd (cc (sym is ∙ answer))
 
   -- and who waits for a lock does nothing but acquire it
-  pub asks_acquires : (i : ℕ) → WaitingAsksAt j p i → (l : ℕ) × (k ≡ Acquire l)
-  asks_acquires i asks = (asks.0, answers_ask asks.0 k (may.answers i (Ask asks.0) asks.1))
+  pub asks_acquires : (i : ℕ) → KeptWaitingAsksAt j p i → (l : ℕ) × (k ≡ Acquire l)
+  asks_acquires i asks = (asks.0, asked_answered_by_acquire asks.0 k (may.answers i (Ask asks.0) asks.1))
 
 -- asks of others stay
-pub asks_other : (j : List Event) (p q i : ℕ) (k : Kind) → p ≢ q → WaitingAsksAt j q i ↔ WaitingAsksAt (did j p k) q i
+pub asks_other : (j : List Event) (p q i : ℕ) (k : Kind) → p ≢ q → KeptWaitingAsksAt j q i ↔ KeptWaitingAsksAt (did j p k) q i
 asks_other j p q i k apart = (
   λ a. (a.0, (asked_last_others j p q i k (Ask a.0) apart).0 a.1),
   λ a. (a.0, (asked_last_others j p q i k (Ask a.0) apart).1 a.1),
 )
 
 -- p's open ask is its last event
-pub asks_own : (j : List Event) (p i : ℕ) (k : Kind) → WaitingAsksAt (did j p k) p i → (i ≡ length j) × ((l : ℕ) × (k ≡ Ask l))
+pub asks_own : (j : List Event) (p i : ℕ) (k : Kind) → KeptWaitingAsksAt (did j p k) p i → (i ≡ length j) × ((l : ℕ) × (k ≡ Ask l))
 asks_own j p i k a =
-    let same = last_unique (did j p k) p i (length j) (Ask a.0) k a.1 (last_now j (event p k)) in
+    let same = well_formed_stays_last_unique (did j p k) p i (length j) (Ask a.0) k a.1 (well_formed_stays_last_now j (event p k)) in
     (same.0, (a.0, sym same.1))
 
 -- an ask before one more event
-pub asks_old : (j : List Event) (q i : ℕ) → WaitingAsksAt j q i → i < length j
-asks_old j q i a = numbered_at_within j i (event q (Ask a.0)) a.1.does
+pub asks_old : (j : List Event) (q i : ℕ) → KeptWaitingAsksAt j q i → i < length j
+asks_old j q i a = event_place_inside j i (event q (Ask a.0)) a.1.does
 
 -- so the lock, which nobody holds, may be granted to p exactly where p is the first
-pub first_asked_may : (j : List Event) (x : Waiting) (p i l q : ℕ) → TellsWaiting j x → LastIs j p i (Ask l)
-    → slice_index_or x.holders l None ≡ None → IsFirstWaiting x.asked.items x.waits l q → (q ≡ p) ↔ MayBeGranted j i l
-first_asked_may j x p i l q tells mine none found = (
+pub asked_first_may_acquire : (j : List Event) (x : Waiting) (p i l q : ℕ) → TellsKeptWaiting j x → LastIs j p i (Ask l)
+    → slice_index_or x.holders l None ≡ None → IsFirstKeptWaiting x.asked.items x.waits l q → (q ≡ p) ↔ WellFormedGrant j i l
+asked_first_may_acquire j x p i l q tells mine none found = (
   λ is. record {
     free = asked_nobody_holds j x l tells none;
-    first = (first_asked j x p i l q tells mine found).0 is;
+    first = (asked_first_waits_first j x p i l q tells mine found).0 is;
   },
-  λ may. (first_asked j x p i l q tells mine found).1 may.first,
+  λ may. (asked_first_waits_first j x p i l q tells mine found).1 may.first,
 )
 
 -- and it is not so that nobody asks
-pub nobody_asked : (j : List Event) (x : Waiting) (p i l : ℕ) → TellsWaiting j x → LastIs j p i (Ask l)
-    → ((q : ℕ) → Has x.asked.items q → ¬ IsWaitingForLock x.waits q l) → ⊥
-nobody_asked j x p i l tells mine none =
+pub asked_by_somebody : (j : List Event) (x : Waiting) (p i l : ℕ) → TellsKeptWaiting j x → LastIs j p i (Ask l)
+    → ((q : ℕ) → Has x.asked.items q → ¬ IsKeptWaitingForLock x.waits q l) → ⊥
+asked_by_somebody j x p i l tells mine none =
     none p ((tells.asked.each p).1 (i, (l, mine)))
     (wait_code_ending_lock (slice_index_or x.waits p None) l ((tells.waits p (Acquire l)).1 (asks_waits j p i l mine)))

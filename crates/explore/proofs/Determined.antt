@@ -7,18 +7,18 @@ use Rattle.std.specs.List.{AllByRecursion, IsDistinct}
 use Rattle.std.proofs.lemmas.Bool.{false≢true}
 use Rattle.std.proofs.lemmas.Option.{none-some, same_Some}
 use Rattle.base.specs.InOrderOnce.{Has, InOrder}
-use Rattle.base.proofs.Joined.{has-cons, has-nil}
+use Rattle.base.proofs.JoinedLists.{joined_list_has-cons, joined_list_has-nil}
 use Rattle.journal.specs.declared.event.Event.{Event}
 use Rattle.lrc_script.specs.Plan.{Plan}
 use Rattle.explore.specs.declared.flat_state.FlatState.{FlatState}
 use Rattle.explore.specs.declared.waiting.Waiting.{Waiting}
-use Rattle.explore.specs.Machines.{SameMachineState, Knows, machine_rows}
-use Rattle.explore.specs.Told.{AreKeptReplies, told_kept, told_steps}
+use Rattle.explore.specs.Machines.{MachinesInSameState, MachineKnows, machine_rows}
+use Rattle.explore.specs.OutcomeTelling.{AreOutcomeTellingKept, outcome_telling_kept, outcome_telling_steps}
 use Rattle.conformance.specs.Follows.{calls_of}
-use Rattle.explore.specs.Waiting.{AreAskedWaiting, WaitingAsksAt, IsLikeWaiting, TellsWaiting}
-use Rattle.explore.proofs.Queued.{QueuedBefore}
-use Rattle.explore.proofs.Waits.{wait_code_ending_once, wait_code_seated_once}
-use Rattle.explore.proofs.ToldReplies.{told_same_rows}
+use Rattle.explore.specs.KeptWaiting.{AreKeptWaitingAsks, KeptWaitingAsksAt, IsLikeKeptWaiting, TellsKeptWaiting}
+use Rattle.explore.proofs.AskQueue.{AskQueuedBefore}
+use Rattle.explore.proofs.WaitCodes.{wait_code_ending_once, wait_code_seated_once}
+use Rattle.explore.proofs.ToldReplies.{told_replies_same_rows}
 
 -- lists that read the same are the same
 determined_read : {A : Type 0} (d : A) (xs ys : List A) → length xs ≡ length ys
@@ -53,12 +53,12 @@ module _ {A : Type 0} (R : A → A → Type 0) (P : A → Type 0) (strict : (a b
   determined_order : (xs ys : List A) → ((a : A) → Has xs a → P a) → ((a : A) → Has ys a → P a)
       → ((a : A) → Has xs a ↔ Has ys a) → InOrder R xs → InOrder R ys → xs ≡ ys
   determined_order [] [] p q same first second = refl
-  determined_order [] (y ∷ ys) p q same first second = absurd (has-nil y ((same y).1 (0, refl)))
-  determined_order (x ∷ xs) [] p q same first second = absurd (has-nil x ((same x).0 (0, refl)))
+  determined_order [] (y ∷ ys) p q same first second = absurd (joined_list_has-nil y ((same y).1 (0, refl)))
+  determined_order (x ∷ xs) [] p q same first second = absurd (joined_list_has-nil x ((same x).0 (0, refl)))
   determined_order (x ∷ xs) (y ∷ ys) p q same first second =
-      let is : x ≡ y = elim ((has-cons y ys x).0 ((same x).0 (0, refl))) [
+      let is : x ≡ y = elim ((joined_list_has-cons y ys x).0 ((same x).0 (0, refl))) [
         | inl e ↦ sym e
-        | inr later ↦ elim ((has-cons x xs y).0 ((same y).1 (0, refl))) [
+        | inr later ↦ elim ((joined_list_has-cons x xs y).0 ((same y).1 (0, refl))) [
           | inl e ↦ e
           | inr after ↦
               absurd (strict x y (p x (0, refl)) (q y (0, refl)) (determined_first_before x xs first y after)
@@ -68,7 +68,7 @@ module _ {A : Type 0} (R : A → A → Type 0) (P : A → Type 0) (strict : (a b
       ap₂ (λ z zs. z ∷ zs) is
       (determined_order xs ys (λ a has. p a (suc has.0, has.1)) (λ a has. q a (suc has.0, has.1))
       (λ a. (
-        λ has. elim ((has-cons y ys a).0 ((same a).0 (suc has.0, has.1))) [
+        λ has. elim ((joined_list_has-cons y ys a).0 ((same a).0 (suc has.0, has.1))) [
           | inl e ↦
               (let r = determined_first_before x xs first a has in
               let self = subst (λ b. R b a) (is ∙ e) r in
@@ -76,7 +76,7 @@ module _ {A : Type 0} (R : A → A → Type 0) (P : A → Type 0) (strict : (a b
               absurd (strict a a mine mine self self))
           | inr later ↦ later
         ],
-        λ has. elim ((has-cons x xs a).0 ((same a).1 (suc has.0, has.1))) [
+        λ has. elim ((joined_list_has-cons x xs a).0 ((same a).1 (suc has.0, has.1))) [
           | inl e ↦
               (let r = determined_first_before y ys second a has in
               let self = subst (λ b. R b a) (sym is ∙ e) r in
@@ -87,9 +87,9 @@ module _ {A : Type 0} (R : A → A → Type 0) (P : A → Type 0) (strict : (a b
       )) (determined_order_rest x xs first) (determined_order_rest y ys second))
 
 -- who asked
-determined_asked : (g : List Event) (xs ys : List ℕ) → AreAskedWaiting g xs → AreAskedWaiting g ys → xs ≡ ys
+determined_asked : (g : List Event) (xs ys : List ℕ) → AreKeptWaitingAsks g xs → AreKeptWaitingAsks g ys → xs ≡ ys
 determined_asked g xs ys first second =
-    determined_order (QueuedBefore g) (λ p. (i : ℕ) × WaitingAsksAt g p i)
+    determined_order (AskQueuedBefore g) (λ p. (i : ℕ) × KeptWaitingAsksAt g p i)
     (λ a b x y before after.
     let one = before x.0 y.0 x.1 y.1 in
     let two = after y.0 x.0 y.1 x.1 in
@@ -100,7 +100,7 @@ determined_asked g xs ys first second =
 determined_both : {A B C : Type 0} → A ↔ B → C ↔ B → A ↔ C
 determined_both first second = ((λ a. second.1 (first.0 a)), (λ c. first.1 (second.0 c)))
 
-determined_waiting : (g : List Event) (x y : Waiting) → TellsWaiting g x → TellsWaiting g y → IsLikeWaiting x y
+determined_waiting : (g : List Event) (x y : Waiting) → TellsKeptWaiting g x → TellsKeptWaiting g y → IsLikeKeptWaiting x y
 determined_waiting g x y first second = record {
   waits = determined_read None y.waits x.waits (second.long ∙ sym first.long)
       (λ p lt. wait_code_ending_once _ _ (determined_option _ _ (λ k. determined_both (second.waits p k) (first.waits p k))));
@@ -113,8 +113,8 @@ determined_waiting g x y first second = record {
   asked = determined_asked g y.asked.items x.asked.items second.asked first.asked;
 }
 
-pub determined_machine : (s : Plan) (g : List Event) (m n : FlatState) → n.telling ≡ m.telling → Knows s g m → Knows s g n
-    → SameMachineState m n
+pub determined_machine : (s : Plan) (g : List Event) (m n : FlatState) → n.telling ≡ m.telling → MachineKnows s g m → MachineKnows s g n
+    → MachinesInSameState m n
 determined_machine s g m n telling first second = record {
   telling = telling;
   done = (
@@ -123,9 +123,9 @@ determined_machine s g m n telling first second = record {
       determined_read 0 n.done m.done (two ∙ sym one)
       (λ p lt. second.done p (omega arith) ∙ sym (first.done p (omega arith))));
   replies =
-      told_same_rows s.processors (λ p. told_kept m.telling p (told_steps s p) (calls_of g p)) (machine_rows n.replies.items)
+      told_replies_same_rows s.processors (λ p. outcome_telling_kept m.telling p (outcome_telling_steps s p) (calls_of g p)) (machine_rows n.replies.items)
       (machine_rows m.replies.items)
-      (subst (λ t. AreKeptReplies s t g (machine_rows n.replies.items)) telling second.replies) first.replies;
+      (subst (λ t. AreOutcomeTellingKept s t g (machine_rows n.replies.items)) telling second.replies) first.replies;
   memory = second.memory ∙ sym first.memory;
   waiting = determined_waiting g m.waiting n.waiting first.waiting second.waiting;
 }

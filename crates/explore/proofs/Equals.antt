@@ -9,17 +9,17 @@ use Rattle.std.proofs.lemmas.Bool.{and_from, and_parts, false≢true}
 use Rattle.std.proofs.lemmas.Cmp.{nat_list_eq_equiv}
 use Rattle.std.proofs.lemmas.List.{map-append}
 use Rattle.base.specs.InOrderOnce.{Has}
-use Rattle.base.proofs.Joined.{has-cons, has-nil}
+use Rattle.base.proofs.JoinedLists.{joined_list_has-cons, joined_list_has-nil}
 use mathlib.Core.Bool.{beq}
-use Rattle.explore.specs.declared.wait.WaitCode.{WaitCode}
-use Rattle.explore.specs.declared.wait.Seat.{Seat}
+use Rattle.explore.specs.declared.wait_code.WaitCode.{WaitCode}
+use Rattle.explore.specs.declared.wait_code.Seat.{Seat}
 use Rattle.explore.specs.declared.flat_state.FlatState.{FlatState}
 use Rattle.explore.specs.declared.waiting.Waiting.{Waiting}
 use Rattle.explore.specs.declared.explored.ScriptOutcome.{ScriptOutcome}
 use Rattle.explore.specs.Explored.{explored_outcome}
-use Rattle.explore.specs.Machines.{SameMachineState, machine_rows}
-use Rattle.explore.specs.Searched.{IsAmongSearched}
-use Rattle.explore.specs.Waiting.{IsLikeWaiting}
+use Rattle.explore.specs.Machines.{MachinesInSameState, machine_rows}
+use Rattle.explore.specs.FlatSearch.{IsAmongFlatSearched}
+use Rattle.explore.specs.KeptWaiting.{IsLikeKeptWaiting}
 
 -- lists whose items are found equal are the same
 equal_items : {A B : Type 0} (f : A → B) (E : A → A → Bool) → ((a b : A) → E a b ≡ true → f b ≡ f a) → (xs ys : List A)
@@ -72,7 +72,7 @@ module _ (E : WaitCode → WaitCode → Bool) (F : Seat → Seat → Bool) where
 
 module _ (E : WaitCode → WaitCode → Bool) (F : Seat → Seat → Bool) (same_wait : (a b : WaitCode) → E a b ≡ true → b ≡ a)
     (same_seat : (a b : Seat) → F a b ≡ true → b ≡ a) where
-  equal_waiting_like : (x y : Waiting) → waiting_equal E F x y ≡ true → IsLikeWaiting x y
+  equal_waiting_like : (x y : Waiting) → waiting_equal E F x y ≡ true → IsLikeKeptWaiting x y
   equal_waiting_like x y h =
       let a = and_parts (pointwise (option_eq E) x.waits y.waits) _ h in
       let b = and_parts (pointwise nat_eq x.arrivals y.arrivals) _ a.1 in
@@ -86,8 +86,8 @@ module _ (E : WaitCode → WaitCode → Bool) (F : Seat → Seat → Bool) (same
         asked = equal_numbers x.asked.items y.asked.items d.1;
       }
 
-  pub equal_machine_like : (m n : FlatState) → machine_equal E F m n ≡ true → n.telling ≡ m.telling → SameMachineState m n
-  equal_machine_like m n h telling =
+  pub equal_machines_in_same_state : (m n : FlatState) → machine_equal E F m n ≡ true → n.telling ≡ m.telling → MachinesInSameState m n
+  equal_machines_in_same_state m n h telling =
       let a = and_parts (pointwise nat_eq m.done n.done) _ h in
       let rows : Vec ℕ → Vec ℕ → Bool = λ v w. pointwise nat_eq v.items w.items in
       let b = and_parts (pointwise rows m.replies.items n.replies.items) _ a.1 in
@@ -137,15 +137,15 @@ equal_found_has o (k ∷ ks) h = go (outcome_equal o k) refl (λ later. equal_fo
     go : (b : Bool) → outcome_equal o k ≡ b
         → (list_any (outcome_equal o) ks ≡ true → Has (map explored_outcome ks) (explored_outcome o))
         → Has (explored_outcome k ∷ map explored_outcome ks) (explored_outcome o)
-    go true is rest = (has-cons (explored_outcome k) (map explored_outcome ks) (explored_outcome o)).1 (inl (equal_outcome_same o k is))
+    go true is rest = (joined_list_has-cons (explored_outcome k) (map explored_outcome ks) (explored_outcome o)).1 (inl (equal_outcome_same o k is))
     go false is rest =
-        (has-cons (explored_outcome k) (map explored_outcome ks) (explored_outcome o)).1
+        (joined_list_has-cons (explored_outcome k) (map explored_outcome ks) (explored_outcome o)).1
         (inr (rest (sym (ap (λ b. b || list_any (outcome_equal o) ks) is) ∙ h)))
 
 equal_has_found : (o : ScriptOutcome) (ks : List ScriptOutcome) → Has (map explored_outcome ks) (explored_outcome o)
     → list_any (outcome_equal o) ks ≡ true
-equal_has_found o [] has = absurd (has-nil (explored_outcome o) has)
-equal_has_found o (k ∷ ks) has = elim ((has-cons (explored_outcome k) (map explored_outcome ks) (explored_outcome o)).0 has) [
+equal_has_found o [] has = absurd (joined_list_has-nil (explored_outcome o) has)
+equal_has_found o (k ∷ ks) has = elim ((joined_list_has-cons (explored_outcome k) (map explored_outcome ks) (explored_outcome o)).0 has) [
   | inl is ↦ ap (λ b. b || list_any (outcome_equal o) ks) (equal_rows o.replies.items k.replies.items (sym is))
   | inr later ↦ or_right (outcome_equal o k) (equal_has_found o ks later)
 ]
@@ -155,13 +155,13 @@ equal_has_found o (k ∷ ks) has = elim ((has-cons (explored_outcome k) (map exp
     or_right false h = h
 
 -- what `insert` does to the outcomes
-pub among : (ks : List ScriptOutcome) (o : ScriptOutcome) (new : List ScriptOutcome)
+pub equal_outcome_inserted : (ks : List ScriptOutcome) (o : ScriptOutcome) (new : List ScriptOutcome)
     → new ≡ (if list_any (outcome_equal o) ks then ks else ks ++ o ∷ [])
-    → IsAmongSearched (map explored_outcome ks) (map explored_outcome new) (explored_outcome o)
-among ks o new is = go (list_any (outcome_equal o) ks) refl is
+    → IsAmongFlatSearched (map explored_outcome ks) (map explored_outcome new) (explored_outcome o)
+equal_outcome_inserted ks o new is = go (list_any (outcome_equal o) ks) refl is
   where
     go : (b : Bool) → list_any (outcome_equal o) ks ≡ b → new ≡ (if b then ks else ks ++ o ∷ [])
-        → IsAmongSearched (map explored_outcome ks) (map explored_outcome new) (explored_outcome o)
+        → IsAmongFlatSearched (map explored_outcome ks) (map explored_outcome new) (explored_outcome o)
     go true any same = inl (equal_found_has o ks any, ap (λ (os : List ScriptOutcome). map explored_outcome os) same)
     go false any pushed = inr (
       (λ has. false≢true (sym any ∙ equal_has_found o ks has)),

@@ -1,7 +1,8 @@
 pub mod CallsMade
-pub mod NextCalls
+pub mod NextAllowed
 pub mod Answers
 pub mod Lengthened
-pub mod Exchanged
-pub mod First
-pub mod Searching
+pub mod ExchangedPlaces
+pub mod Commuting
+pub mod SearchByRules
+pub mod AllowedUntil

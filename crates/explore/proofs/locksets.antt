@@ -1,3 +1,3 @@
 pub mod Calls
-pub mod Law
+pub mod TextGuardLaw
 pub mod Noted

@@ -1,5 +1,5 @@
 pub mod Steps
-pub mod Calling
+pub mod SectionCalls
 pub mod Beginnings
 pub mod Removal
 pub mod Neighbours

@@ -1,4 +1,4 @@
-pub mod Same
+pub mod SameBeginnings
 pub mod Swapping
 pub mod Reaching
 pub mod Later

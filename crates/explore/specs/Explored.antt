@@ -13,12 +13,12 @@ use Rattle.explore.specs.declared.explored.ScriptOutcome.{ScriptOutcome}
 use Rattle.explore.specs.declared.explored.RacyEvents.{RacyEvents}
 use Rattle.explore.specs.declared.explored.Verdict.{Verdict}
 use Rattle.explore.specs.declared.explored.Verdict.TheVariants as verdict
-use Rattle.explore.specs.declared.told.Detail.{Detail}
-use Rattle.explore.specs.Prefixes.Beginnings.{IsFlatBeginning, IsFlatRaceFree, IsHangingBeginning}
-use Rattle.explore.specs.Outcomes.{IsOutcome}
-use Rattle.explore.specs.Room.{states_to_look_at}
-use Rattle.explore.specs.States.{HasStates}
-use Rattle.explore.specs.Waiting.{AreAwaited}
+use Rattle.explore.specs.declared.outcome_telling.Detail.{Detail}
+use Rattle.explore.specs.Prefixes.FlatBeginnings.{IsFlatBeginning, AreFlatBeginningsRaceFree, IsFlatBeginningHanging}
+use Rattle.explore.specs.FlatOutcomes.{IsFlatOutcome}
+use Rattle.explore.specs.StateRoom.{state_room_at_most}
+use Rattle.explore.specs.StatesOfScript.{HasStatesOfScript}
+use Rattle.explore.specs.KeptWaiting.{AreKeptWaitingKinds}
 
 -- a prefix whose last event is the first that races
 pub record IsExploredRacy (s : Plan) (racy : RacyEvents) : Type 0 where
@@ -29,9 +29,9 @@ pub record IsExploredRacy (s : Plan) (racy : RacyEvents) : Type 0 where
 
 -- a hang, and what each processor waits for
 pub record IsExploredHang (s : Plan) (hang : Hang) : Type 0 where
-  pub is : IsHangingBeginning s hang.events.items
+  pub is : IsFlatBeginningHanging s hang.events.items
   pub long : length hang.waits.items ≡ s.processors
-  pub waits : AreAwaited hang.events.items hang.waits.items
+  pub waits : AreKeptWaitingKinds hang.events.items hang.waits.items
 
 -- an outcome, as it lies outside of memory
 abbrev pub explored_outcome : ScriptOutcome → List (List ℕ)
@@ -39,22 +39,22 @@ explored_outcome o = map (λ (v : Vec ℕ). v.items) o.replies.items
 
 -- whole runs show each of these, told by this detail, and each is there once
 pub record AreExploredOutcomes (s : Plan) (d : Detail) (outcomes : List (List (List ℕ))) : Type 0 where
-  pub each : (replies : List (List ℕ)) → Has outcomes replies → IsOutcome s d replies
+  pub each : (replies : List (List ℕ)) → Has outcomes replies → IsFlatOutcome s d replies
   pub once : IsOnce outcomes
 
 -- whole runs show nothing else
 abbrev pub AreAllOutcomesExplored : Plan → Detail → List (List (List ℕ)) → Type 0
-AreAllOutcomesExplored s d outcomes = (replies : List (List ℕ)) → IsOutcome s d replies → Has outcomes replies
+AreAllOutcomesExplored s d outcomes = (replies : List (List ℕ)) → IsFlatOutcome s d replies → Has outcomes replies
 
 -- what is so by the verdict
 abbrev pub IsExploredVerdict : Plan → Verdict → Type 0
-IsExploredVerdict s verdict.RaceFree = IsFlatRaceFree s
+IsExploredVerdict s verdict.RaceFree = AreFlatBeginningsRaceFree s
 IsExploredVerdict s (verdict.Racy racy) = IsExploredRacy s racy
 IsExploredVerdict s verdict.Undecided = ⊤
 
 -- what is so by the answer on hangs
 abbrev pub IsExploredHanging : Plan → Hanging → Type 0
-IsExploredHanging s hanging.Never = (g : List Event) → ¬ IsHangingBeginning s g
+IsExploredHanging s hanging.Never = (g : List Event) → ¬ IsFlatBeginningHanging s g
 IsExploredHanging s (hanging.Hangs hang) = IsExploredHang s hang
 IsExploredHanging s hanging.Undecided = ⊤
 
@@ -65,17 +65,17 @@ explored_settles verdict.RaceFree hanging.Never all = all
 explored_settles verdict.RaceFree (hanging.Hangs hang) all = all
 explored_settles _ _ all = false
 
-abbrev pub is_settled : Explored → Bool
-is_settled answer = explored_settles answer.verdict answer.hanging answer.are_all
+abbrev pub is_explored_settled : Explored → Bool
+is_explored_settled answer = explored_settles answer.verdict answer.hanging answer.are_all
 
 -- what an answer by this detail says, if so many states were asked for: the script has as many as were found, which are no more than
 -- those to be looked at and what comes next after one; each answer is true; and one is open only if there are more
 -- states than were asked for, or than fit
 pub record IsExplored (s : Plan) (d : Detail) (most : ℕ) (answer : Explored) : Type 0 where
-  pub states : HasStates s d answer.states
-  pub few : answer.states ≤ states_to_look_at s most + 16
+  pub states : HasStatesOfScript s d answer.states
+  pub few : answer.states ≤ state_room_at_most s most + 16
   pub verdict : IsExploredVerdict s answer.verdict
   pub hanging : IsExploredHanging s answer.hanging
   pub outcomes : AreExploredOutcomes s d (map explored_outcome answer.outcomes.items)
   pub all : IsTrue answer.are_all → AreAllOutcomesExplored s d (map explored_outcome answer.outcomes.items)
-  pub given_up : is_settled answer ≡ false → states_to_look_at s most < answer.states
+  pub given_up : is_explored_settled answer ≡ false → state_room_at_most s most < answer.states

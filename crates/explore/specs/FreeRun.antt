@@ -6,22 +6,22 @@ use Rattle.journal.specs.declared.event.Event.{Event}
 use Rattle.lrc_script.specs.Plan.{Plan}
 use Rattle.explore.specs.declared.prefixes.script_call.ScriptCall.{ScriptCall}
 use Rattle.explore.specs.declared.flat_state.FlatState.{FlatState}
-use Rattle.explore.specs.Free.{IsFree}
-use Rattle.explore.specs.Found.{IsFoundState}
-use Rattle.explore.specs.Machines.{AreLawfulMachineSteps, Knows}
+use Rattle.explore.specs.FreeChoice.{IsFreeForChoice}
+use Rattle.explore.specs.FoundStates.{IsFoundState}
+use Rattle.explore.specs.Machines.{AreLawfulMachineSteps, MachineKnows}
 
 -- each of these events is free
-abbrev pub AreFree : List (Vec ScriptCall) → List Event → Type 0
-AreFree rows more = (e : Event) → Has more e → IsFree rows e.kind
+abbrev pub AreFreeInRun : List (Vec ScriptCall) → List Event → Type 0
+AreFreeInRun rows more = (e : Event) → Has more e → IsFreeForChoice rows e.kind
 
 -- the machine m has become n by these events, which are free
-pub record WentFreely (rows : List (Vec ScriptCall)) (m n : FlatState) (more : List Event) : Type 0 where
-  pub free : AreFree rows more
+pub record IsFreeRun (rows : List (Vec ScriptCall)) (m n : FlatState) (more : List Event) : Type 0 where
+  pub free : AreFreeInRun rows more
   pub telling : n.telling ≡ m.telling
-  pub knows : (s : Plan) (g : List Event) → AreLawfulMachineSteps s rows → Knows s g m → Knows s (g ++ more) n
+  pub knows : (s : Plan) (g : List Event) → AreLawfulMachineSteps s rows → MachineKnows s g m → MachineKnows s (g ++ more) n
 
 -- free events lead from g to one of these states
-pub record IsFoundSoon (s : Plan) (rows : List (Vec ScriptCall)) (states : List FlatState) (g : List Event) : Type 0 where
+pub record IsFoundByFreeRun (s : Plan) (rows : List (Vec ScriptCall)) (states : List FlatState) (g : List Event) : Type 0 where
   pub more : List Event
-  pub free : AreFree rows more
+  pub free : AreFreeInRun rows more
   pub found : IsFoundState s states (g ++ more)

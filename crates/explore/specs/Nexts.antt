@@ -5,20 +5,20 @@ use Rattle.journal.specs.declared.event.Kind.{Kind}
 use Rattle.journal.specs.DidEvent.{did, event}
 use Rattle.journal.specs.Races.{Conflict}
 use Rattle.lrc_script.specs.Plan.{Plan}
-use Rattle.explore.specs.Prefixes.Beginnings.{IsFlatBeginning}
+use Rattle.explore.specs.Prefixes.FlatBeginnings.{IsFlatBeginning}
 use Rattle.explore.specs.declared.flat_state.FlatState.{FlatState}
 use Rattle.explore.specs.declared.neighbours.Neighbours.{Neighbours}
-use Rattle.explore.specs.Found.{FoundStaysPossible}
-use Rattle.explore.specs.Machines.{Knows}
+use Rattle.explore.specs.FoundStates.{FoundStateMayDo}
+use Rattle.explore.specs.Machines.{MachineKnows}
 
 -- of each processor what it may do next, whatever events come to m
 abbrev pub AreNexts : Plan → FlatState → List (Option Kind) → Type 0
-AreNexts s m nexts = (g : List Event) → Knows s g m → (p : ℕ) (k : Kind)
+AreNexts s m nexts = (g : List Event) → MachineKnows s g m → (p : ℕ) (k : Kind)
     → (slice_index_or nexts p None ≡ Some k) ↔ IsFlatBeginning s (did g p k)
 
 -- nothing may come next, whatever events come to m
-abbrev pub IsOverNext : Plan → FlatState → Type 0
-IsOverNext s m = (g : List Event) (p : ℕ) (k : Kind) → Knows s g m → ¬ IsFlatBeginning s (did g p k)
+abbrev pub NextsAreOver : Plan → FlatState → Type 0
+NextsAreOver s m = (g : List Event) (p : ℕ) (k : Kind) → MachineKnows s g m → ¬ IsFlatBeginning s (did g p k)
 
 -- what p and q may do next conflicts
 pub record AreNextInConflict (nexts : List (Option Kind)) (p q : ℕ) (a b : Kind) : Type 0 where
@@ -32,5 +32,5 @@ pub record AreNextNeighbours (s : Plan) (states : List FlatState) (x : Neighbour
   pub within : x.place < length states
   pub apart : x.first.processor ≢ x.second.processor
   pub conflict : Conflict x.first x.second
-  pub first : (m : FlatState) → slice_get states x.place ≡ Some m → FoundStaysPossible s m x.first.processor x.first.kind
-  pub second : (m : FlatState) → slice_get states x.place ≡ Some m → FoundStaysPossible s m x.second.processor x.second.kind
+  pub first : (m : FlatState) → slice_get states x.place ≡ Some m → FoundStateMayDo s m x.first.processor x.first.kind
+  pub second : (m : FlatState) → slice_get states x.place ≡ Some m → FoundStateMayDo s m x.second.processor x.second.kind

@@ -1,4 +1,4 @@
-pub mod Beginnings
-pub mod Calling
-pub mod Laws
+pub mod FlatBeginnings
+pub mod ScriptCalls
+pub mod PrefixLaws
 pub mod Prelude

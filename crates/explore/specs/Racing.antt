@@ -5,18 +5,18 @@ use Rattle.journal.specs.declared.event.Event.{Event}
 use Rattle.journal.specs.Races.{Race}
 use Rattle.lrc_script.specs.Plan.{Plan}
 use Rattle.explore.specs.declared.prefixes.script_call.ScriptCall.{ScriptCall}
-use Rattle.explore.specs.Prefixes.Beginnings.{IsFlatBeginning}
-use Rattle.explore.specs.declared.states.States.{States}
+use Rattle.explore.specs.Prefixes.FlatBeginnings.{IsFlatBeginning}
+use Rattle.explore.specs.declared.found_states.FoundStates.{FoundStates}
 use Rattle.explore.specs.declared.neighbours.Neighbours.{Neighbours}
-use Rattle.explore.specs.Found.{AreFound, states_found}
+use Rattle.explore.specs.FoundStates.{AreFoundStates, found_states}
 use Rattle.explore.specs.Machines.{AreLawfulMachineSteps}
 use Rattle.explore.specs.Nexts.{AreNextNeighbours}
 
 -- two next events of a lawful script conflict
-pub record AreRacing (s : Plan) (x : States) (steps : List (Vec ScriptCall)) (neighbours : Neighbours) : Type 0 where
+pub record AreRacing (s : Plan) (x : FoundStates) (steps : List (Vec ScriptCall)) (neighbours : Neighbours) : Type 0 where
   pub lawful : AreLawfulMachineSteps s steps
-  pub found : AreFound s x
-  pub are : AreNextNeighbours s (states_found x) neighbours
+  pub found : AreFoundStates s x
+  pub are : AreNextNeighbours s (found_states x) neighbours
 
 -- a prefix that races
 pub record IsRacingBeginning (s : Plan) (g : List Event) : Type 0 where

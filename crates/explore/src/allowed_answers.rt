@@ -5,31 +5,31 @@ ghost use Rattle.journal.specs.declared.event.Event.{Event as AnEvent};
 ghost use Rattle.journal.specs.declared.event.Kind.TheVariants.{Load, Store};
 ghost use Rattle.journal.specs.ExplainedAnswers.{IsAnswer};
 ghost use Rattle.journal.specs.Prelude.{did};
-ghost use Rattle.judge.specs.Sources.Prelude.{AreSourceStoresOf};
+ghost use Rattle.judge.specs.Sources.Prelude.{AreKeptSourcesOf};
 ghost use Rattle.lrc_script.specs.Prelude.{IsLawful, plan_of};
 ghost use Rattle.lrc_script.specs.Lawful.{plan_addresses};
-ghost use Rattle.explore.specs.Allowed.{IsAllowedBeginning};
-ghost use Rattle.explore.specs.AllowedAnswers.{AreStoredAt, HasAnswerMore, answer_stored};
+ghost use Rattle.explore.specs.AllowedRuns.{IsAllowedRunBeginning};
+ghost use Rattle.explore.specs.AllowedAnswers.{AreAllowedAnswersStoredAt, HasAllowedAnswerMore, allowed_answer_stored};
 
 use base::MOST_PROCESSORS;
 use journal::{Event, Kind};
-use judge::sources::Sources;
+use judge::sources::ReadableSources;
 use lrc_script::script::Script;
 use std::alloc::{AllocError, Global};
 
 /// Which stores a load may answer after these events. The only error is running out of memory.
-pub fn allowed_sources(
+pub fn allowed_answer_sources(
     alloc: Global,
     script: &Script,
     events: &[Event],
-) -> Result<Sources, AllocError>
+) -> Result<ReadableSources, AllocError>
     requires lawful { IsLawful (plan_of script.now) }
-    requires allowed { IsAllowedBeginning (plan_of script.now) events.now }
-    ensures tells { IfOk result (AreSourceStoresOf events.now) }
+    requires allowed { IsAllowedRunBeginning (plan_of script.now) events.now }
+    ensures tells { IfOk result (AreKeptSourcesOf events.now) }
     ensures processors { IfOk result (λ x. x.processors ≡ script.now.processors) }
     ensures addresses { IfOk result (λ x. x.addresses ≡ plan_addresses (plan_of script.now)) }
 {
-    let mut sources = Sources::new(alloc, script.processors, script.pages * script.words)?;
+    let mut sources = ReadableSources::new(alloc, script.processors, script.pages * script.words)?;
     for place in 0..events.len() {
         sources.note(events, place)?;
     }
@@ -37,8 +37,8 @@ pub fn allowed_sources(
 }
 
 /// The value that the event stores, 0 if it doesn't.
-fn stored_value(event: Event) -> u32
-    ensures { result ≡ answer_stored event.kind }
+fn allowed_answer_stored(event: Event) -> u32
+    ensures { result ≡ allowed_answer_stored event.kind }
 {
     match event.kind {
         Kind::Store(_, value) => value,
@@ -47,7 +47,7 @@ fn stored_value(event: Event) -> u32
 }
 
 /// Whether the value is among these answers.
-fn has_answer(answers: &[u32], value: u32) -> bool
+fn has_allowed_answer(answers: &[u32], value: u32) -> bool
     ensures { IsTrue result ↔ Has answers.now value }
 {
     for answer in answers {
@@ -59,28 +59,28 @@ fn has_answer(answers: &[u32], value: u32) -> bool
 }
 
 /// Adds an answer, if it is a new one.
-fn add_answer(answers: &mut Vec<u32>, value: u32) -> Result<(), AllocError>
-    ensures { OnOk result (HasAnswerMore answers.old.items answers.new.items value) }
+fn add_allowed_answer(answers: &mut Vec<u32>, value: u32) -> Result<(), AllocError>
+    ensures { OnOk result (HasAllowedAnswerMore answers.old.items answers.new.items value) }
 {
-    if !has_answer(answers, value) {
+    if !has_allowed_answer(answers, value) {
         answers.push(value)?;
     }
     Ok(())
 }
 
 /// The values that the events at these places store, each once.
-fn stored_answers(
+fn allowed_answers_stored(
     alloc: Global,
     events: &[Event],
     places: &[Option<usize>; MOST_PROCESSORS],
 ) -> Result<Vec<u32>, AllocError>
     requires { (q i : ℕ) → slice_get places.now q ≡ Some (Some i) → i < length events.now }
-    ensures { IfOk result (λ v. AreStoredAt events.now places.now (length places.now) v.items) }
+    ensures { IfOk result (λ v. AreAllowedAnswersStoredAt events.now places.now (length places.now) v.items) }
 {
     let mut answers = Vec::new(alloc);
     for by in 0..MOST_PROCESSORS {
         if let Some(place) = places[by] {
-            add_answer(&mut answers, stored_value(events[place]))?;
+            add_allowed_answer(&mut answers, allowed_answer_stored(events[place]))?;
         }
     }
     Ok(answers)
@@ -90,12 +90,12 @@ fn stored_answers(
 /// or 0 if its past has none; each once. The only error is running out of memory.
 pub fn allowed_answers(
     alloc: Global,
-    sources: &Sources,
+    sources: &ReadableSources,
     events: &[Event],
     processor: usize,
     address: usize,
 ) -> Result<Vec<u32>, AllocError>
-    requires tells { AreSourceStoresOf events.now sources.now }
+    requires tells { AreKeptSourcesOf events.now sources.now }
     requires processor { processor < sources.now.processors }
     requires address { address < sources.now.addresses }
     ensures once { IfOk result (λ v. IsOnce v.items) }
@@ -103,7 +103,7 @@ pub fn allowed_answers(
         ↔ IsAnswer (did events.now processor (Load address x)) (length events.now) address x) }
 {
     let latest = sources.before(processor, address);
-    let mut answers = stored_answers(alloc, events, &latest)?;
+    let mut answers = allowed_answers_stored(alloc, events, &latest)?;
     if answers.is_empty() {
         answers.push(0)?;
     }

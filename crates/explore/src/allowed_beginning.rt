@@ -4,28 +4,28 @@ ghost use Rattle.base.specs.Prelude.{most_processors};
 ghost use Rattle.journal.specs.declared.event.Kind.{Kind as AKind};
 ghost use Rattle.journal.specs.declared.event.Kind.TheVariants.{Load};
 ghost use Rattle.journal.specs.Prelude.{did};
-ghost use Rattle.judge.specs.Sources.Prelude.{AreSourceStoresOf};
+ghost use Rattle.judge.specs.Sources.Prelude.{AreKeptSourcesOf};
 ghost use Rattle.lrc_script.specs.Prelude.{IsLawful, Plan};
 ghost use Rattle.lrc_script.specs.Lawful.{plan_addresses};
 ghost use Rattle.conformance.specs.Follows.{Follows};
-ghost use Rattle.explore.specs.Allowed.{IsAllowedBeginning};
-ghost use Rattle.explore.specs.AllowedBeginnings.{AreCallsFollowed, AreCallsNext, ArePlainCalls, IsCallFollowed, MayBeLengthened};
-ghost use Rattle.explore.specs.AllowedBeginnings.{MayCallNext, MayFollowCall, MayFollowCalls, TellsAllowed, allowed_events};
+ghost use Rattle.explore.specs.AllowedRuns.{IsAllowedRunBeginning};
+ghost use Rattle.explore.specs.AllowedBeginnings.{AreAllowedBeginningCallsFollowed, AreAllowedBeginningCalls, AreAllowedBeginningCallsPlain, IsAllowedBeginningCallFollowed, AllowedBeginningMayGoOn};
+ghost use Rattle.explore.specs.AllowedBeginnings.{AllowedBeginningMayCall, MayFollowAllowedBeginningCall, MayFollowAllowedBeginningCalls, TellsAllowedBeginning, allowed_beginning_events};
 ghost use Rattle.explore.specs.Machines.{AreLawfulMachineSteps, machine_rows};
-ghost use Rattle.explore.specs.Prefixes.Calling.{replyless_call};
-ghost use Rattle.explore.specs.Told.{AreToldReplies};
-ghost use Rattle.explore.specs.Waiting.{IsLikeWaiting};
+ghost use Rattle.explore.specs.Prefixes.ScriptCalls.{replyless_script_call};
+ghost use Rattle.explore.specs.OutcomeTelling.{AreOutcomeTellingReplies};
+ghost use Rattle.explore.specs.KeptWaiting.{IsLikeKeptWaiting};
 
 use crate::allowed_answers::allowed_answers;
 use crate::allowed_calls::{
-    allowed_call_of, allowed_calls_made, allowed_replies, allowed_reply_before,
+    allowed_call_of, allowed_calls_made, allowed_calls_replies, allowed_calls_reply_before,
 };
+use crate::outcome_telling::OutcomeTelling;
 use crate::prefixes::ScriptCall;
-use crate::told::OutcomeTelling;
 use crate::waiting::Waiting;
 use base::MOST_PROCESSORS;
 use journal::{Event, Kind};
-use judge::sources::Sources;
+use judge::sources::ReadableSources;
 use std::alloc::{AllocError, Global};
 
 /// A beginning of a run that the rules of the memory allow: each load answers a latest store of its past.
@@ -38,8 +38,8 @@ pub struct AllowedBeginning {
 impl AllowedBeginning {
     /// Before the first event.
     pub fn new(alloc: Global) -> AllowedBeginning
-        ensures told { (s : Plan) → TellsAllowed s result }
-        ensures empty { allowed_events result ≡ [] }
+        ensures told { (s : Plan) → TellsAllowedBeginning s result }
+        ensures empty { allowed_beginning_events result ≡ [] }
     {
         AllowedBeginning {
             events: Vec::new(alloc),
@@ -49,15 +49,22 @@ impl AllowedBeginning {
 
     /// The events, in order.
     pub fn events(&self) -> &[Event]
-        ensures { result.now ≡ allowed_events self.now }
+        ensures { result.now ≡ allowed_beginning_events self.now }
     {
         &self.events
     }
 
+    /// The events themselves, in order.
+    pub fn into_events(self) -> Vec<Event>
+        ensures { result.items ≡ allowed_beginning_events self }
+    {
+        self.events
+    }
+
     /// Another one of the same events. The only error is running out of memory.
     fn copy(&self) -> Result<AllowedBeginning, AllocError>
-        ensures events { IfOk result (λ b. allowed_events b ≡ allowed_events self.now) }
-        ensures waiting { IfOk result (λ b. IsLikeWaiting self.now.waiting b.waiting) }
+        ensures events { IfOk result (λ b. allowed_beginning_events b ≡ allowed_beginning_events self.now) }
+        ensures waiting { IfOk result (λ b. IsLikeKeptWaiting self.now.waiting b.waiting) }
     {
         Ok(AllowedBeginning {
             events: self.events.clone()?,
@@ -67,9 +74,9 @@ impl AllowedBeginning {
 
     /// The beginning with one event more, which may come next. The only error is running out of memory.
     fn lengthened(&self, processor: usize, kind: Kind) -> Result<AllowedBeginning, AllocError>
-        requires { (s : Plan) × MayBeLengthened s self.now processor kind }
-        ensures events { IfOk result (λ b. allowed_events b ≡ did (allowed_events self.now) processor kind) }
-        ensures told { IfOk result (λ b. (s : Plan) → MayBeLengthened s self.now processor kind → TellsAllowed s b) }
+        requires { (s : Plan) × AllowedBeginningMayGoOn s self.now processor kind }
+        ensures events { IfOk result (λ b. allowed_beginning_events b ≡ did (allowed_beginning_events self.now) processor kind) }
+        ensures told { IfOk result (λ b. (s : Plan) → AllowedBeginningMayGoOn s self.now processor kind → TellsAllowedBeginning s b) }
     {
         let mut longer = self.copy()?;
         longer.waiting.note(processor, kind)?;
@@ -81,17 +88,20 @@ impl AllowedBeginning {
     /// these rows.
     fn next_call(&self, steps: &[Vec<ScriptCall>], processor: usize) -> Option<Kind>
         requires processor { processor < length steps.now }
-        requires told { (s : Plan) × AreLawfulMachineSteps s steps.now × TellsAllowed s self.now }
-        ensures call { (s : Plan) → AreLawfulMachineSteps s steps.now → TellsAllowed s self.now → (k : AKind)
-            → (result ≡ Some (replyless_call k)) ↔ MayCallNext s (allowed_events self.now) processor k }
-        ensures plain { (c : AKind) → result ≡ Some c → replyless_call c ≡ c }
+        requires told { (s : Plan) × AreLawfulMachineSteps s steps.now × TellsAllowedBeginning s self.now }
+        ensures call { (s : Plan) → AreLawfulMachineSteps s steps.now → TellsAllowedBeginning s self.now → (k : AKind)
+            → (result ≡ Some (replyless_script_call k)) ↔ AllowedBeginningMayCall s (allowed_beginning_events self.now) processor k }
+        ensures plain { (c : AKind) → result ≡ Some c → replyless_script_call c ≡ c }
     {
         let row = &steps[processor];
         let made = allowed_calls_made(&self.events, processor);
         if made >= row.len() {
             return None;
         }
-        let call = allowed_call_of(row[made], allowed_reply_before(&self.events, processor));
+        let call = allowed_call_of(
+            row[made],
+            allowed_calls_reply_before(&self.events, processor),
+        );
         if self.waiting.may_follow(steps.len(), processor, call) {
             Some(call)
         } else {
@@ -101,10 +111,10 @@ impl AllowedBeginning {
 
     /// What each processor calls next, as `next_call` says.
     pub fn next_calls(&self, steps: &[Vec<ScriptCall>]) -> [Option<Kind>; MOST_PROCESSORS]
-        requires told { (s : Plan) × AreLawfulMachineSteps s steps.now × TellsAllowed s self.now }
-        ensures calls { (s : Plan) → AreLawfulMachineSteps s steps.now → TellsAllowed s self.now
-            → AreCallsNext s (allowed_events self.now) result }
-        ensures plain { ArePlainCalls result }
+        requires told { (s : Plan) × AreLawfulMachineSteps s steps.now × TellsAllowedBeginning s self.now }
+        ensures calls { (s : Plan) → AreLawfulMachineSteps s steps.now → TellsAllowedBeginning s self.now
+            → AreAllowedBeginningCalls s (allowed_beginning_events self.now) result }
+        ensures plain { AreAllowedBeginningCallsPlain result }
         ensures long { length result ≡ most_processors }
     {
         let mut calls = [None; MOST_PROCESSORS];
@@ -116,8 +126,8 @@ impl AllowedBeginning {
 
     /// Whether each processor has made all its calls.
     pub fn is_whole(&self, steps: &[Vec<ScriptCall>]) -> bool
-        ensures { (s : Plan) → AreLawfulMachineSteps s steps.now → TellsAllowed s self.now
-            → IsTrue result ↔ Follows s (allowed_events self.now) }
+        ensures { (s : Plan) → AreLawfulMachineSteps s steps.now → TellsAllowedBeginning s self.now
+            → IsTrue result ↔ Follows s (allowed_beginning_events self.now) }
     {
         for processor in 0..steps.len() {
             if allowed_calls_made(&self.events, processor) < steps[processor].len() {
@@ -134,11 +144,11 @@ impl AllowedBeginning {
         telling: OutcomeTelling,
         steps: &[Vec<ScriptCall>],
     ) -> Result<Vec<Vec<u32>>, AllocError>
-        requires told { (s : Plan) × AreLawfulMachineSteps s steps.now × TellsAllowed s self.now }
-        ensures { IfOk result (λ v. (s : Plan) → AreLawfulMachineSteps s steps.now → TellsAllowed s self.now
-            → AreToldReplies s telling (allowed_events self.now) (machine_rows v.items)) }
+        requires told { (s : Plan) × AreLawfulMachineSteps s steps.now × TellsAllowedBeginning s self.now }
+        ensures { IfOk result (λ v. (s : Plan) → AreLawfulMachineSteps s steps.now → TellsAllowedBeginning s self.now
+            → AreOutcomeTellingReplies s telling (allowed_beginning_events self.now) (machine_rows v.items)) }
     {
-        let replies = allowed_replies(alloc, telling, &self.events, steps)?;
+        let replies = allowed_calls_replies(alloc, telling, &self.events, steps)?;
         Ok(replies)
     }
 
@@ -146,14 +156,14 @@ impl AllowedBeginning {
     fn follow_load(
         &self,
         alloc: Global,
-        sources: &Sources,
+        sources: &ReadableSources,
         processor: usize,
         address: usize,
         pending: &mut Vec<AllowedBeginning>,
     ) -> Result<(), AllocError>
-        requires { (s : Plan) × MayFollowCall s self.now sources.now processor (Load address 0) }
-        ensures { OnOk result ((s : Plan) → MayFollowCall s self.now sources.now processor (Load address 0)
-            → IsCallFollowed s (allowed_events self.now) processor (Load address 0) pending.old.items pending.new.items) }
+        requires { (s : Plan) × MayFollowAllowedBeginningCall s self.now sources.now processor (Load address 0) }
+        ensures { OnOk result ((s : Plan) → MayFollowAllowedBeginningCall s self.now sources.now processor (Load address 0)
+            → IsAllowedBeginningCallFollowed s (allowed_beginning_events self.now) processor (Load address 0) pending.old.items pending.new.items) }
     {
         let answers = allowed_answers(alloc, sources, &self.events, processor, address)?;
         for word in &answers {
@@ -166,14 +176,14 @@ impl AllowedBeginning {
     fn follow(
         &self,
         alloc: Global,
-        sources: &Sources,
+        sources: &ReadableSources,
         processor: usize,
         call: Kind,
         pending: &mut Vec<AllowedBeginning>,
     ) -> Result<(), AllocError>
-        requires { (s : Plan) × MayFollowCall s self.now sources.now processor call }
-        ensures { OnOk result ((s : Plan) → MayFollowCall s self.now sources.now processor call
-            → IsCallFollowed s (allowed_events self.now) processor call pending.old.items pending.new.items) }
+        requires { (s : Plan) × MayFollowAllowedBeginningCall s self.now sources.now processor call }
+        ensures { OnOk result ((s : Plan) → MayFollowAllowedBeginningCall s self.now sources.now processor call
+            → IsAllowedBeginningCallFollowed s (allowed_beginning_events self.now) processor call pending.old.items pending.new.items) }
     {
         match call {
             Kind::Load(address, _) => self.follow_load(alloc, sources, processor, address, pending),
@@ -189,13 +199,13 @@ impl AllowedBeginning {
     pub fn follow_all(
         &self,
         alloc: Global,
-        sources: &Sources,
+        sources: &ReadableSources,
         calls: &[Option<Kind>; MOST_PROCESSORS],
         pending: &mut Vec<AllowedBeginning>,
     ) -> Result<(), AllocError>
-        requires { (s : Plan) × MayFollowCalls s self.now sources.now calls.now }
-        ensures { OnOk result ((s : Plan) → MayFollowCalls s self.now sources.now calls.now
-            → AreCallsFollowed s (allowed_events self.now) calls.now pending.old.items pending.new.items) }
+        requires { (s : Plan) × MayFollowAllowedBeginningCalls s self.now sources.now calls.now }
+        ensures { OnOk result ((s : Plan) → MayFollowAllowedBeginningCalls s self.now sources.now calls.now
+            → AreAllowedBeginningCallsFollowed s (allowed_beginning_events self.now) calls.now pending.old.items pending.new.items) }
     {
         for processor in 0..MOST_PROCESSORS {
             if let Some(call) = calls[processor] {

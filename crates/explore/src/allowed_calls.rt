@@ -6,19 +6,19 @@ ghost use Rattle.journal.specs.declared.event.Kind.{Kind as AKind};
 ghost use Rattle.conformance.specs.FlatRuns.{FlatRunHasNoFetch};
 ghost use Rattle.conformance.specs.Follows.{calls_of};
 ghost use Rattle.explore.specs.declared.prefixes.script_call.ScriptCall.{ScriptCall as AStep};
-ghost use Rattle.explore.specs.Prefixes.Calling.{IsCallOfStep, last_reply_of_calls, replyless_call, reply_after_call};
-ghost use Rattle.explore.specs.Told.{told_replies};
+ghost use Rattle.explore.specs.Prefixes.ScriptCalls.{FitsScriptCall, last_reply_of_script_calls, replyless_script_call, script_call_reply_after};
+ghost use Rattle.explore.specs.OutcomeTelling.{outcome_telling_replies};
 
+use crate::outcome_telling::OutcomeTelling;
 use crate::prefixes::ScriptCall;
-use crate::told::OutcomeTelling;
 use crate::told_replies::told_replies_of;
 use journal::{Event, Kind};
 use std::alloc::{AllocError, Global};
 
 /// The call that the step says, after this reply; a load without one.
 pub fn allowed_call_of(step: ScriptCall, reply: u32) -> Kind
-    ensures call { (k : AKind) → (result ≡ replyless_call k) ↔ IsCallOfStep reply step k }
-    ensures plain { replyless_call result ≡ result }
+    ensures call { (k : AKind) → (result ≡ replyless_script_call k) ↔ FitsScriptCall reply step k }
+    ensures plain { replyless_script_call result ≡ result }
 {
     match step {
         ScriptCall::Call(Kind::Load(address, _)) => Kind::Load(address, 0),
@@ -38,8 +38,8 @@ pub fn allowed_calls_made(events: &[Event], processor: usize) -> usize
 }
 
 /// The reply that the processor was given last, after one event more.
-fn reply_after(reply: u32, event: Event, processor: usize) -> u32
-    ensures { result ≡ cond (event.processor == processor) (reply_after_call reply event.kind) reply }
+fn allowed_call_reply_after(reply: u32, event: Event, processor: usize) -> u32
+    ensures { result ≡ cond (event.processor == processor) (script_call_reply_after reply event.kind) reply }
 {
     match event.kind {
         Kind::Load(_, word) if event.processor == processor => word,
@@ -48,18 +48,22 @@ fn reply_after(reply: u32, event: Event, processor: usize) -> u32
 }
 
 /// What the processor's last load among these events answered, 0 if there is none.
-pub fn allowed_reply_before(events: &[Event], processor: usize) -> u32
-    ensures { result ≡ last_reply_of_calls (calls_of events.now processor) }
+pub fn allowed_calls_reply_before(events: &[Event], processor: usize) -> u32
+    ensures { result ≡ last_reply_of_script_calls (calls_of events.now processor) }
 {
     let mut reply = 0;
     for event in events {
-        reply = reply_after(reply, *event, processor);
+        reply = allowed_call_reply_after(reply, *event, processor);
     }
     reply
 }
 
 /// Puts the event's kind at the end, if it is the processor's.
-fn keep_call_of(calls: &mut Vec<Kind>, event: Event, processor: usize) -> Result<(), AllocError>
+fn keep_allowed_call_of(
+    calls: &mut Vec<Kind>,
+    event: Event,
+    processor: usize,
+) -> Result<(), AllocError>
     ensures { OnOk result (calls.new.items ≡ calls.old.items ++ cond (event.processor == processor) (event.kind ∷ []) []) }
 {
     if event.processor == processor {
@@ -69,7 +73,7 @@ fn keep_call_of(calls: &mut Vec<Kind>, event: Event, processor: usize) -> Result
 }
 
 /// What the processor called among these events, in order, if nothing was fetched. The only error is running out of memory.
-fn allowed_calls_of(
+pub fn allowed_calls_of(
     alloc: Global,
     events: &[Event],
     processor: usize,
@@ -79,13 +83,13 @@ fn allowed_calls_of(
 {
     let mut calls = Vec::new(alloc);
     for event in events {
-        keep_call_of(&mut calls, *event, processor)?;
+        keep_allowed_call_of(&mut calls, *event, processor)?;
     }
     Ok(calls)
 }
 
 /// What is told of the processor's loads among these events. Its steps are these. The only error is running out of memory.
-fn allowed_replies_of(
+fn allowed_calls_replies_of(
     alloc: Global,
     telling: OutcomeTelling,
     events: &[Event],
@@ -94,7 +98,7 @@ fn allowed_replies_of(
 ) -> Result<Vec<u32>, AllocError>
     requires fetchless { FlatRunHasNoFetch events.now }
     requires few { length (calls_of events.now processor) ≤ length steps.now }
-    ensures { IfOk result (λ v. v.items ≡ told_replies telling processor steps.now 0 (calls_of events.now processor)) }
+    ensures { IfOk result (λ v. v.items ≡ outcome_telling_replies telling processor steps.now 0 (calls_of events.now processor)) }
 {
     let calls = allowed_calls_of(alloc, events, processor)?;
     told_replies_of(alloc, telling, processor, steps, &calls)
@@ -102,7 +106,7 @@ fn allowed_replies_of(
 
 /// Of each processor, what is told of its loads among these events. Its steps are one of these rows. The only error is running out of
 /// memory.
-pub fn allowed_replies(
+pub fn allowed_calls_replies(
     alloc: Global,
     telling: OutcomeTelling,
     events: &[Event],
@@ -113,12 +117,12 @@ pub fn allowed_replies(
         → length (calls_of events.now p) ≤ length row.items }
     ensures long { IfOk result (λ v. length v.items ≡ length steps.now) }
     ensures each { IfOk result (λ v. (p : ℕ) (row : AVec AStep) (told : AVec ℕ) → slice_get steps.now p ≡ Some row
-        → slice_get v.items p ≡ Some told → told.items ≡ told_replies telling p row.items 0 (calls_of events.now p)) }
+        → slice_get v.items p ≡ Some told → told.items ≡ outcome_telling_replies telling p row.items 0 (calls_of events.now p)) }
 {
     let mut all = Vec::new(alloc);
     for processor in 0..steps.len() {
         let row = &steps[processor];
-        all.push(allowed_replies_of(alloc, telling, events, processor, row)?)?;
+        all.push(allowed_calls_replies_of(alloc, telling, events, processor, row)?)?;
     }
     Ok(all)
 }

@@ -1,22 +1,22 @@
 //! The search by the rules of the memory alone: beginnings of runs are looked at, the longest first.
 ghost use Rattle.std.specs.Prelude.{◌≡◌, ◌⊎◌, [], IfOk, OnOk};
 ghost use Rattle.lrc_script.specs.Prelude.{IsLawful, Plan, plan_of};
-ghost use Rattle.explore.specs.Allowed.{AreAllowedOutcomes};
-ghost use Rattle.explore.specs.AllowedBeginnings.{TellsAllowed, allowed_events};
-ghost use Rattle.explore.specs.AllowedSearch.{IsAllowedFollowed, IsAllowedLookedAt, IsAllowedSearched};
+ghost use Rattle.explore.specs.AllowedRuns.{AreAllowedRunOutcomes};
+ghost use Rattle.explore.specs.AllowedBeginnings.{TellsAllowedBeginning, allowed_beginning_events};
+ghost use Rattle.explore.specs.AllowedSearch.{IsAllowedSearchFollowed, IsAllowedSearchStep, IsAllowedSearched, allowed_search_found};
 ghost use Rattle.explore.specs.Machines.{AreLawfulMachineSteps};
-ghost use Rattle.explore.specs.declared.told.Detail.{Detail as ADetail};
+ghost use Rattle.explore.specs.declared.outcome_telling.Detail.{Detail as ADetail};
 
 use crate::allowed::AllowedOutcomes;
-use crate::allowed_answers::allowed_sources;
+use crate::allowed_answers::allowed_answer_sources;
 use crate::allowed_beginning::AllowedBeginning;
 use crate::allowed_choice::allowed_choice;
-use crate::allowed_room::beginnings_to_look_at;
+use crate::allowed_room::allowed_room_at_most;
 use crate::explored::ScriptOutcome;
-use crate::prefixes::{ScriptCall, steps_of_script};
+use crate::outcome_telling::{Detail, OutcomeTelling};
+use crate::prefixes::{ScriptCall, script_calls_of_all};
 use crate::progress::Progress;
-use crate::search::{add_outcome, search_outcomes_listed};
-use crate::told::{Detail, OutcomeTelling};
+use crate::search::{add_search_outcome, search_outcomes_listed};
 use indexmap::IndexSet;
 use lrc_script::script::Script;
 use std::alloc::{AllocError, Global};
@@ -26,15 +26,16 @@ use std::mem;
 #[derive(Drop)]
 pub struct AllowedSearch {
     /// The beginnings that are still to be looked at, the next one last.
-    pending: Vec<AllowedBeginning>,
+    pub pending: Vec<AllowedBeginning>,
     /// What the whole runs show that were met.
     outcomes: IndexSet<ScriptOutcome>,
 }
 
 impl AllowedSearch {
     /// Before the first event. The only error is running out of memory.
-    fn new(alloc: Global) -> Result<AllowedSearch, AllocError>
-        ensures { IfOk result (λ x. (s : Plan) (d : ADetail) → IsAllowedSearched s d 0 x) }
+    pub fn new(alloc: Global) -> Result<AllowedSearch, AllocError>
+        ensures searched { IfOk result (λ x. (s : Plan) (d : ADetail) → IsAllowedSearched s d 0 x) }
+        ensures none { IfOk result (λ x. allowed_search_found x ≡ []) }
     {
         let mut pending = Vec::new(alloc);
         pending.push(AllowedBeginning::new(alloc))?;
@@ -53,10 +54,10 @@ impl AllowedSearch {
         beginning: &AllowedBeginning,
     ) -> Result<(), AllocError>
         requires steps { AreLawfulMachineSteps (plan_of script.now) steps.now }
-        requires told { TellsAllowed (plan_of script.now) beginning.now }
-        ensures { OnOk result ((d : ADetail) → IsAllowedFollowed (plan_of script.now) d (allowed_events beginning.now) self.old self.new) }
+        requires told { TellsAllowedBeginning (plan_of script.now) beginning.now }
+        ensures { OnOk result ((d : ADetail) → IsAllowedSearchFollowed (plan_of script.now) d (allowed_beginning_events beginning.now) self.old self.new) }
     {
-        let sources = allowed_sources(alloc, script, beginning.events())?;
+        let sources = allowed_answer_sources(alloc, script, beginning.events())?;
         let calls = beginning.next_calls(steps);
         let chosen = allowed_choice(&calls);
         beginning.follow_all(alloc, &sources, &chosen, &mut self.pending)
@@ -64,7 +65,7 @@ impl AllowedSearch {
 
     /// Looks at a beginning: what it shows, told by this detail, is noted if it is whole, else what may come next after it is to be
     /// looked at.
-    fn look_at(
+    pub fn look_at(
         &mut self,
         alloc: Global,
         script: &Script,
@@ -73,13 +74,13 @@ impl AllowedSearch {
         beginning: &AllowedBeginning,
     ) -> Result<(), AllocError>
         requires steps { AreLawfulMachineSteps (plan_of script.now) steps.now }
-        requires told { TellsAllowed (plan_of script.now) beginning.now }
-        ensures { OnOk result (IsAllowedLookedAt (plan_of script.now) detail (allowed_events beginning.now) self.old self.new) }
+        requires told { TellsAllowedBeginning (plan_of script.now) beginning.now }
+        ensures { OnOk result (IsAllowedSearchStep (plan_of script.now) detail (allowed_beginning_events beginning.now) self.old self.new) }
     {
         if beginning.is_whole(steps) {
             let telling = OutcomeTelling::of_script(script, detail);
             let replies = beginning.replies(alloc, telling, steps)?;
-            return add_outcome(&mut self.outcomes, ScriptOutcome { replies });
+            return add_search_outcome(&mut self.outcomes, ScriptOutcome { replies });
         }
         self.follow(alloc, script, steps, beginning)
     }
@@ -111,7 +112,7 @@ impl AllowedSearch {
 }
 
 /// Looks for all that runs of the script may show by the rules of the memory alone, told by this detail: each load answers a latest store of its past, or 0
-/// if its past has none. It gives up after `most` beginnings of runs, or after as many as are done in some seconds (`beginnings_that_fit`). The only error is running out of memory.
+/// if its past has none. It gives up after `most` beginnings of runs, or after as many as are done in some seconds (`allowed_room_size`). The only error is running out of memory.
 ///
 /// Nothing is said of which of it this memory shows: that applies the records of intervals in the order in which these were closed, and
 /// its processors fetch pages, which is left out here.
@@ -127,10 +128,10 @@ pub fn allowed_outcomes<P: Progress>(
     progress: &mut P,
 ) -> Result<AllowedOutcomes, AllocError>
     requires { IsLawful (plan_of script.now) }
-    ensures { IfOk result (AreAllowedOutcomes (plan_of script.now) detail most) }
+    ensures { IfOk result (AreAllowedRunOutcomes (plan_of script.now) detail most) }
 {
-    let steps = steps_of_script(alloc, script)?;
-    let most = beginnings_to_look_at(script, most);
+    let steps = script_calls_of_all(alloc, script)?;
+    let most = allowed_room_at_most(script, most);
     let mut search = AllowedSearch::new(alloc)?;
     let beginnings = search.look_at_all(alloc, script, &steps, detail, most, progress)?;
     let are_all = search.pending.is_empty();

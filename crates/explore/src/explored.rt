@@ -1,6 +1,6 @@
 //! What there is to say of all runs of a script on one flat memory.
 ghost use Rattle.std.specs.Prelude.{◌≡◌};
-ghost use Rattle.explore.specs.Explored.{is_settled};
+ghost use Rattle.explore.specs.Explored.{is_explored_settled};
 
 use journal::{Event, Kind};
 
@@ -66,7 +66,7 @@ pub struct Explored {
 impl Explored {
     /// Whether nothing is open: the script races, or it doesn't and all is known of its hangs and outcomes.
     pub fn is_settled(&self) -> bool
-        ensures { result ≡ is_settled self.now }
+        ensures { result ≡ is_explored_settled self.now }
     {
         match (&self.verdict, &self.hanging) {
             (Verdict::Racy(_), _) => true,

@@ -4,19 +4,21 @@ ghost use Rattle.std.specs.Prelude.{length, replicate, slice_get, slice_index, s
 ghost use Rattle.base.specs.Prelude.{most_processors, wrote};
 ghost use Rattle.journal.specs.declared.event.Event.{Event as AnEvent};
 ghost use Rattle.journal.specs.declared.event.Kind.{Kind as AKind};
-ghost use Rattle.journal.specs.Prelude.{AddressInRange, AnswersFlatWord, did, flat_write};
+ghost use Rattle.journal.specs.Prelude.{EventAddressInRange, AnswersReplayMemory, did, replay_memory_write};
 ghost use Rattle.lrc_script.specs.Prelude.{IsLawful, Plan, plan_of};
 ghost use Rattle.conformance.specs.Follows.{Follows, calls_of};
-ghost use Rattle.explore.specs.Prefixes.Calling.{IsCallOfStep, last_reply_of_calls};
+ghost use Rattle.explore.specs.Prefixes.ScriptCalls.{FitsScriptCall, last_reply_of_script_calls};
 ghost use Rattle.explore.specs.Prefixes.Prelude.{IsFlatBeginning};
-ghost use Rattle.explore.specs.Machines.{AreLawfulMachineSteps, MachineStepReads, SameMachineState, IsMachineRunning, IsMachineStep, Knows};
+ghost use Rattle.explore.specs.Machines.{AreLawfulMachineSteps, MachineReadsWithin, MachinesInSameState, IsMachineRunning, MachineMayDo, MachineKnows};
 ghost use Rattle.explore.specs.Machines.{machine_rows, machine_last_or};
-ghost use Rattle.explore.specs.Told.{is_told_sum, told_steps, telling_of_script};
-ghost use Rattle.explore.specs.Until.{HasFinalWords};
-ghost use Rattle.explore.specs.Waiting.{AreAwaited};
+ghost use Rattle.explore.specs.OutcomeTelling.{is_sum_for_outcome_telling, outcome_telling_steps, outcome_telling_of_script};
+ghost use Rattle.explore.specs.EndingWords.{HasEndingWords};
+ghost use Rattle.explore.specs.KeptWaiting.{AreKeptWaitingKinds};
 
+use crate::outcome_telling::{
+    Detail, OutcomeTelling, is_sum_for_outcome_telling, outcome_telling_step,
+};
 use crate::prefixes::ScriptCall;
-use crate::told::{Detail, OutcomeTelling, is_told_sum, told_step};
 use crate::told_replies::keep_told_reply;
 use crate::waiting::Waiting;
 use base::MOST_PROCESSORS;
@@ -41,9 +43,9 @@ pub struct FlatState {
 }
 
 /// The call that the step says, after this reply, with the word of the memory if it loads.
-fn call_of(step: ScriptCall, reply: u32, memory: &[u32]) -> Kind
-    requires { MachineStepReads (length memory.now) step }
-    ensures { (k : AKind) → (result ≡ k) ↔ (IsCallOfStep reply step k × AnswersFlatWord memory.now k) }
+fn flat_state_call_of(step: ScriptCall, reply: u32, memory: &[u32]) -> Kind
+    requires { MachineReadsWithin (length memory.now) step }
+    ensures { (k : AKind) → (result ≡ k) ↔ (FitsScriptCall reply step k × AnswersReplayMemory memory.now k) }
 {
     match step {
         ScriptCall::Call(Kind::Load(address, _)) => Kind::Load(address, memory[address]),
@@ -53,7 +55,7 @@ fn call_of(step: ScriptCall, reply: u32, memory: &[u32]) -> Kind
 }
 
 /// The last of these words, 0 if there is none.
-fn last_of(words: &[u32]) -> u32
+fn flat_state_last_of(words: &[u32]) -> u32
     ensures { result ≡ machine_last_or 0 words.now }
 {
     match words.last() {
@@ -63,7 +65,7 @@ fn last_of(words: &[u32]) -> u32
 }
 
 /// Lets go of the last reply, if the step added to it.
-fn let_go(replies: &mut Vec<u32>, is_sum: bool)
+fn flat_state_let_go(replies: &mut Vec<u32>, is_sum: bool)
     ensures { (front : List ℕ) (reply : ℕ) → replies.old.items ≡ front ++ cond is_sum (reply ∷ []) []
         → replies.new.items ≡ front }
 {
@@ -73,9 +75,9 @@ fn let_go(replies: &mut Vec<u32>, is_sum: bool)
 }
 
 /// Writes a store's word.
-fn write(memory: &mut [u32], kind: Kind)
-    requires { AddressInRange (length memory.old) kind }
-    ensures { memory.new ≡ wrote memory.old (flat_write kind) }
+fn flat_state_write(memory: &mut [u32], kind: Kind)
+    requires { EventAddressInRange (length memory.old) kind }
+    ensures { memory.new ≡ wrote memory.old (replay_memory_write kind) }
 {
     if let Kind::Store(address, value) = kind {
         memory[address] = value;
@@ -83,14 +85,14 @@ fn write(memory: &mut [u32], kind: Kind)
 }
 
 /// Whether the memory has this word at the address.
-fn has_word(memory: &[u32], address: usize, word: u32) -> bool
+fn flat_state_has_word(memory: &[u32], address: usize, word: u32) -> bool
     ensures { IsTrue result ↔ (slice_get memory.now address ≡ Some word) }
 {
     address < memory.len() && memory[address] == word
 }
 
 /// No replies, of so many processors.
-fn no_replies(alloc: Global, processors: usize) -> Result<Vec<Vec<u32>>, AllocError>
+fn flat_state_no_replies(alloc: Global, processors: usize) -> Result<Vec<Vec<u32>>, AllocError>
     ensures { IfOk result (λ v. machine_rows v.items ≡ replicate processors []) }
 {
     let mut all = Vec::new(alloc);
@@ -104,13 +106,13 @@ impl FlatState {
     /// Before the first event of the script. The only error is running out of memory.
     pub fn new(alloc: Global, script: &Script, detail: Detail) -> Result<FlatState, AllocError>
         requires { IsLawful (plan_of script.now) }
-        ensures knows { IfOk result (Knows (plan_of script.now) []) }
-        ensures telling { IfOk result (λ m. m.telling ≡ telling_of_script (plan_of script.now) detail) }
+        ensures knows { IfOk result (MachineKnows (plan_of script.now) []) }
+        ensures telling { IfOk result (λ m. m.telling ≡ outcome_telling_of_script (plan_of script.now) detail) }
     {
         Ok(FlatState {
             telling: OutcomeTelling::of_script(script, detail),
             done: [0; MOST_PROCESSORS],
-            replies: no_replies(alloc, script.processors)?,
+            replies: flat_state_no_replies(alloc, script.processors)?,
             memory: vec![in alloc; 0; script.pages * script.words]?,
             waiting: Waiting::new(alloc),
         })
@@ -118,7 +120,7 @@ impl FlatState {
 
     /// Another one in the same state. The only error is running out of memory.
     pub fn copy(&self) -> Result<FlatState, AllocError>
-        ensures { IfOk result (SameMachineState self.now) }
+        ensures { IfOk result (MachinesInSameState self.now) }
     {
         Ok(FlatState {
             telling: self.telling,
@@ -140,18 +142,18 @@ impl FlatState {
     /// What the processor's last load answered, if its next step adds to that.
     fn reply_before(&self, processor: usize) -> u32
         requires { processor < length self.now.replies.items }
-        ensures { (s : Plan) (g : List AnEvent) → Knows s g self.now
-            → IsTrue (is_told_sum (slice_get (told_steps s processor) (length (calls_of g processor))))
-            → result ≡ last_reply_of_calls (calls_of g processor) }
+        ensures { (s : Plan) (g : List AnEvent) → MachineKnows s g self.now
+            → IsTrue (is_sum_for_outcome_telling (slice_get (outcome_telling_steps s processor) (length (calls_of g processor))))
+            → result ≡ last_reply_of_script_calls (calls_of g processor) }
     {
-        last_of(&self.replies[processor])
+        flat_state_last_of(&self.replies[processor])
     }
 
     /// What the processor may do next. Its steps are one of these rows.
     pub fn next(&self, steps: &[Vec<ScriptCall>], processor: usize) -> Option<Kind>
         requires processor { processor < length steps.now }
         requires running { IsMachineRunning self.now steps.now }
-        ensures { (s : Plan) (g : List AnEvent) → AreLawfulMachineSteps s steps.now → Knows s g self.now
+        ensures { (s : Plan) (g : List AnEvent) → AreLawfulMachineSteps s steps.now → MachineKnows s g self.now
             → (k : AKind) → (result ≡ Some k) ↔ IsFlatBeginning s (did g processor k) }
     {
         let row = &steps[processor];
@@ -159,7 +161,7 @@ impl FlatState {
         if done >= row.len() {
             return None;
         }
-        let kind = call_of(row[done], self.reply_before(processor), &self.memory);
+        let kind = flat_state_call_of(row[done], self.reply_before(processor), &self.memory);
         if self.waiting.may_follow(steps.len(), processor, kind) {
             Some(kind)
         } else {
@@ -175,9 +177,9 @@ impl FlatState {
         processor: usize,
         kind: Kind,
     ) -> Result<(), AllocError>
-        requires { IsMachineStep self.old steps.now processor kind }
-        ensures knows { OnOk result ((s : Plan) (g : List AnEvent) → AreLawfulMachineSteps s steps.now → Knows s g self.old
-            → IsFlatBeginning s (did g processor kind) → Knows s (did g processor kind) self.new) }
+        requires { MachineMayDo self.old steps.now processor kind }
+        ensures knows { OnOk result ((s : Plan) (g : List AnEvent) → AreLawfulMachineSteps s steps.now → MachineKnows s g self.old
+            → IsFlatBeginning s (did g processor kind) → MachineKnows s (did g processor kind) self.new) }
         ensures telling { OnOk result (self.new.telling ≡ self.old.telling) }
     {
         let row = &steps[processor];
@@ -185,10 +187,17 @@ impl FlatState {
         let is_told = self.telling.is_told(processor, row, place);
         self.waiting.note(processor, kind)?;
         let replies = &mut self.replies[processor];
-        let_go(replies, is_told_sum(told_step(row, place)));
+        flat_state_let_go(
+            replies,
+            is_sum_for_outcome_telling(outcome_telling_step(row, place)),
+        );
         keep_told_reply(replies, is_told, kind)?;
-        keep_told_reply(replies, is_told_sum(told_step(row, place + 1)), kind)?;
-        write(&mut self.memory, kind);
+        keep_told_reply(
+            replies,
+            is_sum_for_outcome_telling(outcome_telling_step(row, place + 1)),
+            kind,
+        )?;
+        flat_state_write(&mut self.memory, kind);
         self.done[processor] += 1;
         Ok(())
     }
@@ -196,7 +205,7 @@ impl FlatState {
     /// Whether each processor has made all its calls.
     pub fn is_whole(&self, steps: &[Vec<ScriptCall>]) -> bool
         requires { IsMachineRunning self.now steps.now }
-        ensures { (s : Plan) (g : List AnEvent) → AreLawfulMachineSteps s steps.now → Knows s g self.now
+        ensures { (s : Plan) (g : List AnEvent) → AreLawfulMachineSteps s steps.now → MachineKnows s g self.now
             → IsTrue result ↔ Follows s g }
     {
         for processor in 0..steps.len() {
@@ -209,10 +218,10 @@ impl FlatState {
 
     /// Whether the memory has each of these words at its address.
     pub fn has_words(&self, words: &[(usize, u32)]) -> bool
-        ensures { IsTrue result ↔ HasFinalWords self.now.memory.items words.now }
+        ensures { IsTrue result ↔ HasEndingWords self.now.memory.items words.now }
     {
         for (address, word) in words {
-            if !has_word(&self.memory, *address, *word) {
+            if !flat_state_has_word(&self.memory, *address, *word) {
                 return false;
             }
         }
@@ -231,7 +240,7 @@ impl FlatState {
         requires { processors ≤ most_processors }
         ensures long { IfOk result (λ v. length v.items ≡ processors) }
         ensures waits { IfOk result (λ v. (s : Plan) (g : List AnEvent) → s.processors ≡ processors
-            → Knows s g self.now → AreAwaited g v.items) }
+            → MachineKnows s g self.now → AreKeptWaitingKinds g v.items) }
     {
         let mut waits = Vec::new(alloc);
         for processor in 0..processors {

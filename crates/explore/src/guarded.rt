@@ -9,12 +9,12 @@ ghost use Rattle.std.specs.BTreeMap.{get};
 ghost use Rattle.std.specs.Ordering.{nat_cmp};
 ghost use Rattle.lrc_script.specs.Lawful.{plan_addresses};
 ghost use Rattle.lrc_script.specs.Prelude.{plan_of};
-ghost use Rattle.explore.specs.declared.guarded.Users.{Users as TheUsers};
-ghost use Rattle.explore.specs.declared.guarded.WordUse.{WordUse as AWordUse};
-ghost use Rattle.explore.specs.Guarded.{AreGuarded, GuardedTextLaw, guard_step_departs, guard_held_after_step, guarded_step_address, guarded_step_stores};
+ghost use Rattle.explore.specs.declared.guarded.GuardedUsers.{GuardedUsers as TheUsers};
+ghost use Rattle.explore.specs.declared.guarded.GuardedWordUse.{GuardedWordUse as AWordUse};
+ghost use Rattle.explore.specs.TextGuards.{AreGuardedByText, GuardedTextLaw, text_guard_step_departs, text_guard_held_after_step, text_guarded_step_address, text_guarded_step_stores};
 ghost use Rattle.explore.specs.Machines.{AreLawfulMachineSteps};
-ghost use Rattle.explore.specs.Users.{AreStepUsersNoted, AreUserRowsNoted, AreUserRowsWithin, AllUsersSound, AreUserStepsWithin, HasUsersNoted, AreCleanUsers, IsUser};
-ghost use Rattle.explore.specs.Users.{AreUserRowsFew, HasUser, HasUserAt, IsUserStepWithin, KeepUsers};
+ghost use Rattle.explore.specs.Users.{AreStepUsersNoted, AreUserRowsNoted, AreUserRowsWithin, UsersAreAllSound, AreUserStepsWithin, HasUsersNoted, UsersAreClean, IsUser};
+ghost use Rattle.explore.specs.Users.{AreUserRowsFew, HasUser, HasUserAt, IsUserStepWithin, UsersAreKept};
 
 use crate::prefixes::ScriptCall;
 use base::MOST_LOCKS;
@@ -25,7 +25,7 @@ use std::collections::BTreeMap;
 
 /// Who accesses a word in one phase, and how.
 #[derive(Clone, Copy)]
-pub struct Users {
+pub struct GuardedUsers {
     /// One of them.
     processor: usize,
     /// Whether there are others.
@@ -38,8 +38,8 @@ pub struct Users {
 
 /// Who accesses a word in each phase.
 #[derive(Drop)]
-pub struct WordUse {
-    phases: BTreeMap<usize, Users>,
+pub struct GuardedWordUse {
+    phases: BTreeMap<usize, GuardedUsers>,
     /// Whether in each phase nobody else accesses it, nobody stores, or a lock is common to all.
     is_guarded: bool,
 }
@@ -68,13 +68,13 @@ fn has_any_guard(locks: &[bool; MOST_LOCKS]) -> bool
     false
 }
 
-impl Users {
+impl GuardedUsers {
     /// These users and those.
-    fn join(self, other: Users) -> Users
+    fn join(self, other: GuardedUsers) -> GuardedUsers
         ensures { (p : ℕ) (store : Bool) (held : ℕ → Bool) → IsUser self p store held ⊎ IsUser other p store held
             → IsUser result p store held }
     {
-        Users {
+        GuardedUsers {
             processor: self.processor,
             are_several: self.are_several | other.are_several | (self.processor != other.processor),
             stores: self.stores | other.stores,
@@ -84,25 +84,25 @@ impl Users {
 
     /// Whether it is one user alone, or nobody stores, or a lock is common to all.
     fn are_clean(&self) -> bool
-        ensures { IsTrue result → AreCleanUsers self.now }
+        ensures { IsTrue result → UsersAreClean self.now }
     {
         !self.are_several || !self.stores || has_any_guard(&self.locks)
     }
 }
 
-impl WordUse {
+impl GuardedWordUse {
     /// Nobody's.
-    fn new(alloc: Global) -> WordUse
+    fn new(alloc: Global) -> GuardedWordUse
         ensures { (phase : ℕ) → get nat_cmp result.phases phase ≡ None }
     {
-        WordUse {
+        GuardedWordUse {
             phases: BTreeMap::new(alloc),
             is_guarded: true,
         }
     }
 
     /// The users in this phase, and these.
-    fn joined(&self, phase: usize, user: Users) -> Users
+    fn joined(&self, phase: usize, user: GuardedUsers) -> GuardedUsers
         ensures old { (u : TheUsers) → get nat_cmp self.now.phases phase ≡ Some u → (p : ℕ) (store : Bool) (held : ℕ → Bool)
             → IsUser u p store held → IsUser result p store held }
         ensures new { (p : ℕ) (store : Bool) (held : ℕ → Bool) → IsUser user p store held
@@ -115,7 +115,7 @@ impl WordUse {
     }
 
     /// Takes note of users in this phase. The only error is running out of memory, after which this may be of no use.
-    fn note(&mut self, phase: usize, user: Users) -> Result<(), AllocError>
+    fn note(&mut self, phase: usize, user: GuardedUsers) -> Result<(), AllocError>
         ensures { OnOk result (HasUsersNoted self.old self.new phase user) }
     {
         let users = self.joined(phase, user);
@@ -127,7 +127,7 @@ impl WordUse {
 
 /// The address that a step accesses.
 fn guarded_address_of(step: ScriptCall) -> Option<usize>
-    ensures { result ≡ guarded_step_address step }
+    ensures { result ≡ text_guarded_step_address step }
 {
     match step {
         ScriptCall::Call(Kind::Load(address, _) | Kind::Store(address, _)) => Some(address),
@@ -137,8 +137,8 @@ fn guarded_address_of(step: ScriptCall) -> Option<usize>
 }
 
 /// Whether it stores.
-fn stores(step: ScriptCall) -> bool
-    ensures { result ≡ guarded_step_stores step }
+fn guarded_step_stores(step: ScriptCall) -> bool
+    ensures { result ≡ text_guarded_step_stores step }
 {
     matches!(
         step,
@@ -148,16 +148,16 @@ fn stores(step: ScriptCall) -> bool
 
 /// Whether it departs from the barrier.
 fn guard_step_departs(step: ScriptCall) -> bool
-    ensures { result ≡ guard_step_departs step }
+    ensures { result ≡ text_guard_step_departs step }
 {
     matches!(step, ScriptCall::Call(Kind::Depart))
 }
 
 /// Takes note of the lock that the step takes or gives up.
-fn hold(held: &mut [bool; MOST_LOCKS], step: ScriptCall)
+fn track_held_guard(held: &mut [bool; MOST_LOCKS], step: ScriptCall)
     requires { (size : ℕ) × IsUserStepWithin size step }
     ensures held { (l : ℕ) → slice_index_or held.new l false
-        ≡ guard_held_after_step l (slice_index_or held.old l false) step }
+        ≡ text_guard_held_after_step l (slice_index_or held.old l false) step }
     ensures long { length held.new ≡ length held.old }
 {
     match step {
@@ -168,9 +168,9 @@ fn hold(held: &mut [bool; MOST_LOCKS], step: ScriptCall)
 }
 
 /// The phase after the step.
-fn phase_after(phase: usize, step: ScriptCall) -> usize
+fn guarded_phase_after(phase: usize, step: ScriptCall) -> usize
     requires { phase < 2 ^ 20 }
-    ensures { result ≡ phase + cond (guard_step_departs step) 1 0 }
+    ensures { result ≡ phase + cond (text_guard_step_departs step) 1 0 }
 {
     if guard_step_departs(step) {
         phase + 1
@@ -181,23 +181,23 @@ fn phase_after(phase: usize, step: ScriptCall) -> usize
 
 /// Takes note of what the processor's step accesses in this phase, with these locks held. The only error is running out of
 /// memory, after which this may be of no use.
-fn note_step(
-    words: &mut Vec<WordUse>,
+fn track_guarded_step(
+    words: &mut Vec<GuardedWordUse>,
     processor: usize,
     phase: usize,
     locks: &[bool; MOST_LOCKS],
     step: ScriptCall,
 ) -> Result<(), AllocError>
     requires { IsUserStepWithin (vec_len words.old) step }
-    ensures keeps { OnOk result (KeepUsers words.old.items words.new.items) }
+    ensures keeps { OnOk result (UsersAreKept words.old.items words.new.items) }
     ensures noted { OnOk result ((held : ℕ → Bool) → ((l : ℕ) → slice_index_or locks.now l false ≡ held l) → (w : ℕ)
-        → guarded_step_address step ≡ Some w → HasUserAt words.new.items w phase processor (guarded_step_stores step) held) }
+        → text_guarded_step_address step ≡ Some w → HasUserAt words.new.items w phase processor (text_guarded_step_stores step) held) }
 {
     if let Some(address) = guarded_address_of(step) {
-        let user = Users {
+        let user = GuardedUsers {
             processor,
             are_several: false,
-            stores: stores(step),
+            stores: guarded_step_stores(step),
             locks: *locks,
         };
         words[address].note(phase, user)?;
@@ -206,55 +206,59 @@ fn note_step(
 }
 
 /// Takes note of what a processor's steps access. The only error is running out of memory, after which this may be of no use.
-fn note_row(
-    words: &mut Vec<WordUse>,
+fn track_guarded_row(
+    words: &mut Vec<GuardedWordUse>,
     processor: usize,
     row: &[ScriptCall],
 ) -> Result<(), AllocError>
     requires within { AreUserStepsWithin (vec_len words.old) row.now }
     requires few { length row.now < 2 ^ 20 }
-    ensures keeps { OnOk result (KeepUsers words.old.items words.new.items) }
+    ensures keeps { OnOk result (UsersAreKept words.old.items words.new.items) }
     ensures noted { OnOk result (AreStepUsersNoted words.new.items processor row.now (length row.now)) }
 {
     let mut phase = 0;
     let mut held = [false; MOST_LOCKS];
     for step in row {
-        note_step(words, processor, phase, &held, *step)?;
-        phase = phase_after(phase, *step);
-        hold(&mut held, *step);
+        track_guarded_step(words, processor, phase, &held, *step)?;
+        phase = guarded_phase_after(phase, *step);
+        track_held_guard(&mut held, *step);
     }
     Ok(())
 }
 
 /// So many words that nobody uses. The only error is running out of memory.
-fn unused_guarded_words(alloc: Global, size: usize) -> Result<Vec<WordUse>, AllocError>
+fn unused_guarded_words(alloc: Global, size: usize) -> Result<Vec<GuardedWordUse>, AllocError>
     ensures long { IfOk result (λ v. vec_len v ≡ size) }
-    ensures sound { IfOk result (λ v. AllUsersSound v.items) }
+    ensures sound { IfOk result (λ v. UsersAreAllSound v.items) }
 {
     let mut words = Vec::new(alloc);
     for _ in 0..size {
-        words.push(WordUse::new(alloc))?;
+        words.push(GuardedWordUse::new(alloc))?;
     }
     Ok(words)
 }
 
 /// Who uses each of the words. The only error is running out of memory.
-fn uses(alloc: Global, size: usize, steps: &[Vec<ScriptCall>]) -> Result<Vec<WordUse>, AllocError>
+fn guarded_word_uses(
+    alloc: Global,
+    size: usize,
+    steps: &[Vec<ScriptCall>],
+) -> Result<Vec<GuardedWordUse>, AllocError>
     requires within { AreUserRowsWithin size steps.now }
     requires few { AreUserRowsFew steps.now }
     ensures long { IfOk result (λ v. vec_len v ≡ size) }
     ensures noted { IfOk result (λ v. AreUserRowsNoted v.items steps.now (length steps.now)) }
-    ensures sound { IfOk result (λ v. AllUsersSound v.items) }
+    ensures sound { IfOk result (λ v. UsersAreAllSound v.items) }
 {
     let mut words = unused_guarded_words(alloc, size)?;
     for processor in 0..steps.len() {
-        note_row(&mut words, processor, &steps[processor])?;
+        track_guarded_row(&mut words, processor, &steps[processor])?;
     }
     Ok(words)
 }
 
 /// Of each word whether it is guarded. The only error is running out of memory.
-fn flags_of(alloc: Global, words: &[WordUse]) -> Result<Vec<bool>, AllocError>
+fn guarded_flags_of(alloc: Global, words: &[GuardedWordUse]) -> Result<Vec<bool>, AllocError>
     ensures { IfOk result (λ v. v.items ≡ map (λ (x : AWordUse). x.is_guarded) words.now) }
 {
     let mut flags = Vec::new(alloc);
@@ -272,14 +276,14 @@ pub fn guarded_words(
 ) -> Result<Vec<bool>, AllocError>
     requires { AreLawfulMachineSteps (plan_of script.now) steps.now }
     ensures long { IfOk result (λ v. vec_len v ≡ plan_addresses (plan_of script.now)) }
-    ensures guarded { IfOk result (λ v. AreGuarded steps.now v.items) }
+    ensures guarded { IfOk result (λ v. AreGuardedByText steps.now v.items) }
 {
-    let words = uses(alloc, script.pages * script.words, steps)?;
-    flags_of(alloc, &words)
+    let words = guarded_word_uses(alloc, script.pages * script.words, steps)?;
+    guarded_flags_of(alloc, &words)
 }
 
 /// Whether all of these hold.
-pub fn are_all(words: &[bool]) -> bool
+pub fn are_all_guarded(words: &[bool]) -> bool
     ensures { IsTrue result → (w : ℕ) → w < length words.now → IsTrue (slice_index_or words.now w false) }
 {
     words.iter().all(|is| *is)

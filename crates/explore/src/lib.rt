@@ -1,18 +1,18 @@
 //! All schedules of a script on one flat memory: whether it races, whether it can hang, and what it can show.
 //!
 //! **What contracts see.** `IsExplored` is what an answer says: no prefix races, or here is a race; this is a hang, or
-//! there is none; these are outcomes of whole runs, each once, and all of them or some, told by a `Detail` (`IsOutcome`). `IsExploredUntil` says the same of
+//! there is none; these are outcomes of whole runs, each once, and all of them or some, told by a `Detail` (`IsFlatOutcome`). `IsExploredUntil` says the same of
 //! whether a run ends with some words (`EndsWithWords`). An answer is open only if there are more states than were to be
-//! looked at (`states_to_look_at`). Inside, a `FlatState` knows events (`Knows`), so two machines
-//! that are found equal go on alike; `States` has the states, each once, with where it comes from (`AreFound`); `Search` has
-//! looked at the first of them (`VisitedUpTo`).
+//! looked at (`state_room_at_most`). Inside, a `FlatState` knows events (`MachineKnows`), so two machines
+//! that are found equal go on alike; `FoundStates` has the states, each once, with where it comes from (`AreFoundStates`); `Search` has
+//! looked at the first of them (`FlatSearchedUpTo`).
 //!
-//! `AreAllowedOutcomes` is what is said of what runs may show by the rules of the memory alone, whether the script races or not: each load
-//! answers a latest store of its past (`IsAllowedOutcome`).
+//! `AreAllowedRunOutcomes` is what is said of what runs may show by the rules of the memory alone, whether the script races or not: each load
+//! answers a latest store of its past (`IsAllowedRunOutcome`). `IsAllowedUntil` says the same of whether such a run ends with some words (`IsAllowedUntilRun`).
 //!
-//! **What is proved.** `allowed_outcomes` answers what `AreAllowedOutcomes` says: exactly these outcomes, each once, or some of them if there
-//! are more beginnings of runs than were to be looked at. `explore` answers what `IsExplored` says, and `explore_until` what `IsExploredUntil` says. `guarded_words` says of a word only if it is so that no two
-//! accesses of it race; `to_follow` leaves out only what may as well come later (`proofs/reduced`). `Waiting` tells exactly
+//! **What is proved.** `allowed_outcomes` answers what `AreAllowedRunOutcomes` says: exactly these outcomes, each once, or some of them if there
+//! are more beginnings of runs than were to be looked at. `allowed_until` answers what `IsAllowedUntil` says. `explore` answers what `IsExplored` says, and `explore_until` what `IsExploredUntil` says. `guarded_words` says of a word only if it is so that no two
+//! accesses of it race; `free_choice` leaves out only what may as well come later (`proofs/reduced`). `Waiting` tells exactly
 //! whether an event may follow.
 #![tactic(auto)]
 
@@ -23,32 +23,37 @@ mod allowed_calls;
 mod allowed_choice;
 mod allowed_room;
 mod allowed_search;
+mod allowed_showing;
+mod allowed_until_search;
+mod allowed_words;
 mod explored;
 mod flat_state;
-mod free;
+mod found_states;
+mod free_choice;
 mod free_run;
 mod guarded;
 mod neighbours;
+mod outcome_telling;
 pub mod prefixes;
 mod progress;
-mod racing;
-mod room;
+mod racing_history;
 mod search;
 mod showing;
-mod states;
+mod state_room;
 mod text_facts;
-mod told;
 mod told_replies;
 mod until;
-mod wait;
+mod wait_code;
 mod waiting;
 
 pub use allowed::AllowedOutcomes;
 pub use allowed_search::allowed_outcomes;
+pub use allowed_showing::{AllowedShowing, AllowedUntil};
+pub use allowed_until_search::allowed_until;
 pub use explored::{Explored, Hang, Hanging, RacyEvents, ScriptOutcome, Verdict};
+pub use outcome_telling::{Detail, full_outcome_telling_law};
 pub use progress::{Progress, Silent};
 pub use search::explore;
 pub use showing::{ExploredUntil, Showing, ShownRun};
-pub use told::{Detail, full_outcomes_law};
 pub use until::explore_until;
 pub use waiting::Waiting;

@@ -21,7 +21,10 @@ pub struct Neighbours {
 }
 
 /// What each processor may do next.
-pub fn nexts_of(state: &FlatState, steps: &[Vec<ScriptCall>]) -> [Option<Kind>; MOST_PROCESSORS]
+pub fn neighbour_nexts_of(
+    state: &FlatState,
+    steps: &[Vec<ScriptCall>],
+) -> [Option<Kind>; MOST_PROCESSORS]
     requires { IsMachineRunning state.now steps.now }
     ensures nexts { (s : Plan) → AreLawfulMachineSteps s steps.now → AreNexts s state.now result }
     ensures long { length result ≡ most_processors }
@@ -34,7 +37,7 @@ pub fn nexts_of(state: &FlatState, steps: &[Vec<ScriptCall>]) -> [Option<Kind>; 
 }
 
 /// Whether nobody may do anything.
-pub fn is_over(nexts: &[Option<Kind>]) -> bool
+pub fn are_neighbours_over(nexts: &[Option<Kind>]) -> bool
     ensures { IsTrue result ↔ ((p : ℕ) (k : AKind) → slice_index_or nexts.now p None ≢ Some k) }
 {
     for processor in 0..nexts.len() {
@@ -46,7 +49,7 @@ pub fn is_over(nexts: &[Option<Kind>]) -> bool
 }
 
 /// Whether events of these kinds conflict: one address, and a store at least on one side.
-fn conflicts(first: Kind, second: Kind) -> bool
+fn neighbours_conflict(first: Kind, second: Kind) -> bool
     ensures { (p q : ℕ) → IsTrue result ↔ Conflict (event p first) (event q second) }
 {
     match (first, second) {
@@ -64,7 +67,7 @@ fn neighbour_of(nexts: &[Option<Kind>], processor: usize, kind: Kind) -> Option<
 {
     for other in 0..nexts.len() {
         if let Some(next) = nexts[other] {
-            if other != processor && conflicts(kind, next) {
+            if other != processor && neighbours_conflict(kind, next) {
                 return Some((other, next));
             }
         }

@@ -5,30 +5,30 @@ ghost use Rattle.base.specs.Prelude.{most_processors};
 ghost use Rattle.lrc_script.specs.Prelude.{IsLawful, Plan, plan_of};
 ghost use Rattle.lrc_script.specs.Lawful.{plan_addresses};
 ghost use Rattle.explore.specs.declared.prefixes.script_call.ScriptCall.{ScriptCall as AStep};
-ghost use Rattle.explore.specs.Prefixes.Prelude.{IsFlatRaceFree};
-ghost use Rattle.explore.specs.Free.{AreTextFacts};
+ghost use Rattle.explore.specs.Prefixes.Prelude.{AreFlatBeginningsRaceFree};
+ghost use Rattle.explore.specs.FreeChoice.{AreFreeChoiceTextFacts};
 ghost use Rattle.explore.specs.Explored.{IsExplored, IsExploredHang, IsExploredHanging, IsExploredVerdict, explored_outcome};
-ghost use Rattle.explore.specs.Found.{AreFound, KeepsFound, states_found};
+ghost use Rattle.explore.specs.FoundStates.{AreFoundStates, KeepsFoundStates, found_states};
 ghost use Rattle.explore.specs.Machines.{AreLawfulMachineSteps};
 ghost use Rattle.explore.specs.Racing.{AreRacing};
-ghost use Rattle.explore.specs.Room.{states_to_look_at};
-ghost use Rattle.explore.specs.declared.told.Detail.{Detail as ADetail};
-ghost use Rattle.explore.specs.Told.{telling_of_script};
-ghost use Rattle.explore.specs.Searched.{StateHangs, IsAmongSearched, IsSearchedAt, IsSearchedThrough, SearchOutcomesNoted, SearchedUpTo, HasMoreToSearch};
-ghost use Rattle.explore.specs.Searched.{IsSearchHangingOpen, IsSearchVerdictOpen, IsSearched, MayNoteState};
+ghost use Rattle.explore.specs.StateRoom.{state_room_at_most};
+ghost use Rattle.explore.specs.declared.outcome_telling.Detail.{Detail as ADetail};
+ghost use Rattle.explore.specs.OutcomeTelling.{outcome_telling_of_script};
+ghost use Rattle.explore.specs.FlatSearch.{FlatSearchHasHang, IsAmongFlatSearched, IsFlatSearchedAt, IsFlatSearchedThrough, AreFlatSearchNotes, FlatSearchedUpTo, HasMoreToFlatSearch};
+ghost use Rattle.explore.specs.FlatSearch.{IsFlatSearchHangingOpen, IsFlatSearchVerdictOpen, IsFlatSearched, MayNoteInFlatSearch};
 
 use crate::explored::{Explored, Hang, Hanging, ScriptOutcome, Verdict};
 use crate::flat_state::FlatState;
-use crate::free::to_follow;
-use crate::guarded::are_all;
-use crate::neighbours::{Neighbours, is_over, neighbours_in, nexts_of};
-use crate::prefixes::{ScriptCall, steps_of_script};
+use crate::found_states::FoundStates;
+use crate::free_choice::free_choice;
+use crate::guarded::are_all_guarded;
+use crate::neighbours::{Neighbours, are_neighbours_over, neighbour_nexts_of, neighbours_in};
+use crate::outcome_telling::Detail;
+use crate::prefixes::{ScriptCall, script_calls_of_all};
 use crate::progress::Progress;
-use crate::racing::racing_history;
-use crate::room::states_to_look_at;
-use crate::states::States;
+use crate::racing_history::racing_history;
+use crate::state_room::state_room_at_most;
 use crate::text_facts::{TextFacts, text_facts};
-use crate::told::Detail;
 use indexmap::IndexSet;
 use lrc_script::script::Script;
 use std::alloc::{AllocError, Global};
@@ -37,7 +37,7 @@ use std::mem;
 /// What a search has found so far.
 #[derive(Drop)]
 pub struct Search {
-    pub(crate) found: States,
+    pub(crate) found: FoundStates,
     /// What the whole runs among them show.
     outcomes: IndexSet<ScriptOutcome>,
     /// The place of a state that hangs.
@@ -45,11 +45,11 @@ pub struct Search {
 }
 
 /// Adds an outcome, if it is a new one. The only error is running out of memory.
-pub(crate) fn add_outcome(
+pub(crate) fn add_search_outcome(
     outcomes: &mut IndexSet<ScriptOutcome>,
     outcome: ScriptOutcome,
 ) -> Result<(), AllocError>
-    ensures { OnOk result (IsAmongSearched (map explored_outcome outcomes.old.keys) (map explored_outcome outcomes.new.keys)
+    ensures { OnOk result (IsAmongFlatSearched (map explored_outcome outcomes.old.keys) (map explored_outcome outcomes.new.keys)
         (explored_outcome outcome)) }
 {
     outcomes.insert(outcome)?;
@@ -57,14 +57,14 @@ pub(crate) fn add_outcome(
 }
 
 /// Whether more states were found than were to be looked at.
-pub(crate) fn is_past(states: usize, most: usize) -> bool
+pub(crate) fn is_search_past(states: usize, most: usize) -> bool
     ensures { IsTrue result ↔ (most < states) }
 {
     states > most
 }
 
 /// Whether all states were looked at: no two events conflict, and no more states were found than were to be looked at.
-fn is_through(neighbours: Option<Neighbours>, states: usize, most: usize) -> bool
+fn is_search_through(neighbours: Option<Neighbours>, states: usize, most: usize) -> bool
     ensures { IsTrue result ↔ ((neighbours ≡ None) × (states ≤ most)) }
 {
     match neighbours {
@@ -87,12 +87,12 @@ impl Search {
     /// The first state alone. The only error is running out of memory.
     pub(crate) fn new(alloc: Global, script: &Script, detail: Detail) -> Result<Search, AllocError>
         requires { IsLawful (plan_of script.now) }
-        ensures searched { IfOk result (λ x. (rows : List (AVec AStep)) → SearchedUpTo (plan_of script.now) x rows 0) }
-        ensures few { IfOk result (λ x. length (states_found x.found) ≤ 1) }
-        ensures telling { IfOk result (λ x. x.found.telling ≡ telling_of_script (plan_of script.now) detail) }
+        ensures searched { IfOk result (λ x. (rows : List (AVec AStep)) → FlatSearchedUpTo (plan_of script.now) x rows 0) }
+        ensures few { IfOk result (λ x. length (found_states x.found) ≤ 1) }
+        ensures telling { IfOk result (λ x. x.found.telling ≡ outcome_telling_of_script (plan_of script.now) detail) }
     {
         Ok(Search {
-            found: States::new(alloc, FlatState::new(alloc, script, detail)?)?,
+            found: FoundStates::new(alloc, FlatState::new(alloc, script, detail)?)?,
             outcomes: IndexSet::new(alloc),
             hang: None,
         })
@@ -100,14 +100,14 @@ impl Search {
 
     /// Takes note of a state after which nothing may come next: it is whole, or it hangs.
     fn note_end(&mut self, steps: &[Vec<ScriptCall>], place: usize) -> Result<(), AllocError>
-        requires { (s : Plan) × MayNoteState s self.old steps.now place }
+        requires { (s : Plan) × MayNoteInFlatSearch s self.old steps.now place }
         ensures found { OnOk result (self.new.found ≡ self.old.found) }
-        ensures noted { OnOk result ((s : Plan) → MayNoteState s self.old steps.now place → SearchOutcomesNoted s self.new (place + 1)) }
+        ensures noted { OnOk result ((s : Plan) → MayNoteInFlatSearch s self.old steps.now place → AreFlatSearchNotes s self.new (place + 1)) }
     {
         let state = self.found.at(place);
         if state.is_whole(steps) {
             let replies = state.replies()?;
-            return add_outcome(&mut self.outcomes, ScriptOutcome { replies });
+            return add_search_outcome(&mut self.outcomes, ScriptOutcome { replies });
         }
         self.hang = Some(self.hang.unwrap_or(place));
         Ok(())
@@ -121,17 +121,17 @@ impl Search {
         facts: &TextFacts,
         place: usize,
     ) -> Result<Option<Neighbours>, AllocError>
-        requires facts { AreTextFacts steps.now facts.now }
-        requires unvisited { (s : Plan) × HasMoreToSearch s self.old steps.now place }
-        ensures looked { IfOk result (λ o. (s : Plan) → HasMoreToSearch s self.old steps.now place
-            → IsSearchedAt s self.new steps.now place o) }
-        ensures found { IfOk result (λ _. (s : Plan) → HasMoreToSearch s self.old steps.now place
-            → KeepsFound (states_found self.old.found) (states_found self.new.found)
-            × (length (states_found self.new.found) ≤ length (states_found self.old.found) + most_processors)
+        requires facts { AreFreeChoiceTextFacts steps.now facts.now }
+        requires unvisited { (s : Plan) × HasMoreToFlatSearch s self.old steps.now place }
+        ensures looked { IfOk result (λ o. (s : Plan) → HasMoreToFlatSearch s self.old steps.now place
+            → IsFlatSearchedAt s self.new steps.now place o) }
+        ensures found { IfOk result (λ _. (s : Plan) → HasMoreToFlatSearch s self.old steps.now place
+            → KeepsFoundStates (found_states self.old.found) (found_states self.new.found)
+            × (length (found_states self.new.found) ≤ length (found_states self.old.found) + most_processors)
             × (self.new.found.telling ≡ self.old.found.telling)) }
     {
         let state = self.found.at(place);
-        let nexts = nexts_of(state, steps);
+        let nexts = neighbour_nexts_of(state, steps);
         if let Some((first, second)) = neighbours_in(&nexts) {
             return Ok(Some(Neighbours {
                 place,
@@ -139,8 +139,8 @@ impl Search {
                 second,
             }));
         }
-        let followed = to_follow(state, &nexts, facts);
-        if is_over(&nexts) {
+        let followed = free_choice(state, &nexts, facts);
+        if are_neighbours_over(&nexts) {
             self.note_end(steps, place)?;
         }
         self.found.follow_all(steps, facts, place, &followed)?;
@@ -155,19 +155,19 @@ impl Search {
         most: usize,
         progress: &mut P,
     ) -> Result<Option<Neighbours>, AllocError>
-        requires facts { AreTextFacts steps.now facts.now }
-        requires searched { (s : Plan) × AreLawfulMachineSteps s steps.now × SearchedUpTo s self.old steps.now 0 }
-        ensures looked { IfOk result (λ o. (s : Plan) → AreLawfulMachineSteps s steps.now → SearchedUpTo s self.old steps.now 0
-            → IsSearchedThrough s self.new steps.now most o) }
-        ensures few { IfOk result (λ _. (s : Plan) → AreLawfulMachineSteps s steps.now → SearchedUpTo s self.old steps.now 0
-            → length (states_found self.old.found) ≤ 1 → length (states_found self.new.found) ≤ most + most_processors) }
-        ensures telling { IfOk result (λ _. (s : Plan) → AreLawfulMachineSteps s steps.now → SearchedUpTo s self.old steps.now 0
+        requires facts { AreFreeChoiceTextFacts steps.now facts.now }
+        requires searched { (s : Plan) × AreLawfulMachineSteps s steps.now × FlatSearchedUpTo s self.old steps.now 0 }
+        ensures looked { IfOk result (λ o. (s : Plan) → AreLawfulMachineSteps s steps.now → FlatSearchedUpTo s self.old steps.now 0
+            → IsFlatSearchedThrough s self.new steps.now most o) }
+        ensures few { IfOk result (λ _. (s : Plan) → AreLawfulMachineSteps s steps.now → FlatSearchedUpTo s self.old steps.now 0
+            → length (found_states self.old.found) ≤ 1 → length (found_states self.new.found) ≤ most + most_processors) }
+        ensures telling { IfOk result (λ _. (s : Plan) → AreLawfulMachineSteps s steps.now → FlatSearchedUpTo s self.old steps.now 0
             → self.new.found.telling ≡ self.old.found.telling) }
     {
         for place in 0..most {
             let states = self.found.len();
             progress.found(states);
-            if is_past(states, most) {
+            if is_search_past(states, most) {
                 return Ok(None);
             }
             if place == states {
@@ -183,9 +183,9 @@ impl Search {
     /// The state at this place, as a hang. The only error is running out of memory.
     fn hang_at(&self, alloc: Global, processors: usize, place: usize) -> Result<Hang, AllocError>
         requires few { processors ≤ most_processors }
-        requires hangs { (s : Plan) × AreFound s self.now.found × StateHangs s (states_found self.now.found) place }
-        ensures { IfOk result (λ h. (s : Plan) → s.processors ≡ processors → AreFound s self.now.found
-            → StateHangs s (states_found self.now.found) place → IsExploredHang s h) }
+        requires hangs { (s : Plan) × AreFoundStates s self.now.found × FlatSearchHasHang s (found_states self.now.found) place }
+        ensures { IfOk result (λ h. (s : Plan) → s.processors ≡ processors → AreFoundStates s self.now.found
+            → FlatSearchHasHang s (found_states self.now.found) place → IsExploredHang s h) }
     {
         Ok(Hang {
             events: self.found.events_to(alloc, place)?,
@@ -197,9 +197,9 @@ impl Search {
     fn hanging(&self, alloc: Global, script: &Script, through: bool) -> Result<Hanging, AllocError>
         requires lawful { IsLawful (plan_of script.now) }
         requires searched { (rows : List (AVec AStep)) × AreLawfulMachineSteps (plan_of script.now) rows
-            × IsSearched (plan_of script.now) self.now rows through }
+            × IsFlatSearched (plan_of script.now) self.now rows through }
         ensures hanging { IfOk result (IsExploredHanging (plan_of script.now)) }
-        ensures opens { IfOk result (IsSearchHangingOpen through) }
+        ensures opens { IfOk result (IsFlatSearchHangingOpen through) }
     {
         match self.hang {
             Some(place) => Ok(Hanging::Hangs(self.hang_at(alloc, script.processors, place)?)),
@@ -219,10 +219,10 @@ impl Search {
         race_free: bool,
     ) -> Result<Verdict, AllocError>
         requires lawful { IsLawful (plan_of script.now) }
-        requires free { IsTrue race_free → IsFlatRaceFree (plan_of script.now) }
+        requires free { IsTrue race_free → AreFlatBeginningsRaceFree (plan_of script.now) }
         requires racing { MatchOption neighbours ⊤ (AreRacing (plan_of script.now) self.now.found steps.now) }
         ensures verdict { IfOk result (IsExploredVerdict (plan_of script.now)) }
-        ensures opens { IfOk result (IsSearchVerdictOpen neighbours race_free) }
+        ensures opens { IfOk result (IsFlatSearchVerdictOpen neighbours race_free) }
     {
         match neighbours {
             Some(neighbours) => {
@@ -246,17 +246,17 @@ impl Search {
     ) -> Result<Explored, AllocError>
         requires steps { AreLawfulMachineSteps (plan_of script.now) steps.now }
         requires long { length facts.now.guarded.items ≡ plan_addresses (plan_of script.now) }
-        requires facts { AreTextFacts steps.now facts.now }
-        requires searched { SearchedUpTo (plan_of script.now) self.old steps.now 0 }
-        requires few { length (states_found self.old.found) ≤ 1 }
-        ensures { IfOk result (λ answer. (d : ADetail) → self.old.found.telling ≡ telling_of_script (plan_of script.now) d
+        requires facts { AreFreeChoiceTextFacts steps.now facts.now }
+        requires searched { FlatSearchedUpTo (plan_of script.now) self.old steps.now 0 }
+        requires few { length (found_states self.old.found) ≤ 1 }
+        ensures { IfOk result (λ answer. (d : ADetail) → self.old.found.telling ≡ outcome_telling_of_script (plan_of script.now) d
             → IsExplored (plan_of script.now) d most answer) }
     {
-        let most = states_to_look_at(script, most);
+        let most = state_room_at_most(script, most);
         let neighbours = self.look_at_all(steps, facts, most, progress)?;
         let states = self.found.len();
-        let through = is_through(neighbours, states, most);
-        let race_free = through | are_all(&facts.guarded);
+        let through = is_search_through(neighbours, states, most);
+        let race_free = through | are_all_guarded(&facts.guarded);
         let verdict = self.verdict(alloc, script, steps, neighbours, race_free)?;
         let hanging = self.hanging(alloc, script, through)?;
         let outcomes = mem::replace(&mut self.outcomes, IndexSet::new(alloc));
@@ -293,15 +293,15 @@ fn search_steps<P: Progress>(
 /// accesses that race, and gives up once it finds more than `most` states. Either way it says what it has found: a hang and
 /// outcomes that it met are there. The only error is running out of memory.
 ///
-/// It gives up, too, if it finds more states than fit (`states_that_fit`): those of which each has as many words as the
+/// It gives up, too, if it finds more states than fit (`state_room_size`): those of which each has as many words as the
 /// memory, and a reply to each load that the script's sections make, and which have 2^27 words together. So the memory that
 /// it takes is bounded, whatever the script. While it looks, `progress` is told how many states were found.
 ///
 /// A state is what each processor has done, with the replies that are told or that its next step adds to, the words, and who
 /// waits for what. So the less is told, the fewer states there are. If some
-/// processor may do next what commutes with all that others may do, that alone is followed (`to_follow`), and if all who
+/// processor may do next what commutes with all that others may do, that alone is followed (`free_choice`), and if all who
 /// have yet to ask for a lock may do so next, these asks: persistent sets (Godefroid, Partial-order methods for the
-/// verification of concurrent systems, 1996). A state between events that are followed alone is passed over (`go_freely`).
+/// verification of concurrent systems, 1996). A state between events that are followed alone is passed over (`make_free_run`).
 /// Two accesses that conflict and may both come next make a race; if no state that was found has such, no run races, on one
 /// flat memory or on the real one.
 pub fn explore<P: Progress>(
@@ -314,6 +314,6 @@ pub fn explore<P: Progress>(
     requires { IsLawful (plan_of script.now) }
     ensures { IfOk result (IsExplored (plan_of script.now) detail most) }
 {
-    let steps = steps_of_script(alloc, script)?;
+    let steps = script_calls_of_all(alloc, script)?;
     search_steps(alloc, script, &steps, detail, most, progress)
 }

@@ -1,6 +1,6 @@
 //! What there is to say of whether a run of a script can end with some words.
 ghost use Rattle.std.specs.Prelude.{◌≡◌};
-ghost use Rattle.explore.specs.Until.{is_showing_settled};
+ghost use Rattle.explore.specs.EndingWords.{are_ending_words_settled};
 
 use crate::explored::{RacyEvents, ScriptOutcome};
 use journal::Event;
@@ -36,7 +36,7 @@ pub struct ExploredUntil {
 impl ExploredUntil {
     /// Whether nothing is open: the search wasn't given up.
     pub fn is_settled(&self) -> bool
-        ensures { result ≡ is_showing_settled self.now.showing }
+        ensures { result ≡ are_ending_words_settled self.now.showing }
     {
         match &self.showing {
             Showing::Undecided => false,

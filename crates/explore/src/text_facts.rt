@@ -5,7 +5,7 @@ ghost use Rattle.lrc_script.specs.Lawful.{plan_addresses};
 ghost use Rattle.std.specs.Global.{Vec as AVec};
 ghost use Rattle.base.specs.Prelude.{most_processors};
 ghost use Rattle.explore.specs.declared.prefixes.script_call.ScriptCall.{ScriptCall as AStep};
-ghost use Rattle.explore.specs.Free.{AreAskEnds, AreAskEndsOfAll, AreAsksSmall, AreTextFacts, IsAskSmall, ask_end_after};
+ghost use Rattle.explore.specs.FreeChoice.{AreFreeChoiceAskEnds, AreFreeChoiceAskEndsOfAll, AreFreeChoiceAsksSmall, AreFreeChoiceTextFacts, IsFreeChoiceAskSmall, free_choice_ask_end_after};
 ghost use Rattle.explore.specs.Machines.{AreLawfulMachineSteps};
 
 use crate::guarded::guarded_words;
@@ -25,9 +25,9 @@ pub struct TextFacts {
 }
 
 /// Takes note of a step that asks for a lock, if it does: so many steps there are up to this one.
-fn note_ask(ends: &mut [usize; MOST_LOCKS], step: ScriptCall, count: usize)
-    requires { IsAskSmall step }
-    ensures { (lock : ℕ) → slice_index_or ends.new lock 0 ≡ ask_end_after lock count (slice_index_or ends.old lock 0) step }
+fn note_text_fact_ask(ends: &mut [usize; MOST_LOCKS], step: ScriptCall, count: usize)
+    requires { IsFreeChoiceAskSmall step }
+    ensures { (lock : ℕ) → slice_index_or ends.new lock 0 ≡ free_choice_ask_end_after lock count (slice_index_or ends.old lock 0) step }
 {
     if let ScriptCall::Call(Kind::Ask(lock)) = step {
         ends[lock] = count;
@@ -35,26 +35,26 @@ fn note_ask(ends: &mut [usize; MOST_LOCKS], step: ScriptCall, count: usize)
 }
 
 /// Of each lock, how many of these steps there are up to the last that asks for it.
-fn ends_in(row: &[ScriptCall]) -> [usize; MOST_LOCKS]
-    requires { AreAsksSmall row.now }
-    ensures { AreAskEnds row.now result }
+fn text_facts_ends_in(row: &[ScriptCall]) -> [usize; MOST_LOCKS]
+    requires { AreFreeChoiceAsksSmall row.now }
+    ensures { AreFreeChoiceAskEnds row.now result }
 {
     let mut ends = [0; MOST_LOCKS];
     for place in 0..row.len() {
-        note_ask(&mut ends, row[place], place + 1);
+        note_text_fact_ask(&mut ends, row[place], place + 1);
     }
     ends
 }
 
 /// The same of each processor.
-fn ask_ends(steps: &[Vec<ScriptCall>]) -> [[usize; MOST_LOCKS]; MOST_PROCESSORS]
+fn text_facts_ask_ends(steps: &[Vec<ScriptCall>]) -> [[usize; MOST_LOCKS]; MOST_PROCESSORS]
     requires few { length steps.now ≤ most_processors }
-    requires small { (p : ℕ) (row : AVec AStep) → slice_get steps.now p ≡ Some row → AreAsksSmall row.items }
-    ensures { AreAskEndsOfAll steps.now result }
+    requires small { (p : ℕ) (row : AVec AStep) → slice_get steps.now p ≡ Some row → AreFreeChoiceAsksSmall row.items }
+    ensures { AreFreeChoiceAskEndsOfAll steps.now result }
 {
     let mut ends = [[0; MOST_LOCKS]; MOST_PROCESSORS];
     for processor in 0..steps.len() {
-        ends[processor] = ends_in(&steps[processor]);
+        ends[processor] = text_facts_ends_in(&steps[processor]);
     }
     ends
 }
@@ -67,11 +67,11 @@ pub fn text_facts(
 ) -> Result<TextFacts, AllocError>
     requires { AreLawfulMachineSteps (plan_of script.now) steps.now }
     ensures long { IfOk result (λ f. length f.guarded.items ≡ plan_addresses (plan_of script.now)) }
-    ensures facts { IfOk result (AreTextFacts steps.now) }
+    ensures facts { IfOk result (AreFreeChoiceTextFacts steps.now) }
 {
     let guarded = guarded_words(alloc, script, steps)?;
     Ok(TextFacts {
         guarded,
-        ask_ends: ask_ends(steps),
+        ask_ends: text_facts_ask_ends(steps),
     })
 }

@@ -1,15 +1,15 @@
 //! The replies that outcomes tell.
 ghost use Rattle.std.specs.Prelude.{◌≡◌, ◌≤◌, ◌++◌, IfOk, OnOk, length};
-ghost use Rattle.explore.specs.Told.{told_replies, told_reply};
+ghost use Rattle.explore.specs.OutcomeTelling.{outcome_telling_replies, outcome_telling_reply};
 
+use crate::outcome_telling::OutcomeTelling;
 use crate::prefixes::ScriptCall;
-use crate::told::OutcomeTelling;
 use journal::Kind;
 use std::alloc::{AllocError, Global};
 
 /// Puts the reply of a load at the end, if it is told.
 pub fn keep_told_reply(replies: &mut Vec<u32>, is_told: bool, kind: Kind) -> Result<(), AllocError>
-    ensures { OnOk result (replies.new.items ≡ replies.old.items ++ told_reply is_told kind) }
+    ensures { OnOk result (replies.new.items ≡ replies.old.items ++ outcome_telling_reply is_told kind) }
 {
     if let Kind::Load(_, word) = kind {
         if is_told {
@@ -28,7 +28,7 @@ pub fn told_replies_of(
     calls: &[Kind],
 ) -> Result<Vec<u32>, AllocError>
     requires { length calls.now ≤ length steps.now }
-    ensures { IfOk result (λ v. v.items ≡ told_replies telling processor steps.now 0 calls.now) }
+    ensures { IfOk result (λ v. v.items ≡ outcome_telling_replies telling processor steps.now 0 calls.now) }
 {
     let mut replies = Vec::new(alloc);
     for place in 0..calls.len() {

@@ -3,27 +3,27 @@ ghost use Rattle.std.specs.Prelude.{◌≡◌, ◌↔◌, ℕ, ◌+◌, ◌≤�
 ghost use Rattle.base.specs.Prelude.{most_processors};
 ghost use Rattle.journal.specs.declared.event.Event.{Event as AnEvent};
 ghost use Rattle.lrc_script.specs.Prelude.{IsLawful, Plan, plan_of};
-ghost use Rattle.explore.specs.Free.{AreTextFacts};
-ghost use Rattle.explore.specs.Found.{AreFound, states_found};
-ghost use Rattle.explore.specs.Machines.{AreLawfulMachineSteps, IsMachineRunning, Knows};
-ghost use Rattle.explore.specs.Searched.{SearchedUpTo};
-ghost use Rattle.explore.specs.declared.told.Detail.{Detail as ADetail};
-ghost use Rattle.explore.specs.Told.{telling_of_script};
-ghost use Rattle.explore.specs.Until.{IsExploredUntil, IsRunWithWords, IsShowing, is_showing_settled};
-ghost use Rattle.explore.specs.UntilSearched.{IsSearchedUntil, IsUntilEnded, IsUntilOpen, StateEndsWithWords};
+ghost use Rattle.explore.specs.FreeChoice.{AreFreeChoiceTextFacts};
+ghost use Rattle.explore.specs.FoundStates.{AreFoundStates, found_states};
+ghost use Rattle.explore.specs.Machines.{AreLawfulMachineSteps, IsMachineRunning, MachineKnows};
+ghost use Rattle.explore.specs.FlatSearch.{FlatSearchedUpTo};
+ghost use Rattle.explore.specs.declared.outcome_telling.Detail.{Detail as ADetail};
+ghost use Rattle.explore.specs.OutcomeTelling.{outcome_telling_of_script};
+ghost use Rattle.explore.specs.EndingWords.{IsExploredUntil, IsRunEndingWithWords, IsEndingWordsShowing, are_ending_words_settled};
+ghost use Rattle.explore.specs.UntilSearched.{IsSearchedUntil, IsSearchUntilEnded, IsSearchUntilOpen, SearchUntilMeetsEnding};
 
 use crate::explored::ScriptOutcome;
 use crate::flat_state::FlatState;
+use crate::found_states::FoundStates;
 use crate::neighbours::Neighbours;
-use crate::prefixes::{ScriptCall, steps_of_script};
+use crate::outcome_telling::Detail;
+use crate::prefixes::{ScriptCall, script_calls_of_all};
 use crate::progress::Progress;
-use crate::racing::{cut_behind, race_in, racing_history};
-use crate::room::states_to_look_at;
-use crate::search::{Search, is_past};
+use crate::racing_history::{cut_racing_history, racing_history, racing_history_race};
+use crate::search::{Search, is_search_past};
 use crate::showing::{ExploredUntil, Showing, ShownRun};
-use crate::states::States;
+use crate::state_room::state_room_at_most;
 use crate::text_facts::{TextFacts, text_facts};
-use crate::told::Detail;
 use lrc_script::script::Script;
 use std::alloc::{AllocError, Global};
 
@@ -37,10 +37,10 @@ pub enum Met {
 }
 
 /// Whether the state is whole and has these words.
-fn is_ending(state: &FlatState, steps: &[Vec<ScriptCall>], words: &[(usize, u32)]) -> bool
+fn has_until_words(state: &FlatState, steps: &[Vec<ScriptCall>], words: &[(usize, u32)]) -> bool
     requires { IsMachineRunning state.now steps.now }
-    ensures { (s : Plan) (g : List AnEvent) → AreLawfulMachineSteps s steps.now → Knows s g state.now
-        → IsTrue result ↔ IsRunWithWords s words.now g }
+    ensures { (s : Plan) (g : List AnEvent) → AreLawfulMachineSteps s steps.now → MachineKnows s g state.now
+        → IsTrue result ↔ IsRunEndingWithWords s words.now g }
 {
     state.is_whole(steps) && state.has_words(words)
 }
@@ -55,25 +55,25 @@ fn look_until<P: Progress>(
     most: usize,
     progress: &mut P,
 ) -> Result<Option<Met>, AllocError>
-    requires facts { AreTextFacts steps.now facts.now }
-    requires searched { (s : Plan) × AreLawfulMachineSteps s steps.now × SearchedUpTo s search.old steps.now 0 }
-    ensures looked { IfOk result (λ o. (s : Plan) → AreLawfulMachineSteps s steps.now → SearchedUpTo s search.old steps.now 0
+    requires facts { AreFreeChoiceTextFacts steps.now facts.now }
+    requires searched { (s : Plan) × AreLawfulMachineSteps s steps.now × FlatSearchedUpTo s search.old steps.now 0 }
+    ensures looked { IfOk result (λ o. (s : Plan) → AreLawfulMachineSteps s steps.now → FlatSearchedUpTo s search.old steps.now 0
         → IsSearchedUntil s search.new steps.now words.now most o) }
-    ensures few { IfOk result (λ _. (s : Plan) → AreLawfulMachineSteps s steps.now → SearchedUpTo s search.old steps.now 0
-        → length (states_found search.old.found) ≤ 1 → length (states_found search.new.found) ≤ most + most_processors) }
-    ensures telling { IfOk result (λ _. (s : Plan) → AreLawfulMachineSteps s steps.now → SearchedUpTo s search.old steps.now 0
+    ensures few { IfOk result (λ _. (s : Plan) → AreLawfulMachineSteps s steps.now → FlatSearchedUpTo s search.old steps.now 0
+        → length (found_states search.old.found) ≤ 1 → length (found_states search.new.found) ≤ most + most_processors) }
+    ensures telling { IfOk result (λ _. (s : Plan) → AreLawfulMachineSteps s steps.now → FlatSearchedUpTo s search.old steps.now 0
         → search.new.found.telling ≡ search.old.found.telling) }
 {
     for place in 0..most {
         let states = search.found.len();
         progress.found(states);
-        if is_past(states, most) {
+        if is_search_past(states, most) {
             return Ok(None);
         }
         if place == states {
             return Ok(None);
         }
-        if is_ending(search.found.at(place), steps, words) {
+        if has_until_words(search.found.at(place), steps, words) {
             return Ok(Some(Met::Ending(place)));
         }
         if let Some(neighbours) = search.look_at(steps, facts, place)? {
@@ -84,23 +84,23 @@ fn look_until<P: Progress>(
 }
 
 /// The run to the state at this place, which ends with these words; or its first race, if it has one.
-fn run_to(
+fn run_until_words(
     alloc: Global,
     script: &Script,
-    found: &States,
+    found: &FoundStates,
     place: usize,
 ) -> Result<Showing, AllocError>
     requires lawful { IsLawful (plan_of script.now) }
-    requires found { AreFound (plan_of script.now) found.now }
-    requires ends { (words : List (ℕ × ℕ)) × StateEndsWithWords (plan_of script.now) words (states_found found.now) place }
+    requires found { AreFoundStates (plan_of script.now) found.now }
+    requires ends { (words : List (ℕ × ℕ)) × SearchUntilMeetsEnding (plan_of script.now) words (found_states found.now) place }
     ensures showing { IfOk result (λ showing. (words : List (ℕ × ℕ)) (d : ADetail)
-        → StateEndsWithWords (plan_of script.now) words (states_found found.now) place
-        → found.now.telling ≡ telling_of_script (plan_of script.now) d → IsShowing (plan_of script.now) d words showing) }
-    ensures settled { IfOk result (λ showing. IsTrue (is_showing_settled showing)) }
+        → SearchUntilMeetsEnding (plan_of script.now) words (found_states found.now) place
+        → found.now.telling ≡ outcome_telling_of_script (plan_of script.now) d → IsEndingWordsShowing (plan_of script.now) d words showing) }
+    ensures settled { IfOk result (λ showing. IsTrue (are_ending_words_settled showing)) }
 {
     let events = found.events_to(alloc, place)?;
-    if let Some(race) = race_in(alloc, script, &events)? {
-        return Ok(Showing::Racy(cut_behind(events, race)));
+    if let Some(race) = racing_history_race(alloc, script, &events)? {
+        return Ok(Showing::Racy(cut_racing_history(events, race)));
     }
     let replies = found.at(place).replies()?;
     let outcome = ScriptOutcome { replies };
@@ -108,7 +108,7 @@ fn run_to(
 }
 
 /// What a search found that ended by this, or without it, when all states had been looked at or not.
-fn showing_of(
+fn until_showing_of(
     alloc: Global,
     script: &Script,
     steps: &[Vec<ScriptCall>],
@@ -117,14 +117,14 @@ fn showing_of(
     through: bool,
 ) -> Result<Showing, AllocError>
     requires steps { AreLawfulMachineSteps (plan_of script.now) steps.now }
-    requires ended { (words : List (ℕ × ℕ)) × IsUntilEnded (plan_of script.now) search.now steps.now words through met }
+    requires ended { (words : List (ℕ × ℕ)) × IsSearchUntilEnded (plan_of script.now) search.now steps.now words through met }
     ensures showing { IfOk result (λ showing. (words : List (ℕ × ℕ)) (d : ADetail)
-        → IsUntilEnded (plan_of script.now) search.now steps.now words through met
-        → search.now.found.telling ≡ telling_of_script (plan_of script.now) d → IsShowing (plan_of script.now) d words showing) }
-    ensures opens { IfOk result (IsUntilOpen met through) }
+        → IsSearchUntilEnded (plan_of script.now) search.now steps.now words through met
+        → search.now.found.telling ≡ outcome_telling_of_script (plan_of script.now) d → IsEndingWordsShowing (plan_of script.now) d words showing) }
+    ensures opens { IfOk result (IsSearchUntilOpen met through) }
 {
     match met {
-        Some(Met::Ending(place)) => run_to(alloc, script, &search.found, place),
+        Some(Met::Ending(place)) => run_until_words(alloc, script, &search.found, place),
         Some(Met::Conflict(neighbours)) => {
             let racy = racing_history(alloc, script, steps, &search.found, neighbours)?;
             Ok(Showing::Racy(racy))
@@ -148,11 +148,11 @@ fn until_by_steps<P: Progress>(
     ensures { IfOk result (IsExploredUntil (plan_of script.now) detail words.now most) }
 {
     let facts = text_facts(alloc, script, steps)?;
-    let most = states_to_look_at(script, most);
+    let most = state_room_at_most(script, most);
     let mut search = Search::new(alloc, script, detail)?;
     let met = look_until(&mut search, steps, &facts, words, most, progress)?;
     let states = search.found.len();
-    let showing = showing_of(alloc, script, steps, &search, met, states <= most)?;
+    let showing = until_showing_of(alloc, script, steps, &search, met, states <= most)?;
     Ok(ExploredUntil { states, showing })
 }
 
@@ -171,6 +171,6 @@ pub fn explore_until<P: Progress>(
     requires { IsLawful (plan_of script.now) }
     ensures { IfOk result (IsExploredUntil (plan_of script.now) detail words.now most) }
 {
-    let steps = steps_of_script(alloc, script)?;
+    let steps = script_calls_of_all(alloc, script)?;
     until_by_steps(alloc, script, &steps, detail, words, most, progress)
 }

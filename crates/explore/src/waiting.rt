@@ -6,13 +6,13 @@ ghost use Rattle.journal.specs.declared.event.Event.{Event as AnEvent};
 ghost use Rattle.journal.specs.declared.event.Kind.{Kind as AKind};
 ghost use Rattle.journal.specs.declared.event.Kind.TheVariants.{Ask, Depart};
 ghost use Rattle.journal.specs.Sizes.{Sizes as TheSizes};
-ghost use Rattle.journal.specs.WellFormed.{Allowed, KindInRange, LastIs, MayBeGranted, MayFollow};
-ghost use Rattle.journal.specs.Prelude.{Holds, count_of, did, event, is_arrive, is_depart, is_taking};
-ghost use Rattle.judge.specs.Prelude.{AreSizesSmall, AwaitsKind, tells_holder_after, tells_flag_set_after};
-ghost use Rattle.explore.specs.Waiting.{WaitingAskedAfter, IsWaitingForLock, IsEnabledByWaiting, IsFirstWaiting, IsLikeWaiting, IsWaitingPossible, TellsWaiting, waiting_unqueued};
-ghost use Rattle.explore.specs.Waits.{wait_code_seated};
+ghost use Rattle.journal.specs.WellFormed.{WellFormedAllows, WellFormedKindInRange, LastIs, WellFormedGrant, WellFormedNext};
+ghost use Rattle.journal.specs.Prelude.{Holds, event_count, did, event, event_arrives, event_departs, event_takes};
+ghost use Rattle.judge.specs.Prelude.{AreJudgedSizesSmall, WhyWaitsFor, front_tells_holder_after, front_tells_flag_set_after};
+ghost use Rattle.explore.specs.KeptWaiting.{KeptWaitingAskedAfter, IsKeptWaitingForLock, MayFollowKeptWaiting, IsFirstKeptWaiting, IsLikeKeptWaiting, IsKeptWaitingPossible, TellsKeptWaiting, kept_waiting_without};
+ghost use Rattle.explore.specs.WaitCodes.{wait_code_seated};
 
-use crate::wait::{Seat, WaitCode, end_of};
+use crate::wait_code::{Seat, WaitCode, wait_code_end_of};
 use base::{MOST_FLAGS, MOST_LOCKS, MOST_PROCESSORS};
 use journal::Kind;
 use std::alloc::{AllocError, Global};
@@ -39,8 +39,8 @@ pub struct Waiting {
 }
 
 /// Whether an event of this kind ends a wait.
-fn takes(kind: Kind) -> bool
-    ensures { result ≡ is_taking kind }
+fn is_waiting_ended_by(kind: Kind) -> bool
+    ensures { result ≡ event_takes kind }
 {
     match kind {
         Kind::Acquire(_) | Kind::Depart | Kind::Await(_) => true,
@@ -49,18 +49,18 @@ fn takes(kind: Kind) -> bool
 }
 
 /// Whether the two kinds are the same.
-fn is_same(a: Kind, b: Kind) -> bool
+fn is_same_waiting_kind(a: Kind, b: Kind) -> bool
     ensures { IsTrue result ↔ (a ≡ b) }
 {
     a == b
 }
 
 /// Counts the event if it is an arrival.
-fn count(arrivals: &mut [u32; MOST_PROCESSORS], processor: usize, kind: Kind)
+fn count_waiting_arrival(arrivals: &mut [u32; MOST_PROCESSORS], processor: usize, kind: Kind)
     requires processor { processor < most_processors }
     requires room { slice_index arrivals.old processor < 2 ^ 22 }
     ensures arrivals { (q : ℕ) → slice_index arrivals.new q
-        ≡ slice_index arrivals.old q + cond ((processor == q) && is_arrive kind) 1 0 }
+        ≡ slice_index arrivals.old q + cond ((processor == q) && event_arrives kind) 1 0 }
     ensures long { length arrivals.new ≡ length arrivals.old }
 {
     if let Kind::Arrive = kind {
@@ -69,11 +69,11 @@ fn count(arrivals: &mut [u32; MOST_PROCESSORS], processor: usize, kind: Kind)
 }
 
 /// Takes note of who acquires or releases a lock.
-fn hold(holders: &mut [Option<Seat>; MOST_LOCKS], processor: usize, kind: Kind)
+fn hold_waiting_lock(holders: &mut [Option<Seat>; MOST_LOCKS], processor: usize, kind: Kind)
     requires processor { processor < most_processors }
-    requires in_range { (s : TheSizes) × AreSizesSmall s × KindInRange s kind }
+    requires in_range { (s : TheSizes) × AreJudgedSizesSmall s × WellFormedKindInRange s kind }
     ensures holders { (l : ℕ) → wait_code_seated (slice_index_or holders.new l None)
-        ≡ tells_holder_after (wait_code_seated (slice_index_or holders.old l None)) l processor kind }
+        ≡ front_tells_holder_after (wait_code_seated (slice_index_or holders.old l None)) l processor kind }
     ensures long { length holders.new ≡ length holders.old }
 {
     match kind {
@@ -85,9 +85,9 @@ fn hold(holders: &mut [Option<Seat>; MOST_LOCKS], processor: usize, kind: Kind)
 
 /// Takes note of a flag that is set.
 fn set(flags: &mut [bool; MOST_FLAGS], kind: Kind)
-    requires { (s : TheSizes) × AreSizesSmall s × KindInRange s kind }
+    requires { (s : TheSizes) × AreJudgedSizesSmall s × WellFormedKindInRange s kind }
     ensures flags { (f : ℕ) → slice_index_or flags.new f false
-        ≡ tells_flag_set_after (slice_index_or flags.old f false) f kind }
+        ≡ front_tells_flag_set_after (slice_index_or flags.old f false) f kind }
     ensures long { length flags.new ≡ length flags.old }
 {
     if let Kind::Set(flag) = kind {
@@ -97,14 +97,14 @@ fn set(flags: &mut [bool; MOST_FLAGS], kind: Kind)
 
 /// Takes the processor out.
 fn leave(asked: &mut Vec<usize>, processor: usize)
-    ensures { asked.new.items ≡ waiting_unqueued asked.old.items processor }
+    ensures { asked.new.items ≡ kept_waiting_without asked.old.items processor }
 {
     asked.retain(|other| *other != processor);
 }
 
 /// Puts who asks for a lock at the end, and takes out who acquires one.
-fn queue(asked: &mut Vec<usize>, processor: usize, kind: Kind) -> Result<(), AllocError>
-    ensures { OnOk result (WaitingAskedAfter asked.old.items asked.new.items processor kind) }
+fn queue_waiting(asked: &mut Vec<usize>, processor: usize, kind: Kind) -> Result<(), AllocError>
+    ensures { OnOk result (KeptWaitingAskedAfter asked.old.items asked.new.items processor kind) }
 {
     match kind {
         Kind::Ask(_) => asked.push(processor)?,
@@ -115,15 +115,15 @@ fn queue(asked: &mut Vec<usize>, processor: usize, kind: Kind) -> Result<(), All
 }
 
 /// The first of these processors that waits for the lock.
-fn first_of(
+fn first_waiting_of(
     asked: &[usize],
     waits: &[Option<WaitCode>; MOST_PROCESSORS],
     lock: usize,
 ) -> Option<usize>
     requires small { All (λ q. q < most_processors) asked.now }
     requires lock { lock < most_locks }
-    ensures { MatchOption result ((q : ℕ) → Has asked.now q → ¬ IsWaitingForLock waits.now q lock)
-        (IsFirstWaiting asked.now waits.now lock) }
+    ensures { MatchOption result ((q : ℕ) → Has asked.now q → ¬ IsKeptWaitingForLock waits.now q lock)
+        (IsFirstKeptWaiting asked.now waits.now lock) }
 {
     for processor in asked {
         if waits[*processor] == Some(WaitCode::Lock(lock as u8)) {
@@ -136,7 +136,7 @@ fn first_of(
 impl Waiting {
     /// Before the first event.
     pub fn new(alloc: Global) -> Waiting
-        ensures { TellsWaiting [] result }
+        ensures { TellsKeptWaiting [] result }
     {
         Waiting {
             waits: [None; MOST_PROCESSORS],
@@ -149,7 +149,7 @@ impl Waiting {
 
     /// Another one that tells the same. The only error is running out of memory.
     pub fn copy(&self) -> Result<Waiting, AllocError>
-        ensures { IfOk result (IsLikeWaiting self.now) }
+        ensures { IfOk result (IsLikeKeptWaiting self.now) }
     {
         Ok(Waiting {
             waits: self.waits,
@@ -163,23 +163,23 @@ impl Waiting {
     /// What the processor waits for.
     pub fn of(&self, processor: usize) -> Option<Kind>
         requires { processor < most_processors }
-        ensures { (j : List AnEvent) → TellsWaiting j self.now
-            → (k : AKind) → (result ≡ Some k) ↔ AwaitsKind j processor k }
+        ensures { (j : List AnEvent) → TellsKeptWaiting j self.now
+            → (k : AKind) → (result ≡ Some k) ↔ WhyWaitsFor j processor k }
     {
-        end_of(self.waits[processor])
+        wait_code_end_of(self.waits[processor])
     }
 
     /// Whether the lock, for which the processor waits, is free, and nobody asked for it earlier.
     fn may_acquire(&self, processor: usize, lock: usize) -> bool
         requires lock { lock < most_locks }
-        requires tells { (j : List AnEvent) × TellsWaiting j self.now }
-        ensures { (j : List AnEvent) → TellsWaiting j self.now → (i : ℕ)
-            → LastIs j processor i (Ask lock) → IsTrue result ↔ MayBeGranted j i lock }
+        requires tells { (j : List AnEvent) × TellsKeptWaiting j self.now }
+        ensures { (j : List AnEvent) → TellsKeptWaiting j self.now → (i : ℕ)
+            → LastIs j processor i (Ask lock) → IsTrue result ↔ WellFormedGrant j i lock }
     {
         if let Some(_) = self.holders[lock] {
             return false;
         }
-        match first_of(&self.asked, &self.waits, lock) {
+        match first_waiting_of(&self.asked, &self.waits, lock) {
             Some(first) => first == processor,
             None => false,
         }
@@ -189,9 +189,9 @@ impl Waiting {
     fn may_depart(&self, processors: usize, processor: usize) -> bool
         requires processors { processors ≤ most_processors }
         requires processor { processor < most_processors }
-        ensures { (j : List AnEvent) → TellsWaiting j self.now → AwaitsKind j processor Depart
+        ensures { (j : List AnEvent) → TellsKeptWaiting j self.now → WhyWaitsFor j processor Depart
             → IsTrue result ↔ ((q : ℕ) → q < processors
-            → count_of is_depart j processor + 1 ≤ count_of is_arrive j q) }
+            → event_count event_departs j processor + 1 ≤ event_count event_arrives j q) }
     {
         let arrivals = self.arrivals[processor];
         for other in 0..processors {
@@ -205,7 +205,7 @@ impl Waiting {
     /// Whether the processor holds the lock.
     fn holds(&self, processor: usize, lock: usize) -> bool
         requires { lock < most_locks }
-        ensures { (j : List AnEvent) → TellsWaiting j self.now → IsTrue result ↔ Holds j processor lock }
+        ensures { (j : List AnEvent) → TellsKeptWaiting j self.now → IsTrue result ↔ Holds j processor lock }
     {
         match self.holders[lock] {
             Some(holder) => holder.processor() == processor,
@@ -215,10 +215,10 @@ impl Waiting {
 
     /// Whether this, for which the processor waits, has come.
     fn has_come(&self, processors: usize, processor: usize, kind: Kind) -> bool
-        requires { IsWaitingPossible self.now processors processor kind }
+        requires { IsKeptWaitingPossible self.now processors processor kind }
         ensures { (s : TheSizes) (j : List AnEvent) → s.processors ≡ processors
-            → TellsWaiting j self.now → AwaitsKind j processor kind
-            → IsTrue result ↔ Allowed s j processor kind }
+            → TellsKeptWaiting j self.now → WhyWaitsFor j processor kind
+            → IsTrue result ↔ WellFormedAllows s j processor kind }
     {
         match kind {
             Kind::Acquire(lock) => self.may_acquire(processor, lock),
@@ -230,12 +230,12 @@ impl Waiting {
 
     /// Whether the processor, which waits for nothing, may do this.
     fn may_begin(&self, processor: usize, kind: Kind) -> bool
-        requires { (s : TheSizes) × AreSizesSmall s × KindInRange s kind }
-        ensures { (s : TheSizes) (j : List AnEvent) → TellsWaiting j self.now
-            → ((k : AKind) → ¬ AwaitsKind j processor k)
-            → IsTrue result ↔ Allowed s j processor kind }
+        requires { (s : TheSizes) × AreJudgedSizesSmall s × WellFormedKindInRange s kind }
+        ensures { (s : TheSizes) (j : List AnEvent) → TellsKeptWaiting j self.now
+            → ((k : AKind) → ¬ WhyWaitsFor j processor k)
+            → IsTrue result ↔ WellFormedAllows s j processor kind }
     {
-        if takes(kind) {
+        if is_waiting_ended_by(kind) {
             return false;
         }
         match kind {
@@ -247,13 +247,14 @@ impl Waiting {
 
     /// Whether the processor's next event may be this.
     pub fn may_follow(&self, processors: usize, processor: usize, kind: Kind) -> bool
-        requires { IsWaitingPossible self.now processors processor kind }
+        requires { IsKeptWaitingPossible self.now processors processor kind }
         ensures { (s : TheSizes) (j : List AnEvent) → s.processors ≡ processors
-            → KindInRange s kind → TellsWaiting j self.now
-            → IsTrue result ↔ MayFollow s j (event processor kind) }
+            → WellFormedKindInRange s kind → TellsKeptWaiting j self.now
+            → IsTrue result ↔ WellFormedNext s j (event processor kind) }
     {
         match self.of(processor) {
-            Some(awaited) => is_same(awaited, kind) && self.has_come(processors, processor, kind),
+            Some(awaited) => is_same_waiting_kind(awaited, kind)
+                && self.has_come(processors, processor, kind),
             None => self.may_begin(processor, kind),
         }
     }
@@ -261,14 +262,14 @@ impl Waiting {
     /// Takes note of the processor's next event. The only error is running out of memory, after which this may tell
     /// no events.
     pub fn note(&mut self, processor: usize, kind: Kind) -> Result<(), AllocError>
-        requires { IsEnabledByWaiting self.old processor kind }
-        ensures { OnOk result ((s : TheSizes) (j : List AnEvent) → TellsWaiting j self.old
-            → MayFollow s j (event processor kind) → processor < most_processors
-            → TellsWaiting (did j processor kind) self.new) }
+        requires { MayFollowKeptWaiting self.old processor kind }
+        ensures { OnOk result ((s : TheSizes) (j : List AnEvent) → TellsKeptWaiting j self.old
+            → WellFormedNext s j (event processor kind) → processor < most_processors
+            → TellsKeptWaiting (did j processor kind) self.new) }
     {
-        queue(&mut self.asked, processor, kind)?;
-        count(&mut self.arrivals, processor, kind);
-        hold(&mut self.holders, processor, kind);
+        queue_waiting(&mut self.asked, processor, kind)?;
+        count_waiting_arrival(&mut self.arrivals, processor, kind);
+        hold_waiting_lock(&mut self.holders, processor, kind);
         set(&mut self.flags, kind);
         self.waits[processor] = WaitCode::after(kind);
         Ok(())

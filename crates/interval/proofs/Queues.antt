@@ -4,5 +4,5 @@
 pub mod Merged
 pub mod Empty
 pub mod LastPushed
-pub mod Trimmed
+pub mod TrimmedQueues
 pub mod FirstFound

@@ -1,5 +1,5 @@
 pub mod SentIntervals
-pub mod Closings
-pub mod Queues
+pub mod KeptClosings
+pub mod IntervalQueues
 pub mod PageCounts
 pub mod Prelude

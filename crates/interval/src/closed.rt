@@ -3,11 +3,11 @@ ghost use Rattle.std.specs.Prelude.{◌≡◌, ℕ, ◌+◌, ◌-◌, ◌^◌, �
 ghost use Rattle.std.specs.Prelude.{replicate, [], ◌∷◌, length, find, filter, count_by, slice_get, slice_index};
 ghost use Rattle.std.specs.Prelude.{EachIndex, map};
 ghost use Rattle.std.specs.Option.{option_copied};
-ghost use Rattle.vtime.specs.Times.{tick};
-ghost use Rattle.interval.specs.Prelude.{SentPagesRise, IsSentInClosingOrder, KeepsClosingsBetween, pushed, closings_trimmed_below, leaves_records, is_news_of_closings};
-ghost use Rattle.interval.specs.Prelude.{closings_between, is_closing_of_page, record_of, SameQueuedIntervals};
+ghost use Rattle.vtime.specs.TicksAndJoins.{tick};
+ghost use Rattle.interval.specs.Prelude.{SentIntervalPagesRise, IsSentInIntervalOrder, HasKeptClosingsBetween, kept_closings_pushed, kept_closings_trimmed_below, kept_closing_has_records, is_news_of_kept_closings};
+ghost use Rattle.interval.specs.Prelude.{kept_closings_between, is_kept_closing_of_page, record_of, SameQueuedIntervals};
 
-use crate::kept_interval::{Interval, KeptInterval};
+use crate::interval::{Interval, KeptInterval};
 use crate::notice::{Notice, Sent};
 use crate::queue::Queue;
 use page::Record;
@@ -23,15 +23,15 @@ pub struct Closed {
 }
 
 impl Model for Closed {
-    ghost use Rattle.interval.specs.Closings.{Closings};
+    ghost use Rattle.interval.specs.KeptClosings.{KeptClosings};
 
-    ghost Value = { Closings };
+    ghost Value = { KeptClosings };
 
-    ghost use Rattle.interval.specs.Queues.{queue_closings, AreQueues};
+    ghost use Rattle.interval.specs.IntervalQueues.{interval_queue_closings, AreIntervalQueues};
 
-    ghost view = { λ c. queue_closings c.queues.items c.pushed };
+    ghost view = { λ c. interval_queue_closings c.queues.items c.pushed };
 
-    ghost invariant = { λ c. AreQueues c.queues.items c.pushed };
+    ghost invariant = { λ c. AreIntervalQueues c.queues.items c.pushed };
 }
 
 impl Closed {
@@ -53,13 +53,13 @@ impl Closed {
     pub fn push(&mut self, interval: Interval) -> Result<(), AllocError>
         requires owner { interval.owner < length self.old.next }
         requires number { interval.number ≡ slice_index self.old.next interval.owner }
-        requires pages { SentPagesRise interval.records }
+        requires pages { SentIntervalPagesRise interval.records }
         requires fits { self.old.pushed < 2 ^ 64 - 1 }
-        ensures ok { OnOk result (self.new ≡ pushed self.old interval) }
+        ensures ok { OnOk result (self.new ≡ kept_closings_pushed self.old interval) }
 
         // A processor that isn't to perform the interval is sent what was sent before.
         ensures same_news { OnOk result ((old new : List ℕ) → slice_index new interval.owner ≤ interval.number
-            → closings_between self.new old new ≡ closings_between self.old old new) }
+            → kept_closings_between self.new old new ≡ kept_closings_between self.old old new) }
         ensures err { OnErr result (self.new ≡ self.old) }
     {
         let owner = interval.owner;
@@ -77,9 +77,9 @@ impl Closed {
     /// each record; what else is kept costs nothing. It takes memory for those intervals and for what it
     /// answers.
     pub fn between(&self, old: &VTime, new: &VTime) -> Result<Vec<Sent>, AllocError>
-        requires { KeepsClosingsBetween self.now old.now new.now }
-        ensures value { IfOk result (λ sent. sent.items ≡ closings_between self.now old.now new.now) }
-        ensures in_order { IfOk result (λ sent. IsSentInClosingOrder sent.items) }
+        requires { HasKeptClosingsBetween self.now old.now new.now }
+        ensures value { IfOk result (λ sent. sent.items ≡ kept_closings_between self.now old.now new.now) }
+        ensures in_order { IfOk result (λ sent. IsSentInIntervalOrder sent.items) }
     {
         self.between_and_more(old, new, 0)
     }
@@ -91,13 +91,13 @@ impl Closed {
         new: &VTime,
         more: usize,
     ) -> Result<Vec<Sent>, AllocError>
-        requires { KeepsClosingsBetween self.now old.now new.now }
-        ensures value { IfOk result (λ sent. sent.items ≡ closings_between self.now old.now new.now) }
-        ensures in_order { IfOk result (λ sent. IsSentInClosingOrder sent.items) }
+        requires { HasKeptClosingsBetween self.now old.now new.now }
+        ensures value { IfOk result (λ sent. sent.items ≡ kept_closings_between self.now old.now new.now) }
+        ensures in_order { IfOk result (λ sent. IsSentInIntervalOrder sent.items) }
     {
-        let mut news = self.news(old, new)?;
+        let mut news = self.intervals_between(old, new)?;
         news.sort_unstable_by_key(|kept| kept.place);
-        let room = room_for(&news, more);
+        let room = closed_interval_room(&news, more);
         let mut sent = Vec::with_capacity(*self.queues.allocator(), room)?;
         for kept in &news {
             kept.send(&mut sent)?;
@@ -109,10 +109,10 @@ impl Closed {
     /// the number for page n. Pages past the slice's end are not counted. It takes no memory, and costs in
     /// the order of the owners, the slice, and the intervals between the timestamps with their records.
     pub fn count_news(&self, old: &VTime, new: &VTime, counts: &mut [usize])
-        requires { KeepsClosingsBetween self.now old.now new.now }
+        requires { HasKeptClosingsBetween self.now old.now new.now }
         ensures each { EachIndex counts.new
-            (λ n. slice_index counts.new n ≡ count_by (is_closing_of_page n)
-            (closings_between self.now old.now new.now)) }
+            (λ n. slice_index counts.new n ≡ count_by (is_kept_closing_of_page n)
+            (kept_closings_between self.now old.now new.now)) }
         ensures same_length { length counts.new ≡ length counts.old }
     {
         self.count_pages(0, old, new, counts);
@@ -120,8 +120,8 @@ impl Closed {
 
     /// How many notices of the page `between` answers. It takes no memory, and costs as `count_news` does.
     pub fn news_of(&self, page: usize, old: &VTime, new: &VTime) -> usize
-        requires { KeepsClosingsBetween self.now old.now new.now }
-        ensures { result ≡ count_by (is_closing_of_page page) (closings_between self.now old.now new.now) }
+        requires { HasKeptClosingsBetween self.now old.now new.now }
+        ensures { result ≡ count_by (is_kept_closing_of_page page) (kept_closings_between self.now old.now new.now) }
     {
         let mut count = [0];
         self.count_pages(page, old, new, &mut count);
@@ -131,10 +131,10 @@ impl Closed {
     /// As `count_news`, with the number for page `base + i` in entry i: one walk over each owner's intervals
     /// between the timestamps, in no order.
     fn count_pages(&self, base: usize, old: &VTime, new: &VTime, counts: &mut [usize])
-        requires { KeepsClosingsBetween self.now old.now new.now }
+        requires { HasKeptClosingsBetween self.now old.now new.now }
         ensures each { EachIndex counts.new
-            (λ i. slice_index counts.new i ≡ count_by (is_closing_of_page (base + i))
-            (closings_between self.now old.now new.now)) }
+            (λ i. slice_index counts.new i ≡ count_by (is_kept_closing_of_page (base + i))
+            (kept_closings_between self.now old.now new.now)) }
         ensures same_length { length counts.new ≡ length counts.old }
     {
         counts.fill(0);
@@ -145,18 +145,18 @@ impl Closed {
 
     /// What `between` will answer once the interval is pushed: with it a caller can take all the memory
     /// that it needs before it changes anything.
-    pub fn between_after(
+    pub fn between_after_interval(
         &self,
         interval: &Interval,
         old: &VTime,
         new: &VTime,
     ) -> Result<Vec<Sent>, AllocError>
         requires owner { interval.now.owner < length self.now.next }
-        requires pages { SentPagesRise interval.now.records }
-        requires kept { KeepsClosingsBetween self.now old.now new.now }
+        requires pages { SentIntervalPagesRise interval.now.records }
+        requires kept { HasKeptClosingsBetween self.now old.now new.now }
         ensures value { IfOk result (λ sent. sent.items
-            ≡ closings_between (pushed self.now interval.now) old.now new.now) }
-        ensures in_order { IfOk result (λ sent. IsSentInClosingOrder sent.items) }
+            ≡ kept_closings_between (kept_closings_pushed self.now interval.now) old.now new.now) }
+        ensures in_order { IfOk result (λ sent. IsSentInIntervalOrder sent.items) }
     {
         let mut sent = self.between_and_more(old, new, interval.records.len())?;
         let (owner, number) = (interval.owner, interval.number);
@@ -167,10 +167,10 @@ impl Closed {
     }
 
     /// The intervals with records that `new` covers and `old` doesn't, owner by owner.
-    fn news(&self, old: &VTime, new: &VTime) -> Result<Vec<&KeptInterval>, AllocError>
-        requires { KeepsClosingsBetween self.now old.now new.now }
+    fn intervals_between(&self, old: &VTime, new: &VTime) -> Result<Vec<&KeptInterval>, AllocError>
+        requires { HasKeptClosingsBetween self.now old.now new.now }
         ensures { IfOk result (λ news. SameQueuedIntervals
-            (filter leaves_records (filter (is_news_of_closings old.now new.now) self.now.kept))
+            (filter kept_closing_has_records (filter (is_news_of_kept_closings old.now new.now) self.now.kept))
             (map (λ k. k.now) news.items)) }
     {
         let count = self.count_intervals(old, new);
@@ -183,7 +183,7 @@ impl Closed {
 
     /// How many intervals these are at most. It says for how many memory is taken at once, and nothing rests on it.
     fn count_intervals(&self, old: &VTime, new: &VTime) -> usize
-        requires { KeepsClosingsBetween self.now old.now new.now }
+        requires { HasKeptClosingsBetween self.now old.now new.now }
     {
         let mut count: usize = 0;
         for (owner, queue) in self.queues.iter().enumerate() {
@@ -216,11 +216,11 @@ impl Closed {
     /// Drops the owner's intervals with numbers below `to`, which everyone has performed.
     pub fn trim(&mut self, owner: usize, to: u64)
         requires { owner < length self.old.first }
-        ensures value { self.new ≡ closings_trimmed_below self.old owner to }
+        ensures value { self.new ≡ kept_closings_trimmed_below self.old owner to }
 
         // A processor that has performed the dropped intervals is sent what was sent before.
         ensures same_news { (old new : List ℕ) → to ≤ slice_index old owner
-            → closings_between self.new old new ≡ closings_between self.old old new }
+            → kept_closings_between self.new old new ≡ kept_closings_between self.old old new }
     {
         self.queues[owner].trim(to);
     }
@@ -228,7 +228,7 @@ impl Closed {
 
 /// How many records these intervals have, and so many more. It says for how many memory is taken at once, and nothing
 /// rests on it.
-fn room_for(news: &[&KeptInterval], more: usize) -> usize {
+fn closed_interval_room(news: &[&KeptInterval], more: usize) -> usize {
     let mut room = more;
     for kept in news {
         room = room.saturating_add(kept.interval.records.len());

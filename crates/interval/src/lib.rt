@@ -1,8 +1,8 @@
 //! Closed intervals, and which of them a processor still has to learn of.
 //!
-//! - Contracts see `Closed` as one list in closing order (`Closings`, specs/Closings), an `Interval` as
+//! - Contracts see `Closed` as one list in closing order (`KeptClosings`, specs/KeptClosings), an `Interval` as
 //!   `ClosedInterval` and what is sent as `SentRecord` (specs/SentIntervals). How the intervals lie, a queue
-//!   for each owner, is specs/Queues, and counts of pages are specs/PageCounts.
+//!   for each owner, is specs/IntervalQueues, and counts of pages are specs/PageCounts.
 //! - Proved: `between` is a filter of that list by two timestamps, and comes in closing order; `push` and
 //!   `trim` change the list as they say, and what is sent stays the same; `count_news` and
 //!   `news_of` are counts of what `between` would answer.
@@ -11,10 +11,10 @@
 #![tactic(auto)]
 
 mod closed;
-mod kept_interval;
+mod interval;
 mod notice;
 mod queue;
 
 pub use closed::Closed;
-pub use kept_interval::{Interval, KeptInterval};
+pub use interval::{Interval, KeptInterval};
 pub use notice::{Notice, Sent};

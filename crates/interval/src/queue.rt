@@ -1,9 +1,9 @@
 //! The kept intervals of one owner.
 ghost use Rattle.std.specs.Prelude.{◌≡◌, ◌-◌, ◌≤◌, [], ◌∷◌, ◌++◌, filter, length, map, slice_get, OnOk, OnErr};
 ghost use Rattle.std.specs.Option.{option_copied};
-ghost use Rattle.interval.specs.Prelude.{leaves_records, queue_within, queue_dropped_below, pages_of, CountsGrew, CountsHaveRoom};
+ghost use Rattle.interval.specs.Prelude.{kept_closing_has_records, interval_queue_within, interval_queue_dropped_below, counted_pages_of, PageCountsGrew, PageCountsHaveRoom};
 
-use crate::kept_interval::KeptInterval;
+use crate::interval::KeptInterval;
 use std::alloc::{AllocError, Global};
 use std::collections::VecDeque;
 use std::marker::Model;
@@ -16,7 +16,7 @@ pub(crate) struct Queue {
 }
 
 impl Model for Queue {
-    ghost use Rattle.interval.specs.Queues.{Queue as OwnerQueue};
+    ghost use Rattle.interval.specs.IntervalQueues.{IntervalQueue as OwnerQueue};
 
     ghost Value = { OwnerQueue };
 
@@ -63,7 +63,7 @@ impl Queue {
     /// How many intervals have numbers in `from..to`.
     pub(crate) fn count(&self, from: u64, to: u64) -> usize
         requires { self.now.first ≤ from }
-        ensures { result ≡ length (queue_within self.now from to) }
+        ensures { result ≡ length (interval_queue_within self.now from to) }
     {
         let start = (from - self.first) as usize;
         let end = to.saturating_sub(self.first).min(self.kept.len() as u64) as usize;
@@ -79,7 +79,7 @@ impl Queue {
     ) -> Result<(), AllocError>
         requires { self.now.first ≤ from }
         ensures { OnOk result (map (λ k. k.now) news.new.items ≡ map (λ k. k.now) news.old.items
-            ++ filter leaves_records (queue_within self.now from to)) }
+            ++ filter kept_closing_has_records (interval_queue_within self.now from to)) }
     {
         let start = (from - self.first) as usize;
         let end = to.saturating_sub(self.first).min(self.kept.len() as u64) as usize;
@@ -96,8 +96,8 @@ impl Queue {
     /// `Interval::count_pages` does.
     pub(crate) fn count_pages(&self, from: u64, to: u64, base: usize, counts: &mut [usize])
         requires kept { self.now.first ≤ from }
-        requires room { CountsHaveRoom base (pages_of (queue_within self.now from to)) counts.old }
-        ensures { CountsGrew base (pages_of (queue_within self.now from to)) counts.old counts.new }
+        requires room { PageCountsHaveRoom base (counted_pages_of (interval_queue_within self.now from to)) counts.old }
+        ensures { PageCountsGrew base (counted_pages_of (interval_queue_within self.now from to)) counts.old counts.new }
     {
         let start = (from - self.first) as usize;
         let end = to.saturating_sub(self.first).min(self.kept.len() as u64) as usize;
@@ -108,7 +108,7 @@ impl Queue {
 
     /// Drops the intervals with numbers below `to`.
     pub(crate) fn trim(&mut self, to: u64)
-        ensures { self.new ≡ queue_dropped_below self.old to }
+        ensures { self.new ≡ interval_queue_dropped_below self.old to }
     {
         let count = to.saturating_sub(self.first).min(self.kept.len() as u64);
         for _ in 0..count {

@@ -3,18 +3,18 @@
 -- The base keeps what of it still counts: memory, holders, flags (Holding, Noted; nothing where Uncut). So order, races,
 -- loads, copies and form are the same, read either way (Order, Races, Loads, Copies, WellFormed); Whole has the laws.
 -- Opening, Cutting: the first arrivals behind a cut; a cut of what a cut left.
-pub mod Order
-pub mod EndedCounts
-pub mod FirstAndLast
-pub mod Holding
-pub mod WellFormed
-pub mod Races
+pub mod OrderOfLeft
+pub mod EpisodeCounts
+pub mod CutBeforeLeft
+pub mod BaseAppend
+pub mod WellFormedAfterCut
+pub mod RacesAcrossCut
 pub mod LongerAndShorter
 pub mod ExplainedByLast
 pub mod Uncut
 pub mod CutAgain
 pub mod PageCopies
-pub mod Whole
-pub mod KeptAndHeld
-pub mod EpisodeEnds
-pub mod Opening
+pub mod CutLaws
+pub mod KeptStep
+pub mod CutPlaces
+pub mod OpeningAsBase

@@ -2,6 +2,6 @@
 -- applied last (Newest). A word stays until an event writes it (WordOrigins); under an open block it is that of the page
 -- below the block, or of the block's last store (BlockOrigins).
 pub mod GapOrigins
-pub mod Newest
+pub mod NewestStores
 pub mod WordOrigins
 pub mod BlockOrigins

@@ -4,9 +4,9 @@ use Rattle.journal.specs.declared.event.Event.{Event}
 use Rattle.journal.specs.declared.event.Kind.{Kind}
 use Rattle.journal.specs.declared.event.Kind.TheVariants.{Load, Store}
 use Rattle.journal.specs.Sizes.{Sizes}
-use Rattle.journal.specs.Events.{At, is_taking}
+use Rattle.journal.specs.Events.{EventAt, event_takes}
 use Rattle.journal.specs.WellFormed.{Does}
-use Rattle.base.specs.LastWritten.{written}
+use Rattle.base.specs.LastWrite.{written}
 use Rattle.journal.specs.PageImages.{Lawful}
 
 -- what an event stores in page n
@@ -20,10 +20,10 @@ block_done s n page block = written (λ (e : Event). block_write s n e.kind) pag
 
 -- events of p that take nothing
 abbrev pub IsBlock : ℕ → List Event → Type 0
-IsBlock p block = (k : ℕ) (e : Event) → At block k e → (e.processor ≡ p) × (is_taking e.kind ≡ false)
+IsBlock p block = (k : ℕ) (e : Event) → EventAt block k e → (e.processor ≡ p) × (event_takes e.kind ≡ false)
 
 -- the copy is what the block's stores make of a copy that is lawful before the block
-pub record LawfulOpenBlock (s : Sizes) (j block : List Event) (p n : ℕ) (page : List ℕ) : Type 0 where
+pub record BlockOverLawfulPage (s : Sizes) (j block : List Event) (p n : ℕ) (page : List ℕ) : Type 0 where
   pub base : List ℕ
   pub lawful : Lawful s j p n base
   pub gives : page ≡ block_done s n base block

@@ -4,26 +4,26 @@ use Rattle.journal.specs.declared.event.Event.{Event}
 use Rattle.journal.specs.declared.event.Kind.TheVariants.{Load, Store}
 use Rattle.journal.specs.Sizes.{Sizes}
 use Rattle.journal.specs.WellFormed.{Does}
-use Rattle.journal.specs.WordOrigins.{IsWordFrom, HasNoOrigin}
+use Rattle.journal.specs.OriginWrites.{IsLatestOriginWrite, HasNoOriginWrite}
 
 -- before place k, p's copy has the word at a from a store of v
-pub record IsCopyStore (s : Sizes) (j : List Event) (p a k v : ℕ) : Type 0 where
+pub record IsCopyAnswerOfStore (s : Sizes) (j : List Event) (p a k v : ℕ) : Type 0 where
   pub write : ℕ
   pub store : ℕ
   pub by : ℕ
-  pub from : IsWordFrom s j p a k write store
+  pub from : IsLatestOriginWrite s j p a k write store
   pub stores : Does j store by (Store a v)
 
 -- before place k, the word at a of p's copy is v: what the store stores from which it comes, or 0 if it comes from none
-abbrev pub IsCopyWord : Sizes → List Event → ℕ → ℕ → ℕ → ℕ → Type 0
-IsCopyWord s j p a k v = ((v ≡ 0) × HasNoOrigin s j p a k) ⊎ IsCopyStore s j p a k v
+abbrev pub IsCopyAnswer : Sizes → List Event → ℕ → ℕ → ℕ → ℕ → Type 0
+IsCopyAnswer s j p a k v = ((v ≡ 0) × HasNoOriginWrite s j p a k) ⊎ IsCopyAnswerOfStore s j p a k v
 
 -- each load answers the word of its processor's copy
 abbrev pub AnswersCopies : Sizes → List Event → Type 0
-AnswersCopies s j = (k p a v : ℕ) → Does j k p (Load a v) → IsCopyWord s j p a k v
+AnswersCopies s j = (k p a v : ℕ) → Does j k p (Load a v) → IsCopyAnswer s j p a k v
 
 -- a copy has one word at an address before a place, and has it in each history that goes on
-pub record CopyWordLaw : Type 0 where
-  pub once : (s : Sizes) (j : List Event) (p a k v w : ℕ) → IsCopyWord s j p a k v → IsCopyWord s j p a k w → v ≡ w
-  pub stays : (s : Sizes) (j es : List Event) (p a k v : ℕ) → k ≤ length j → IsCopyWord s j p a k v
-      → IsCopyWord s (j ++ es) p a k v
+pub record CopyAnswerLaw : Type 0 where
+  pub once : (s : Sizes) (j : List Event) (p a k v w : ℕ) → IsCopyAnswer s j p a k v → IsCopyAnswer s j p a k w → v ≡ w
+  pub stays : (s : Sizes) (j es : List Event) (p a k v : ℕ) → k ≤ length j → IsCopyAnswer s j p a k v
+      → IsCopyAnswer s (j ++ es) p a k v

@@ -4,12 +4,12 @@ use Rattle.journal.specs.declared.event.Event.{Event}
 use Rattle.journal.specs.declared.event.Kind.{Kind}
 use Rattle.journal.specs.declared.event.Kind.TheVariants.{Load, Store, Fetch}
 use Rattle.journal.specs.Sizes.{Sizes}
-use Rattle.journal.specs.Events.{At, interval_at}
+use Rattle.journal.specs.Events.{EventAt, event_interval_at}
 use Rattle.journal.specs.WellFormed.{Does}
 use Rattle.journal.specs.Times.{ClosesAt}
-use Rattle.journal.specs.PageImages.{FetchesPage, InGap}
-use Rattle.journal.specs.WordOrigins.{IsOriginAppliedBefore}
-use Rattle.journal.specs.CopyAnswers.{IsCopyWord}
+use Rattle.journal.specs.PageImages.{FetchesPageImage, InGap}
+use Rattle.journal.specs.OriginWrites.{OriginWritesBefore}
+use Rattle.journal.specs.CopyAnswers.{IsCopyAnswer}
 
 -- the event loads from page n, stores to it or fetches it
 abbrev pub TouchesCopy : Sizes → ℕ → Kind → Type 0
@@ -19,39 +19,39 @@ TouchesCopy s n (Fetch w m r d) = m ≡ n
 TouchesCopy s n _ = ⊥
 
 -- p's gap of the page of a has q's store to a at place i, whose interval is closed at place c
-pub record IsOriginInGap (s : Sizes) (j : List Event) (p a q i c : ℕ) : Type 0 where
+pub record IsCopyOriginInGap (s : Sizes) (j : List Event) (p a q i c : ℕ) : Type 0 where
   pub value : ℕ
   pub does : Does j i q (Store a value)
   pub gap : InGap s j p (a / s.words) i
   pub closes : ClosesAt j q c
-  pub interval : interval_at j q c ≡ interval_at j q i
+  pub interval : event_interval_at j q c ≡ event_interval_at j q i
 
 -- of the gap's stores to a this one stores v, and a fetch applies it last
-pub record IsLastOriginInGap (s : Sizes) (j : List Event) (p a v : ℕ) : Type 0 where
+pub record IsLastCopyOriginInGap (s : Sizes) (j : List Event) (p a v : ℕ) : Type 0 where
   pub place : ℕ
   pub by : ℕ
   pub closed : ℕ
   pub stores : Does j place by (Store a v)
-  pub gap : IsOriginInGap s j p a by place closed
-  pub last : (q i c : ℕ) → IsOriginInGap s j p a q i c → ¬ IsOriginAppliedBefore place closed i c
+  pub gap : IsCopyOriginInGap s j p a by place closed
+  pub last : (q i c : ℕ) → IsCopyOriginInGap s j p a q i c → ¬ OriginWritesBefore place closed i c
 
 -- each word of the page is the one that p's copy has
 pub record AreCopyOrigins (s : Sizes) (j : List Event) (p n : ℕ) (page : List ℕ) : Type 0 where
-  pub each : (a v : ℕ) → a / s.words ≡ n → slice_get page (a % s.words) ≡ Some v → IsCopyWord s j p a (length j) v
+  pub each : (a v : ℕ) → a / s.words ≡ n → slice_get page (a % s.words) ≡ Some v → IsCopyAnswer s j p a (length j) v
 
 -- each word of the page is the one that p's copy has after a fetch
-pub record AreFetchedOrigins (s : Sizes) (j : List Event) (p n : ℕ) (page : List ℕ) : Type 0 where
+pub record AreCopyOriginsFetched (s : Sizes) (j : List Event) (p n : ℕ) (page : List ℕ) : Type 0 where
   pub each : (a v : ℕ) → a / s.words ≡ n → slice_get page (a % s.words) ≡ Some v
-      → IsLastOriginInGap s j p a v
-      ⊎ (IsCopyWord s j p a (length j) v × ((q i c : ℕ) → ¬ IsOriginInGap s j p a q i c))
+      → IsLastCopyOriginInGap s j p a v
+      ⊎ (IsCopyAnswer s j p a (length j) v × ((q i c : ℕ) → ¬ IsCopyOriginInGap s j p a q i c))
 
 -- p's block fetches the page at place k alone, and leaves it alone before
-pub record IsOnlyOriginFetch (s : Sizes) (block : List Event) (p n k : ℕ) : Type 0 where
-  pub fetches : FetchesPage block k p n
-  pub first : (m : ℕ) (e : Event) → m < k → At block m e → ¬ TouchesCopy s n e.kind
-  pub only : (m : ℕ) → k < m → ¬ FetchesPage block m p n
+pub record IsOnlyCopyOriginFetch (s : Sizes) (block : List Event) (p n k : ℕ) : Type 0 where
+  pub fetches : FetchesPageImage block k p n
+  pub first : (m : ℕ) (e : Event) → m < k → EventAt block m e → ¬ TouchesCopy s n e.kind
+  pub only : (m : ℕ) → k < m → ¬ FetchesPageImage block m p n
 
 -- the page below the block's stores is that before the block, or, if the block fetches it, that after a fetch
-pub data AreBlockOrigins (s : Sizes) (j block : List Event) (p n : ℕ) (base : List ℕ) : Type 0 where
-  unfetched : AreCopyOrigins s j p n base → ((k : ℕ) → ¬ FetchesPage block k p n) → AreBlockOrigins s j block p n base
-  fetched : (k : ℕ) → IsOnlyOriginFetch s block p n k → AreFetchedOrigins s j p n base → AreBlockOrigins s j block p n base
+pub data AreOpenCopyOrigins (s : Sizes) (j block : List Event) (p n : ℕ) (base : List ℕ) : Type 0 where
+  unfetched : AreCopyOrigins s j p n base → ((k : ℕ) → ¬ FetchesPageImage block k p n) → AreOpenCopyOrigins s j block p n base
+  fetched : (k : ℕ) → IsOnlyCopyOriginFetch s block p n k → AreCopyOriginsFetched s j p n base → AreOpenCopyOrigins s j block p n base

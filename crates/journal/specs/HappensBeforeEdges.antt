@@ -3,7 +3,7 @@ use Rattle.std.specs.Prelude.{ℕ, ◌≡◌, ◌<◌, List, take}
 use Rattle.journal.specs.declared.event.Event.{Event}
 use Rattle.journal.specs.declared.event.Kind.{Kind}
 use Rattle.journal.specs.declared.event.Kind.TheVariants.{Acquire, Release, Arrive, Depart, Set, Await}
-use Rattle.journal.specs.Events.{At, count_of, is_arrive, is_depart}
+use Rattle.journal.specs.Events.{EventAt, event_count, event_arrives, event_departs}
 
 -- the release of a lock and an acquire of it, or the set of a flag and an await of it
 abbrev pub LetsThrough : Kind → Kind → Type 0
@@ -13,23 +13,23 @@ LetsThrough _ _ = ⊥
 
 -- an arrival and a departure of one episode: as many arrivals of the one's processor stand before it as departures
 -- of the other's stand before that
-pub record EdgesMeetAt (j : List Event) (i k : ℕ) (e f : Event) : Type 0 where
+pub record HappensBeforeEdgesMeet (j : List Event) (i k : ℕ) (e f : Event) : Type 0 where
   pub arrives : e.kind ≡ Arrive
   pub departs : f.kind ≡ Depart
-  pub episode : count_of is_arrive (take i j) e.processor ≡ count_of is_depart (take k j) f.processor
+  pub episode : event_count event_arrives (take i j) e.processor ≡ event_count event_departs (take k j) f.processor
 
 -- why the event e at place i comes before the event f at place k
 pub data Link (j : List Event) (i k : ℕ) (e f : Event) : Type 0 where
   same : e.processor ≡ f.processor → Link j i k e f
   lets : LetsThrough e.kind f.kind → Link j i k e f
-  meets : EdgesMeetAt j i k e f → Link j i k e f
+  meets : HappensBeforeEdgesMeet j i k e f → Link j i k e f
 
 pub record Edge (j : List Event) (i k : ℕ) : Type 0 where
   pub before : i < k
   pub from : Event
   pub to : Event
-  pub from_at : At j i from
-  pub to_at : At j k to
+  pub from_at : EventAt j i from
+  pub to_at : EventAt j k to
   pub link : Link j i k from to
 
 -- one or more edges lead from place i to place k

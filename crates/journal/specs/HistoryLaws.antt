@@ -3,19 +3,19 @@ use Rattle.std.specs.Prelude.{◌≡◌, List, [], ◌++◌, take}
 use Rattle.journal.specs.declared.event.Event.{Event}
 use Rattle.journal.specs.Sizes.{Sizes, addresses}
 use Rattle.journal.specs.WellFormed.{WellFormed}
-use Rattle.journal.specs.Log.{Log, HoldsHistory, HoldsRestOfHistory}
-use Rattle.journal.specs.CutFaults.{WasCut}
+use Rattle.journal.specs.Log.{Log, LogHoldsHistory, LogHoldsRestOfHistory}
+use Rattle.journal.specs.JournalCuts.{JournalWasCut}
 
 -- the journal is one of a cluster of these sizes
-pub record HasHistorySizes (s : Sizes) (log : Log) : Type 0 where
+pub record HistoryLawSizes (s : Sizes) (log : Log) : Type 0 where
   pub processors : log.processors ≡ s.processors
   pub addresses_are : log.addresses ≡ addresses s
 
 -- a journal of which nothing was cut off holds all of its history
-abbrev pub UncutHistoryLaw : Type 0
-UncutHistoryLaw = (log : Log) (h : List Event) → HoldsHistory log h → HoldsRestOfHistory log [] h
+abbrev pub HistoryLawUncut : Type 0
+HistoryLawUncut = (log : Log) (h : List Event) → LogHoldsHistory log h → LogHoldsRestOfHistory log [] h
 
 -- what a cut takes, c has after it; the history stays as it was
 abbrev pub HistoryLaw : Type 0
-HistoryLaw = (s : Sizes) (old new : Log) (c h : List Event) → HasHistorySizes s old → WellFormed s h → HoldsRestOfHistory old c h
-    → (was : WasCut old new) → HoldsRestOfHistory new (c ++ take was.taken old.events) h
+HistoryLaw = (s : Sizes) (old new : Log) (c h : List Event) → HistoryLawSizes s old → WellFormed s h → LogHoldsRestOfHistory old c h
+    → (was : JournalWasCut old new) → LogHoldsRestOfHistory new (c ++ take was.taken old.events) h

@@ -1,7 +1,7 @@
 -- What has happened before an event, and before what a processor does next.
 use Rattle.std.specs.Prelude.{ℕ, ◌≡◌, ◌⊎◌, List}
 use Rattle.journal.specs.declared.event.Event.{Event}
-use Rattle.journal.specs.Events.{At}
+use Rattle.journal.specs.Events.{EventAt}
 use Rattle.journal.specs.HappensBeforeEdges.{HappensBefore}
 
 -- place i is k, or happens before it
@@ -12,10 +12,10 @@ UpTo j k i = (i ≡ k) ⊎ HappensBefore j i k
 pub record InPast (j : List Event) (p i : ℕ) : Type 0 where
   pub own : ℕ
   pub event : Event
-  pub at : At j own event
+  pub at : EventAt j own event
   pub mine : event.processor ≡ p
   pub reaches : UpTo j own i
 
 -- place i is one of these, or happens before one
-abbrev pub UpToSome : List Event → (ℕ → Type 0) → ℕ → Type 0
-UpToSome j some i = (k : ℕ) × some k × UpTo j k i
+abbrev pub InPastOfSome : List Event → (ℕ → Type 0) → ℕ → Type 0
+InPastOfSome j some i = (k : ℕ) × some k × UpTo j k i

@@ -1,23 +1,23 @@
 -- Conflicts and races.
 use Rattle.std.specs.Prelude.{ℕ, ◌≡◌, ◌≢◌, ◌<◌, ◌≤◌, ◌⊎◌, List, Some, IsTrue}
 use Rattle.journal.specs.declared.event.Event.{Event}
-use Rattle.journal.specs.Events.{At, address_of, is_store}
+use Rattle.journal.specs.Events.{EventAt, event_address, event_stores}
 use Rattle.journal.specs.HappensBeforeEdges.{HappensBefore}
 
 -- one address, and a store at least on one side
 pub record Conflict (e f : Event) : Type 0 where
   pub address : ℕ
-  pub first : address_of e.kind ≡ Some address
-  pub second : address_of f.kind ≡ Some address
-  pub stores : IsTrue (is_store e.kind) ⊎ IsTrue (is_store f.kind)
+  pub first : event_address e.kind ≡ Some address
+  pub second : event_address f.kind ≡ Some address
+  pub stores : IsTrue (event_stores e.kind) ⊎ IsTrue (event_stores f.kind)
 
 -- two accesses that conflict, by two processors, the first of which does not happen before the second
 pub record Race (j : List Event) (i k : ℕ) : Type 0 where
   pub before : i < k
   pub first : Event
   pub second : Event
-  pub first_at : At j i first
-  pub second_at : At j k second
+  pub first_at : EventAt j i first
+  pub second_at : EventAt j k second
   pub apart : first.processor ≢ second.processor
   pub conflict : Conflict first second
   pub unordered : ¬ HappensBefore j i k

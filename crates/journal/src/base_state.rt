@@ -1,9 +1,9 @@
 //! What a journal keeps of the events that were cut off.
 ghost use Rattle.std.specs.Prelude.{◌≡◌, ◌+◌, ◌*◌, ◌^◌, ◌<◌, ◌≤◌, [], IfOk, OnOk, length, vec_len};
 ghost use Rattle.base.specs.Prelude.{most_cut, wrote};
-ghost use Rattle.journal.specs.Prelude.{flat_write, AddressInRange, AddressesInRange, messages_of, traffic_records_of};
-ghost use Rattle.journal.specs.Prelude.{traffic_words_fetched, no_base, IsBaseAfter, kept_base_of, AreCostsKept, IsKeptBaseState, kept_hold_released};
-ghost use Rattle.journal.specs.Prelude.{kept_holders_after, kept_flags_after, IsKeptAfter};
+ghost use Rattle.journal.specs.Prelude.{replay_memory_write, EventAddressInRange, EventAddressesInRange, traffic_messages_of, traffic_records_of};
+ghost use Rattle.journal.specs.Prelude.{traffic_words_fetched, no_base, IsEpisodeBaseAfter, base_of_kept_state, AreKeptBaseStateCosts, IsKeptBaseState, kept_base_state_released};
+ghost use Rattle.journal.specs.Prelude.{kept_state_holders_after, kept_state_flags_after, IsKeptBaseStateAfter};
 
 use crate::event::{Event, Kind};
 use crate::traffic::{Traffic, event_traffic};
@@ -12,7 +12,7 @@ use std::alloc::{AllocError, Global};
 /// What is kept of the events that were cut off: how many there were, the memory after them, who holds
 /// which lock (a processor and a lock), which flags are set, and what they cost.
 #[derive(Drop)]
-pub(crate) struct Kept {
+pub(crate) struct KeptBaseState {
     pub(crate) cut: u64,
     pub(crate) memory: Vec<u32>,
     holders: Vec<(usize, usize)>,
@@ -22,8 +22,8 @@ pub(crate) struct Kept {
 
 /// Writes a store's word.
 fn store(memory: &mut [u32], kind: Kind)
-    requires { AddressInRange (length memory.old) kind }
-    ensures { memory.new ≡ wrote memory.old (flat_write kind) }
+    requires { EventAddressInRange (length memory.old) kind }
+    ensures { memory.new ≡ wrote memory.old (replay_memory_write kind) }
 {
     match kind {
         Kind::Store(address, value) => memory[address] = value,
@@ -33,7 +33,7 @@ fn store(memory: &mut [u32], kind: Kind)
 
 /// Takes the processor's hold of the lock out.
 fn let_go(holders: &mut Vec<(usize, usize)>, processor: usize, lock: usize)
-    ensures { holders.new.items ≡ kept_hold_released holders.old.items processor lock }
+    ensures { holders.new.items ≡ kept_base_state_released holders.old.items processor lock }
 {
     holders.retain(|held| !(held.0 == processor && held.1 == lock));
 }
@@ -41,7 +41,7 @@ fn let_go(holders: &mut Vec<(usize, usize)>, processor: usize, lock: usize)
 /// Takes note of who acquires or releases a lock. The only error is running out of memory.
 fn hold(holders: &mut Vec<(usize, usize)>, event: Event) -> Result<(), AllocError>
     ensures { OnOk result (holders.new.items
-        ≡ kept_holders_after holders.old.items event.processor event.kind) }
+        ≡ kept_state_holders_after holders.old.items event.processor event.kind) }
 {
     match event.kind {
         Kind::Acquire(lock) => holders.push((event.processor, lock))?,
@@ -53,7 +53,7 @@ fn hold(holders: &mut Vec<(usize, usize)>, event: Event) -> Result<(), AllocErro
 
 /// Takes note of a flag that is set. The only error is running out of memory.
 fn set(flags: &mut Vec<usize>, kind: Kind) -> Result<(), AllocError>
-    ensures { OnOk result (flags.new.items ≡ kept_flags_after flags.old.items kind) }
+    ensures { OnOk result (flags.new.items ≡ kept_state_flags_after flags.old.items kind) }
 {
     match kind {
         Kind::Set(flag) => {
@@ -66,13 +66,13 @@ fn set(flags: &mut Vec<usize>, kind: Kind) -> Result<(), AllocError>
     Ok(())
 }
 
-impl Kept {
+impl KeptBaseState {
     /// The base while nothing is cut off. The only error is running out of memory.
-    pub(crate) fn new(alloc: Global, addresses: usize) -> Result<Kept, AllocError>
-        ensures base { IfOk result (λ k. kept_base_of k ≡ no_base addresses) }
+    pub(crate) fn new(alloc: Global, addresses: usize) -> Result<KeptBaseState, AllocError>
+        ensures base { IfOk result (λ k. base_of_kept_state k ≡ no_base addresses) }
         ensures kept { IfOk result (λ k. IsKeptBaseState addresses k) }
     {
-        Ok(Kept {
+        Ok(KeptBaseState {
             cut: 0,
             memory: vec![in alloc; 0u32; addresses]?,
             holders: Vec::new(alloc),
@@ -82,11 +82,11 @@ impl Kept {
     }
 
     /// The same in memory of its own. The only error is running out of memory.
-    pub(crate) fn copy(&self) -> Result<Kept, AllocError>
-        ensures { IfOk result (λ k. kept_base_of k ≡ kept_base_of self.now) }
+    pub(crate) fn copy(&self) -> Result<KeptBaseState, AllocError>
+        ensures { IfOk result (λ k. base_of_kept_state k ≡ base_of_kept_state self.now) }
     {
         let alloc = *self.memory.allocator();
-        Ok(Kept {
+        Ok(KeptBaseState {
             cut: self.cut,
             memory: Vec::from_slice(alloc, &self.memory)?,
             holders: Vec::from_slice(alloc, &self.holders)?,
@@ -98,10 +98,10 @@ impl Kept {
     /// Takes note of one more event. The only error is running out of memory.
     fn note(&mut self, event: Event) -> Result<(), AllocError>
         requires few { self.old.cut < most_cut }
-        requires spent { AreCostsKept self.old.cut self.old.spent }
-        requires address { AddressInRange (length self.old.memory.items) event.kind }
-        ensures after { OnOk result (IsKeptAfter self.old event self.new) }
-        ensures spent { OnOk result (AreCostsKept self.new.cut self.new.spent) }
+        requires spent { AreKeptBaseStateCosts self.old.cut self.old.spent }
+        requires address { EventAddressInRange (length self.old.memory.items) event.kind }
+        ensures after { OnOk result (IsKeptBaseStateAfter self.old event self.new) }
+        ensures spent { OnOk result (AreKeptBaseStateCosts self.new.cut self.new.spent) }
     {
         hold(&mut self.holders, event)?;
         set(&mut self.flags, event.kind)?;
@@ -115,11 +115,11 @@ impl Kept {
     }
 
     /// What is kept after these events too. The only error is running out of memory.
-    pub(crate) fn after(&self, events: &[Event]) -> Result<Kept, AllocError>
+    pub(crate) fn after(&self, events: &[Event]) -> Result<KeptBaseState, AllocError>
         requires few { self.now.cut + length events.now ≤ most_cut }
-        requires spent { AreCostsKept self.now.cut self.now.spent }
-        requires addresses { AddressesInRange (length self.now.memory.items) events.now }
-        ensures after { IfOk result (λ k. IsBaseAfter (kept_base_of self.now) events.now (kept_base_of k)) }
+        requires spent { AreKeptBaseStateCosts self.now.cut self.now.spent }
+        requires addresses { EventAddressesInRange (length self.now.memory.items) events.now }
+        ensures after { IfOk result (λ k. IsEpisodeBaseAfter (base_of_kept_state self.now) events.now (base_of_kept_state k)) }
         ensures kept { IfOk result (λ k. IsKeptBaseState (length self.now.memory.items) k) }
     {
         let mut kept = self.copy()?;

@@ -3,7 +3,7 @@ ghost use Rattle.std.specs.Prelude.{◌≡◌, ℕ, ◌+◌, ◌<◌, ◌≤◌,
 ghost use Rattle.std.specs.Prelude.{length, slice_index, slice_index_or, vec_len};
 ghost use Rattle.std.specs.VecDeque.{deque_len};
 ghost use Rattle.base.specs.Prelude.{most_processors};
-ghost use Rattle.journal.specs.Prelude.{entry, map_entry, EntryJoinedAt};
+ghost use Rattle.journal.specs.Prelude.{entry, clock_entry_in_map, ClockEntryJoinedAt};
 
 use base::MOST_PROCESSORS;
 use std::alloc::{AllocError, Global};
@@ -13,7 +13,7 @@ use std::collections::{BTreeMap, VecDeque};
 pub type Clock = [u32; MOST_PROCESSORS];
 
 /// As many timestamps, all zeros. The only error is running out of memory.
-pub(crate) fn zeros(alloc: Global, count: usize) -> Result<Vec<Clock>, AllocError>
+pub(crate) fn zero_clocks(alloc: Global, count: usize) -> Result<Vec<Clock>, AllocError>
     ensures long { IfOk result (λ v. vec_len v ≡ count) }
     ensures zeros { IfOk result (λ v. (n q : ℕ) → entry v.items n q ≡ 0) }
 {
@@ -57,18 +57,18 @@ pub(crate) fn others_are_within_clock(clock: &Clock, other: &Clock, processor: u
 
 /// The timestamp that is kept under this number, zeros if there is none.
 pub(crate) fn clock_at(clocks: &BTreeMap<usize, Clock>, number: usize) -> Clock
-    ensures { (q : ℕ) → slice_index result q ≡ map_entry clocks.now number q }
+    ensures { (q : ℕ) → slice_index result q ≡ clock_entry_in_map clocks.now number q }
 {
     clocks.get(&number).copied().unwrap_or([0; MOST_PROCESSORS])
 }
 
 /// Joins the timestamp into that which is kept under this number.
-pub(crate) fn join_at(
+pub(crate) fn join_clock_at(
     clocks: &mut BTreeMap<usize, Clock>,
     number: usize,
     clock: &Clock,
 ) -> Result<(), AllocError>
-    ensures { OnOk result (EntryJoinedAt (map_entry clocks.old) (map_entry clocks.new) number
+    ensures { OnOk result (ClockEntryJoinedAt (clock_entry_in_map clocks.old) (clock_entry_in_map clocks.new) number
         (slice_index clock.now)) }
 {
     let mut kept = clock_at(clocks, number);
@@ -79,7 +79,7 @@ pub(crate) fn join_at(
 
 /// Joins the timestamp at this place of the queue into another one; past its end there is none.
 #[inline(always)]
-pub(crate) fn join_from(clock: &mut Clock, clocks: &VecDeque<Clock>, place: usize)
+pub(crate) fn join_clock_from(clock: &mut Clock, clocks: &VecDeque<Clock>, place: usize)
     ensures { (q : ℕ) → slice_index clock.new q
         ≡ max (slice_index clock.old q) (entry clocks.now.items place q) }
 {
@@ -103,12 +103,12 @@ fn grow_clock_in(clocks: &mut VecDeque<Clock>, place: usize) -> Result<(), Alloc
 
 /// Joins the timestamp into that at this place of the queue, which grows as far as it has to.
 #[inline(always)]
-pub(crate) fn join_in(
+pub(crate) fn join_clock_in(
     clocks: &mut VecDeque<Clock>,
     place: usize,
     clock: &Clock,
 ) -> Result<(), AllocError>
-    ensures { OnOk result (EntryJoinedAt (entry clocks.old.items) (entry clocks.new.items) place
+    ensures { OnOk result (ClockEntryJoinedAt (entry clocks.old.items) (entry clocks.new.items) place
         (slice_index clock.now)) }
 {
     if clocks.len() <= place {

@@ -2,10 +2,10 @@
 ghost use Rattle.std.specs.Prelude.{◌≡◌, ◌↔◌, ℕ, ◌+◌, ◌<◌, ◌≤◌, ◌^◌, ◌==◌, ◌&&◌, [], IsTrue, EachIndex, MatchOption};
 ghost use Rattle.std.specs.Prelude.{cond, length, slice_index, take};
 ghost use Rattle.base.specs.Prelude.{most_held, most_processors};
-ghost use Rattle.journal.specs.Prelude.{is_arrive, ProcessorsInRange, AreEpisodes};
+ghost use Rattle.journal.specs.Prelude.{event_arrives, EventProcessorsInRange, AreCutEpisodes};
 
 use crate::event::Event;
-use crate::kinds::arrives;
+use crate::event_kinds::event_kind_arrives;
 use base::MOST_PROCESSORS;
 
 /// The episodes of the barrier in a journal's events.
@@ -19,7 +19,7 @@ pub(crate) struct Episodes {
 }
 
 /// Whether each of the counts reaches this number.
-fn all_reach_episode(counts: &[u32], number: u32) -> bool
+fn all_arrived_at_episode(counts: &[u32], number: u32) -> bool
     ensures { IsTrue result ↔ EachIndex counts.now (λ k. number ≤ slice_index counts.now k) }
 {
     counts.iter().all(|count| *count >= number)
@@ -28,28 +28,28 @@ fn all_reach_episode(counts: &[u32], number: u32) -> bool
 /// Counts the event if it is an arrival, and says whether it is the last one of its episode: whether
 /// every processor has arrived as often as the one that arrives.
 #[inline]
-fn ends_episode(arrivals: &mut [u32; MOST_PROCESSORS], processors: usize, event: Event) -> bool
+fn completes_episode(arrivals: &mut [u32; MOST_PROCESSORS], processors: usize, event: Event) -> bool
     requires few { processors ≤ most_processors }
     requires processor { event.processor < processors }
     requires room { slice_index arrivals.old event.processor < 2 ^ 22 }
     ensures counts { (q : ℕ) → slice_index arrivals.new q
-        ≡ slice_index arrivals.old q + cond ((event.processor == q) && is_arrive event.kind) 1 0 }
-    ensures ends { IsTrue result ↔ (IsTrue (is_arrive event.kind)
+        ≡ slice_index arrivals.old q + cond ((event.processor == q) && event_arrives event.kind) 1 0 }
+    ensures ends { IsTrue result ↔ (IsTrue (event_arrives event.kind)
         × ((q : ℕ) → q < processors → slice_index arrivals.new event.processor
         ≤ slice_index arrivals.new q)) }
 {
-    if !arrives(event.kind) {
+    if !event_kind_arrives(event.kind) {
         return false;
     }
     arrivals[event.processor] += 1;
     let mine = arrivals[event.processor];
-    all_reach_episode(&arrivals[..processors], mine)
+    all_arrived_at_episode(&arrivals[..processors], mine)
 }
 
 impl Episodes {
     /// Before the first event.
     pub(crate) fn new() -> Episodes
-        ensures { (processors : ℕ) → AreEpisodes processors [] result }
+        ensures { (processors : ℕ) → AreCutEpisodes processors [] result }
     {
         Episodes {
             arrivals: [0; MOST_PROCESSORS],
@@ -63,11 +63,11 @@ impl Episodes {
         requires place { place < length events.now }
         requires few { length events.now ≤ most_held }
         requires few_processors { processors ≤ most_processors }
-        requires processors { ProcessorsInRange processors events.now }
-        requires so_far { AreEpisodes processors (take place events.now) self.old }
-        ensures { AreEpisodes processors (take (place + 1) events.now) self.new }
+        requires processors { EventProcessorsInRange processors events.now }
+        requires so_far { AreCutEpisodes processors (take place events.now) self.old }
+        ensures { AreCutEpisodes processors (take (place + 1) events.now) self.new }
     {
-        if ends_episode(&mut self.arrivals, processors, events[place]) {
+        if completes_episode(&mut self.arrivals, processors, events[place]) {
             self.last = Some(place + 1);
         }
     }
@@ -76,8 +76,8 @@ impl Episodes {
     pub(crate) fn of(processors: usize, events: &[Event]) -> Episodes
         requires few { length events.now ≤ most_held }
         requires few_processors { processors ≤ most_processors }
-        requires processors { ProcessorsInRange processors events.now }
-        ensures { AreEpisodes processors events.now result }
+        requires processors { EventProcessorsInRange processors events.now }
+        ensures { AreCutEpisodes processors events.now result }
     {
         let mut episodes = Episodes::new();
         for place in 0..events.len() {

@@ -3,16 +3,16 @@ ghost use Rattle.std.specs.Prelude.{drop, vec_len, vec_capacity, ◌+◌, ◌≡
 ghost use Rattle.std.specs.Prelude.{IfOk, IfErr, OnOk, OnErr, IfSome, IsSome, IsTrue, MatchOption, length, replicate};
 ghost use Rattle.std.specs.Prelude.{◌==◌, cond, max, option_copied, slice_get, take};
 ghost use Rattle.base.specs.Prelude.{most_held, most_processors, most_cut};
-ghost use Rattle.journal.specs.Prelude.{AddressInRange, AddressesInRange, new_log, ExplainedFrom, Replays};
-ghost use Rattle.journal.specs.Prelude.{memory_after, RaceFreeFrom, IsFirstRaceFrom, WasCut, IsCutFault, messages};
-ghost use Rattle.journal.specs.Prelude.{records, words, IsOpening, IsEpisodeCut, NoEpisodeCut, IsKeptBaseState, kept_base_of};
-ghost use Rattle.journal.specs.Prelude.{IsJournalHistory, arrivals_in_front};
+ghost use Rattle.journal.specs.Prelude.{EventAddressInRange, EventAddressesInRange, new_log, ExplainedFromBase, Replays};
+ghost use Rattle.journal.specs.Prelude.{memory_after, RaceFreeFromBase, IsFirstRaceFromBase, JournalWasCut, IsJournalCutRefusal, messages};
+ghost use Rattle.journal.specs.Prelude.{records, words, IsOpening, IsEpisodeBaseFront, NoEpisodeBaseFront, IsKeptBaseState, base_of_kept_state};
+ghost use Rattle.journal.specs.Prelude.{IsJournalHistory, journal_history_arrivals};
 
-use crate::base_state::Kept;
+use crate::base_state::KeptBaseState;
 use crate::cut::CutFault;
 use crate::episodes::Episodes;
 use crate::event::{Event, Kind};
-use crate::race::first_race_of;
+use crate::race_epochs::first_race_of;
 use crate::replay::replay_of;
 use crate::traffic::{Traffic, traffic_after};
 use base::MOST_CUT;
@@ -30,7 +30,7 @@ pub struct Journal {
     /// An arrival of each processor, which stands for what was cut off, and then the events.
     events: Vec<Event>,
     room: usize,
-    kept: Kept,
+    kept: KeptBaseState,
     /// What of the barrier stands behind the arrivals that stand for what was cut off.
     episodes: Episodes,
     /// The first race of the part that a cut was to cut off. A longer part has the same one.
@@ -42,15 +42,15 @@ impl Model for Journal {
 
     ghost Value = { Log };
 
-    ghost use Rattle.journal.specs.JournalInvariant.{log_of, JournalInvariant};
+    ghost use Rattle.journal.specs.JournalInvariant.{journal_invariant_log, JournalInvariant};
 
-    ghost view = { log_of };
+    ghost view = { journal_invariant_log };
 
     ghost invariant = { JournalInvariant };
 }
 
 /// An arrival of each processor. The only error is running out of memory.
-fn opening(alloc: Global, processors: usize) -> Result<Vec<Event>, AllocError>
+fn journal_opening(alloc: Global, processors: usize) -> Result<Vec<Event>, AllocError>
     ensures { IfOk result (λ v. IsOpening processors v.items) }
 {
     let mut events = Vec::new(alloc);
@@ -62,7 +62,7 @@ fn opening(alloc: Global, processors: usize) -> Result<Vec<Event>, AllocError>
 }
 
 /// Takes `count` events out from this place on.
-fn take_out(events: &mut Vec<Event>, place: usize, count: usize)
+fn remove_from_journal(events: &mut Vec<Event>, place: usize, count: usize)
     requires { place + count ≤ vec_len events.old }
     ensures items { events.new.items ≡ take place events.old.items
         ++ drop (place + count) events.old.items }
@@ -86,9 +86,9 @@ impl Journal {
         Ok(Journal {
             processors,
             addresses,
-            events: opening(alloc, processors)?,
+            events: journal_opening(alloc, processors)?,
             room: 0,
-            kept: Kept::new(alloc, addresses)?,
+            kept: KeptBaseState::new(alloc, addresses)?,
             episodes: Episodes::new(),
             race: None,
         })
@@ -120,7 +120,7 @@ impl Journal {
     /// The events in order. Their addresses are in range.
     pub fn events(&self) -> &[Event]
         ensures value { result.now ≡ self.now.events }
-        ensures in_range { AddressesInRange self.now.addresses result.now }
+        ensures in_range { EventAddressesInRange self.now.addresses result.now }
     {
         let events = &self.events;
         &events[self.processors..]
@@ -143,7 +143,7 @@ impl Journal {
     /// processor had arrived and none gone on. It takes no memory.
     pub fn history(&self) -> &[Event]
         ensures value { IsJournalHistory self.now result.now }
-        ensures few { arrivals_in_front self.now ≤ most_processors }
+        ensures few { journal_history_arrivals self.now ≤ most_processors }
     {
         let first = self.first();
         let events = &self.events;
@@ -187,7 +187,7 @@ impl Journal {
         requires room { 0 < self.old.room }
         requires limit { length self.old.events < most_held }
         requires processor { event.processor < self.old.processors }
-        requires address { AddressInRange self.old.addresses event.kind }
+        requires address { EventAddressInRange self.old.addresses event.kind }
         ensures { self.new ≡ record self.old
             { events = self.old.events ++ event ∷ []; room = self.old.room - 1 } }
     {
@@ -236,8 +236,8 @@ impl Journal {
         ensures replays { IfOk result (λ o. IsSome o ↔ Replays self.now.base.memory self.now.events) }
         ensures memory { IfOk result (λ o. IfSome o
             (λ v. v.items ≡ memory_after self.now.base.memory self.now.events)) }
-        ensures flat { IfOk result (λ o. ExplainedFrom self.now.base self.now.events
-            → RaceFreeFrom self.now.base self.now.events → IsSome o) }
+        ensures flat { IfOk result (λ o. ExplainedFromBase self.now.base self.now.events
+            → RaceFreeFromBase self.now.base self.now.events → IsSome o) }
     {
         replay_of(*self.events.allocator(), self.base(), self.events())
     }
@@ -246,9 +246,9 @@ impl Journal {
     fn race_before(&self, count: usize) -> Result<Option<(usize, usize)>, AllocError>
         requires { count ≤ length self.now.events }
         ensures race { IfOk result (λ o. MatchOption o
-            (RaceFreeFrom self.now.base (take count self.now.events))
-            (λ r. IsFirstRaceFrom self.now.base (take count self.now.events) r.0 r.1)) }
-        ensures in_range { AddressesInRange (length self.now.base.memory) self.now.events }
+            (RaceFreeFromBase self.now.base (take count self.now.events))
+            (λ r. IsFirstRaceFromBase self.now.base (take count self.now.events) r.0 r.1)) }
+        ensures in_range { EventAddressesInRange (length self.now.base.memory) self.now.events }
     {
         let first = self.first();
         let arrived = self.processors - first;
@@ -270,10 +270,10 @@ impl Journal {
     /// Two accesses of one address race if one of them is a store, two processors make them, and
     /// neither happens before the other (Adve and Hill 1990).
     pub fn first_race(&self) -> Result<Option<(usize, usize)>, AllocError>
-        ensures first { IfOk result (λ o. MatchOption o (RaceFreeFrom self.now.base self.now.events)
-            (λ r. IsFirstRaceFrom self.now.base self.now.events r.0 r.1)) }
+        ensures first { IfOk result (λ o. MatchOption o (RaceFreeFromBase self.now.base self.now.events)
+            (λ r. IsFirstRaceFromBase self.now.base self.now.events r.0 r.1)) }
         ensures flat { IfOk result (λ o. IfSome o
-            (λ r. ExplainedFrom self.now.base self.now.events
+            (λ r. ExplainedFromBase self.now.base self.now.events
             → Replays self.now.base.memory (take r.1 self.now.events))) }
     {
         self.race_before(self.len())
@@ -291,8 +291,8 @@ impl Journal {
 
     /// How many events a cut takes: None if no episode is complete. It takes no memory.
     fn part(&self) -> Option<usize>
-        ensures place { MatchOption result (NoEpisodeCut self.now.processors self.now.events)
-            (λ n. IsEpisodeCut self.now.processors self.now.events n) }
+        ensures place { MatchOption result (NoEpisodeBaseFront self.now.processors self.now.events)
+            (λ n. IsEpisodeBaseFront self.now.processors self.now.events n) }
         ensures few { IfSome result (λ n. n ≤ most_held) }
     {
         self.episodes.last
@@ -300,11 +300,11 @@ impl Journal {
 
     /// The first race of the part that a cut takes, which is remembered.
     fn race_of_part(&mut self, count: usize) -> Result<Option<(usize, usize)>, AllocError>
-        requires { IsEpisodeCut self.old.processors self.old.events count }
+        requires { IsEpisodeBaseFront self.old.processors self.old.events count }
         ensures same { self.new ≡ self.old }
         ensures race { IfOk result (λ o. MatchOption o
-            (RaceFreeFrom self.new.base (take count self.new.events))
-            (λ r. IsFirstRaceFrom self.new.base (take count self.new.events) r.0 r.1)) }
+            (RaceFreeFromBase self.new.base (take count self.new.events))
+            (λ r. IsFirstRaceFromBase self.new.base (take count self.new.events) r.0 r.1)) }
     {
         if let Some(race) = self.race {
             return Ok(Some(race));
@@ -315,12 +315,12 @@ impl Journal {
     }
 
     /// Takes the first events off, of which this is kept.
-    fn take_off(&mut self, taken: usize, kept: Kept)
+    fn take_off(&mut self, taken: usize, kept: KeptBaseState)
         requires taken { taken ≤ length self.old.events }
         requires kept { IsKeptBaseState self.old.addresses kept }
-        ensures { self.new ≡ record self.old { events = drop taken self.old.events; base = kept_base_of kept } }
+        ensures { self.new ≡ record self.old { events = drop taken self.old.events; base = base_of_kept_state kept } }
     {
-        take_out(&mut self.events, self.processors, taken);
+        remove_from_journal(&mut self.events, self.processors, taken);
         self.kept = kept;
         self.episodes = Episodes::of(self.processors, &self.events[self.processors..]);
         self.race = None;
@@ -335,9 +335,9 @@ impl Journal {
     /// and once for what is kept; a lock's event looks through the locks that are held. `NoEpisode` and
     /// `BaseFull` take constant time, and so does `Racy` from the second time on.
     pub fn cut(&mut self) -> Result<(), CutFault>
-        ensures ok { OnOk result (WasCut self.old self.new) }
+        ensures ok { OnOk result (JournalWasCut self.old self.new) }
         ensures err { OnErr result (self.new ≡ self.old) }
-        ensures fault { IfErr result (IsCutFault self.old) }
+        ensures fault { IfErr result (IsJournalCutRefusal self.old) }
     {
         let taken = self.part().ok_or(CutFault::NoEpisode)?;
         if self.cut_events() + taken as u64 > MOST_CUT {

@@ -7,37 +7,38 @@
 //!
 //! **What is proved.** `replay`, `first_race` and `traffic` answer exactly what FlatMemory, Races and
 //! Traffic define, and up to its first race an explained journal replays. Lemmas for the crates above lie in proofs/, a
-//! folder a topic. `Clocks` has the timestamps of a journal that is taken an event at a time (`AreClocks`).
+//! folder a topic. `EventClocks` has the timestamps of a journal that is taken an event at a time (`AreClocks`).
 //!
 //! **What is only tested** (in `test_memory`): that memory isn't refused needlessly, and that a journal of 2^20 events is
 //! checked in a test's time.
 #![tactic(auto)]
 
+mod base_laws;
 mod base_state;
 mod clock;
-mod clocks;
-mod closing;
+mod closing_and_awaited;
 mod cut;
 mod episodes;
 mod event;
+mod event_clocks;
+mod event_kinds;
 mod journal;
-mod kinds;
-mod laws;
-mod numbered;
-mod race;
+mod numbered_clocks;
+mod race_epochs;
 mod replay;
 mod traffic;
 
+pub use base_laws::{
+    copy_base_law, cut_twice_base_law, deadlock_law, flat_base_law, history_base_law, no_base_law,
+    same_base_law, well_formed_base_law,
+};
 pub use clock::Clock;
-pub use clocks::Clocks;
-pub use closing::{Awaited, Closing};
+pub use closing_and_awaited::{Awaited, Closing};
 pub use cut::CutFault;
 pub use event::{Event, Kind};
+pub use event_clocks::EventClocks;
 pub use journal::Journal;
-pub use laws::{
-    copy_law, cut_law, deadlock_law, flat_law, history_law, same_law, uncut_law, well_formed_law,
-};
-pub use race::first_race_of;
+pub use race_epochs::first_race_of;
 pub use traffic::{Traffic, traffic_of};
 
 // Its limits, so that who reads a journal need not name the crate below.

@@ -1,17 +1,17 @@
 //! Replay on one flat memory.
 ghost use Rattle.std.specs.Prelude.{◌≡◌, ◌↔◌, IfOk, IfSome, IsSome, IsTrue, length};
 ghost use Rattle.base.specs.Prelude.{wrote};
-ghost use Rattle.journal.specs.Prelude.{Replays, memory_after, flat_write, AnswersFlatWord, AddressInRange};
-ghost use Rattle.journal.specs.Prelude.{AddressesInRange};
+ghost use Rattle.journal.specs.Prelude.{Replays, memory_after, replay_memory_write, AnswersReplayMemory, EventAddressInRange};
+ghost use Rattle.journal.specs.Prelude.{EventAddressesInRange};
 
 use crate::event::{Event, Kind};
 use std::alloc::{AllocError, Global};
 
 /// Does an event to the memory, and says whether a load's reply is its word.
-fn do_event(memory: &mut [u32], kind: Kind) -> bool
-    requires { AddressInRange (length memory.old) kind }
-    ensures memory { memory.new ≡ wrote memory.old (flat_write kind) }
-    ensures answers { IsTrue result ↔ AnswersFlatWord memory.old kind }
+fn replay_event(memory: &mut [u32], kind: Kind) -> bool
+    requires { EventAddressInRange (length memory.old) kind }
+    ensures memory { memory.new ≡ wrote memory.old (replay_memory_write kind) }
+    ensures answers { IsTrue result ↔ AnswersReplayMemory memory.old kind }
 {
     match kind {
         Kind::Store(address, value) => {
@@ -25,12 +25,12 @@ fn do_event(memory: &mut [u32], kind: Kind) -> bool
 
 /// Does the events to the memory in their order, up to one whose reply isn't its word.
 fn replay_events(memory: &mut [u32], events: &[Event]) -> bool
-    requires { AddressesInRange (length memory.old) events.now }
+    requires { EventAddressesInRange (length memory.old) events.now }
     ensures replays { IsTrue result ↔ Replays memory.old events.now }
     ensures memory { IsTrue result → memory.new ≡ memory_after memory.old events.now }
 {
     for event in events {
-        if !do_event(memory, event.kind) {
+        if !replay_event(memory, event.kind) {
             return false;
         }
     }
@@ -44,7 +44,7 @@ pub(crate) fn replay_of(
     base: &[u32],
     events: &[Event],
 ) -> Result<Option<Vec<u32>>, AllocError>
-    requires { AddressesInRange (length base.now) events.now }
+    requires { EventAddressesInRange (length base.now) events.now }
     ensures replays { IfOk result (λ o. IsSome o ↔ Replays base.now events.now) }
     ensures memory { IfOk result (λ o. IfSome o (λ v. v.items ≡ memory_after base.now events.now)) }
 {

@@ -1,7 +1,7 @@
 //! What a journal's events cost in messages, records and words.
 ghost use Rattle.std.specs.Prelude.{◌≡◌, ◌+◌, ◌^◌, ◌<◌, ◌≤◌, length};
 ghost use Rattle.base.specs.Prelude.{most_cut, most_held};
-ghost use Rattle.journal.specs.Prelude.{AreCostsKept, messages, records, words, messages_of, traffic_records_of, traffic_words_fetched};
+ghost use Rattle.journal.specs.Prelude.{AreKeptBaseStateCosts, messages, records, words, traffic_messages_of, traffic_records_of, traffic_words_fetched};
 
 use crate::event::{Event, Kind};
 
@@ -18,7 +18,7 @@ pub struct Traffic {
 
 /// What one event costs.
 pub(crate) fn event_traffic(kind: Kind) -> Traffic
-    ensures messages { result.messages ≡ messages_of kind }
+    ensures messages { result.messages ≡ traffic_messages_of kind }
     ensures records { result.records ≡ traffic_records_of kind }
     ensures words { result.words ≡ traffic_words_fetched kind }
     ensures few { (result.messages < 2 ^ 33) × (result.records < 2 ^ 33) × (result.words < 2 ^ 33) }
@@ -46,7 +46,7 @@ pub(crate) fn event_traffic(kind: Kind) -> Traffic
 /// The traffic of the events cut off and of these, which are left.
 pub(crate) fn traffic_after(spent: Traffic, events: &[Event]) -> Traffic
     requires few { length events.now ≤ most_held }
-    requires spent { AreCostsKept most_cut spent }
+    requires spent { AreKeptBaseStateCosts most_cut spent }
     ensures messages { result.messages ≡ spent.messages + messages events.now }
     ensures records { result.records ≡ spent.records + records events.now }
     ensures words { result.words ≡ spent.words + words events.now }
@@ -66,7 +66,7 @@ pub fn traffic_of(events: &[Event]) -> Traffic
     ensures messages { result.messages ≡ messages events.now }
     ensures records { result.records ≡ records events.now }
     ensures words { result.words ≡ words events.now }
-    ensures few { AreCostsKept (length events.now) result }
+    ensures few { AreKeptBaseStateCosts (length events.now) result }
 {
     let mut traffic = Traffic::default();
     for event in events {

@@ -9,27 +9,27 @@ use Rattle.journal.specs.declared.event.Kind.{Kind}
 use Rattle.journal.specs.declared.event.Kind.TheVariants.{Ask}
 use Rattle.journal.specs.DidEvent.{event}
 use Rattle.journal.specs.WellFormed.{LastIs}
-use Rattle.journal.proofs.Order.CountedAndNumbered.{numbered_at_within}
-use Rattle.journal.proofs.Journals.WellFormedLast.{last_unique}
-use Rattle.judge.specs.declared.front.LastEvent.{LastEvent}
-use Rattle.judge.specs.FrontTells.{TellsFirstAsk, TellsLastOf, TellsNobodyAsks}
+use Rattle.journal.proofs.Order.EventPlacesAndCounts.{event_place_inside}
+use Rattle.journal.proofs.Journals.WellFormedStays.{well_formed_stays_last_unique}
+use Rattle.judge.specs.declared.frontier.LastEvent.{LastEvent}
+use Rattle.judge.specs.FrontTells.{FrontTellsFirstAsk, FrontTellsLastOf, FrontTellsNobodyAsks}
 
 -- q's last event asks for l, at place i
-abbrev pub AsksAt : List (Option LastEvent) → ℕ → ℕ → ℕ → Type 0
-AsksAt last l q i = slice_index_or last q None ≡ Some (record { place = i; kind = Ask l })
+abbrev pub FrontAsksAt : List (Option LastEvent) → ℕ → ℕ → ℕ → Type 0
+FrontAsksAt last l q i = slice_index_or last q None ≡ Some (record { place = i; kind = Ask l })
 
 -- what is found so far is an ask at the limit, or nothing
-abbrev pub IsAskingFound : List (Option LastEvent) → ℕ → ℕ → Option (ℕ × ℕ) → ℕ → Type 0
-IsAskingFound last end l found limit =
-    MatchOption found (limit ≡ end) (λ (x : ℕ × ℕ). (x.1 ≡ limit) × AsksAt last l x.0 x.1)
+abbrev pub IsFrontAskingFound : List (Option LastEvent) → ℕ → ℕ → Option (ℕ × ℕ) → ℕ → Type 0
+IsFrontAskingFound last end l found limit =
+    MatchOption found (limit ≡ end) (λ (x : ℕ × ℕ). (x.1 ≡ limit) × FrontAsksAt last l x.0 x.1)
 
 -- the asks of the first n processors stand from the limit on
-abbrev pub AreAskingFrom : List (Option LastEvent) → ℕ → ℕ → ℕ → Type 0
-AreAskingFrom last l limit n = (q i : ℕ) → q < n → AsksAt last l q i → limit ≤ i
+abbrev pub AreFrontAskingFrom : List (Option LastEvent) → ℕ → ℕ → ℕ → Type 0
+AreFrontAskingFrom last l limit n = (q i : ℕ) → q < n → FrontAsksAt last l q i → limit ≤ i
 
 -- one processor more, whose ask stands before the limit
-pub front_asking_from_lower : (last : List (Option LastEvent)) (l limit n i : ℕ) → AsksAt last l n i → i < limit
-    → AreAskingFrom last l limit n → AreAskingFrom last l i (n + 1)
+pub front_asking_from_lower : (last : List (Option LastEvent)) (l limit n i : ℕ) → FrontAsksAt last l n i → i < limit
+    → AreFrontAskingFrom last l limit n → AreFrontAskingFrom last l i (n + 1)
 front_asking_from_lower last l limit n i asks lower from q k lt there = elim (cases_eq q n) [
   | inl is ↦
       (let one = same_Some _ _ (sym asks ∙ ap (λ m. slice_index_or last m None) (sym is) ∙ there) in
@@ -39,43 +39,43 @@ front_asking_from_lower last l limit n i asks lower from q k lt there = elim (ca
 ]
 
 -- or none does
-pub front_asking_from_same : (last : List (Option LastEvent)) (l limit n : ℕ) → ((i : ℕ) → AsksAt last l n i → limit ≤ i)
-    → AreAskingFrom last l limit n → AreAskingFrom last l limit (n + 1)
+pub front_asking_from_same : (last : List (Option LastEvent)) (l limit n : ℕ) → ((i : ℕ) → FrontAsksAt last l n i → limit ≤ i)
+    → AreFrontAskingFrom last l limit n → AreFrontAskingFrom last l limit (n + 1)
 front_asking_from_same last l limit n none from q k lt there = elim (cases_eq q n) [
   | inl is ↦ none k (ap (λ m. slice_index_or last m None) (sym is) ∙ there)
   | inr isnt ↦ from q k (omega arith) there
 ]
 
 -- what is kept of a processor's last event is that
-pub front_asking_last_kept : (j : List Event) (p i : ℕ) (a : Kind) (o : Option LastEvent) → TellsLastOf j p o → LastIs j p i a
+pub front_asking_last_kept : (j : List Event) (p i : ℕ) (a : Kind) (o : Option LastEvent) → FrontTellsLastOf j p o → LastIs j p i a
     → o ≡ Some (record { place = i; kind = a })
 front_asking_last_kept j p i a None none is = absurd (none i (event p a) is.does refl)
 front_asking_last_kept j p i a (Some x) last is =
-    let same = last_unique j p x.place i x.kind a last is in
+    let same = well_formed_stays_last_unique j p x.place i x.kind a last is in
     ap (λ (y : LastEvent). Some y) (subst (λ n. x ≡ record { place = n; kind = a }) same.0
     (subst (λ k. x ≡ record { place = x.place; kind = k }) same.1 refl))
 
 -- and stands within the list
-asks_within : (last : List (Option LastEvent)) (l q i : ℕ) → AsksAt last l q i → q < length last
-asks_within last l q i asks = elim (cases_lt q (length last)) [
+front_asking_within : (last : List (Option LastEvent)) (l q i : ℕ) → FrontAsksAt last l q i → q < length last
+front_asking_within last l q i asks = elim (cases_lt q (length last)) [
   | inl lt ↦ lt
   | inr le ↦ absurd (none-some _ (sym (get_or_past last q None le) ∙ asks))
 ]
 
 module _ (j : List Event) (last : List (Option LastEvent)) (l limit : ℕ)
-    (lasts : (p : ℕ) → TellsLastOf j p (slice_index_or last p None)) (from : AreAskingFrom last l limit 16)
+    (lasts : (p : ℕ) → FrontTellsLastOf j p (slice_index_or last p None)) (from : AreFrontAskingFrom last l limit 16)
     (long : length last ≡ 16) where
   front_asking_all_from : (q k : ℕ) → LastIs j q k (Ask l) → limit ≤ k
   front_asking_all_from q k is =
       let asks = front_asking_last_kept j q k (Ask l) (slice_index_or last q None) (lasts q) is in
-      let lt = asks_within last l q k asks in
+      let lt = front_asking_within last l q k asks in
       from q k (omega arith) asks
 
-  pub front_asking_first_found : (q : ℕ) → AsksAt last l q limit → TellsFirstAsk j l q limit
-  front_asking_first_found q asks = record { asks = subst (TellsLastOf j q) asks (lasts q); first = front_asking_all_from }
+  pub front_asking_first_found : (q : ℕ) → FrontAsksAt last l q limit → FrontTellsFirstAsk j l q limit
+  front_asking_first_found q asks = record { asks = subst (FrontTellsLastOf j q) asks (lasts q); first = front_asking_all_from }
 
-  pub front_asking_none_found : limit ≡ length j → TellsNobodyAsks j l
+  pub front_asking_none_found : limit ≡ length j → FrontTellsNobodyAsks j l
   front_asking_none_found end q k is =
       let le = front_asking_all_from q k is in
-      let within = numbered_at_within j k (event q (Ask l)) is.does in
+      let within = event_place_inside j k (event q (Ask l)) is.does in
       omega arith

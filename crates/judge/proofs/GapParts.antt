@@ -3,55 +3,55 @@ use Rattle.std.proofs.Common.{ℕ, ◌≡◌, ◌≢◌, ◌+◌, ◌<◌, ◌�
 use Rattle.std.proofs.lemmas.Bool.{cases_eq, cases_lt, lt-ltb, le-ltb}
 use Rattle.journal.specs.declared.event.Event.{Event}
 use Rattle.journal.specs.Sizes.{Sizes}
-use Rattle.journal.specs.InRange.{ProcessorsInRange}
+use Rattle.journal.specs.EventsInRange.{EventProcessorsInRange}
 use Rattle.journal.specs.Times.{IsTimeOf}
-use Rattle.journal.specs.PageImages.{HasImageCount, StoredInGapOfImage, GapCounts}
+use Rattle.journal.specs.PageImages.{HasPageImageCount, StoredInGapOfPageImage, GapCounts}
 use Rattle.journal.specs.declared.event.Kind.TheVariants.{Store}
 use Rattle.journal.specs.DidEvent.{event}
-use Rattle.journal.proofs.Missing.Counted.{count_of_same}
-use Rattle.judge.specs.Gaps.{GapStoresInPage, GapStoresWord, GapFetchedUpTo, GapCountsAmong}
-use Rattle.judge.specs.GapTally.{IsRowOfGapTally, is_gap_tally_between}
-use Rattle.judge.proofs.Counts.{count_none, count_join, count_map, count_some, count_zero, count_one}
-use Rattle.judge.proofs.GapTallyRows.{row_counts}
-use Rattle.judge.proofs.InGaps.{stored_is_in_gap, own_none_in_gap}
+use Rattle.journal.proofs.Missing.GapsCounted.{gaps_counted_same}
+use Rattle.judge.specs.FetchGaps.{FetchGapStoreInPage, FetchGapStoreOfWord, FetchGapBroughtUpTo, FetchGapAmountsAmong}
+use Rattle.judge.specs.GapTally.{AreGapTallyIntervals, is_gap_tally_between}
+use Rattle.judge.proofs.ValueCounts.{value_count_none, value_count_joined, value_count_map, value_count_some, value_count_zero, value_count_one}
+use Rattle.judge.proofs.TallyRows.{tally_row_counts}
+use Rattle.judge.proofs.GapEvents.{gap_event_between, gap_event_not_own}
 
 -- who stored in the gap
 abbrev pub GapPartWrites : Sizes → List Event → ℕ → ℕ → ℕ → Type 0
-GapPartWrites s j p n q = (k : ℕ) × (a : ℕ) × StoredInGapOfImage s j p n (q, k, a)
+GapPartWrites s j p n q = (k : ℕ) × (a : ℕ) × StoredInGapOfPageImage s j p n (q, k, a)
 
 -- in which interval
 abbrev pub GapPartRecords : Sizes → List Event → ℕ → ℕ → ℕ × ℕ → Type 0
-GapPartRecords s j p n x = (a : ℕ) × StoredInGapOfImage s j p n (x.0, x.1, a)
+GapPartRecords s j p n x = (a : ℕ) × StoredInGapOfPageImage s j p n (x.0, x.1, a)
 
 -- one's own stores count nothing
-pub gap_part_counts_own : (s : Sizes) (j : List Event) (p n q : ℕ) → q ≡ p → GapCountsAmong s j p n (λ r. r ≡ q) 0 0 0
+pub gap_part_counts_own : (s : Sizes) (j : List Event) (p n q : ℕ) → q ≡ p → FetchGapAmountsAmong s j p n (λ r. r ≡ q) 0 0 0
 gap_part_counts_own s j p n q mine = record {
-  writers_are = count_none (λ (r : ℕ). (r ≡ q) × GapPartWrites s j p n r) (λ r h. away r h.1.0 h.1.1 h.0 h.1.2);
-  records_are = count_none (λ (x : ℕ × ℕ). (x.0 ≡ q) × GapPartRecords s j p n x) (λ x h. away x.0 x.1 h.1.0 h.0 h.1.1);
-  words_are = count_none (λ (x : ℕ × ℕ × ℕ). (x.0 ≡ q) × StoredInGapOfImage s j p n x) (λ x h. away x.0 x.1 x.2 h.0 h.1);
+  writers_are = value_count_none (λ (r : ℕ). (r ≡ q) × GapPartWrites s j p n r) (λ r h. away r h.1.0 h.1.1 h.0 h.1.2);
+  records_are = value_count_none (λ (x : ℕ × ℕ). (x.0 ≡ q) × GapPartRecords s j p n x) (λ x h. away x.0 x.1 h.1.0 h.0 h.1.1);
+  words_are = value_count_none (λ (x : ℕ × ℕ × ℕ). (x.0 ≡ q) × StoredInGapOfPageImage s j p n x) (λ x h. away x.0 x.1 x.2 h.0 h.1);
 }
   where
-    away : (r k a : ℕ) → r ≡ q → StoredInGapOfImage s j p n (r, k, a) → ⊥
-    away r k a is g = own_none_in_gap s j p n k a (subst (λ z. StoredInGapOfImage s j p n (z, k, a)) (is ∙ mine) g)
+    away : (r k a : ℕ) → r ≡ q → StoredInGapOfPageImage s j p n (r, k, a) → ⊥
+    away r k a is g = gap_event_not_own s j p n k a (subst (λ z. StoredInGapOfPageImage s j p n (z, k, a)) (is ∙ mine) g)
 
 -- another's count what lies between the timestamps
-pub counts_part : {s : Sizes} {j : List Event} {p n q : ℕ} {m t : ℕ → ℕ} {intervals words : List ℕ} (w r d : ℕ) → q ≢ p → GapFetchedUpTo s j p n m → IsTimeOf j p t → IsRowOfGapTally (GapStoresInPage s j n q) (λ k. k) intervals
-    → IsRowOfGapTally (GapStoresWord s j n q) (λ x. x.0) words → r ≡ count_by (is_gap_tally_between (m q) (t q)) intervals
+pub gap_part_counts_others : {s : Sizes} {j : List Event} {p n q : ℕ} {m t : ℕ → ℕ} {intervals words : List ℕ} (w r d : ℕ) → q ≢ p → FetchGapBroughtUpTo s j p n m → IsTimeOf j p t → AreGapTallyIntervals (FetchGapStoreInPage s j n q) (λ k. k) intervals
+    → AreGapTallyIntervals (FetchGapStoreOfWord s j n q) (λ x. x.0) words → r ≡ count_by (is_gap_tally_between (m q) (t q)) intervals
     → d ≡ count_by (is_gap_tally_between (m q) (t q)) words → w ≡ cond (nat_lt 0 r) 1 0
-    → GapCountsAmong s j p n (λ x. x ≡ q) w r d
-counts_part {s = s} {j = j} {p = p} {n = n} {q = q} {m = m} {t = t} {intervals = intervals} {words = words} w r d apart fetched time in_rows in_words rs ds ws = record {
-  writers_are = subst (HasImageCount W) (sym ws) (writers (cases_lt 0 r));
+    → FetchGapAmountsAmong s j p n (λ x. x ≡ q) w r d
+gap_part_counts_others {s = s} {j = j} {p = p} {n = n} {q = q} {m = m} {t = t} {intervals = intervals} {words = words} w r d apart fetched time in_rows in_words rs ds ws = record {
+  writers_are = subst (HasPageImageCount W) (sym ws) (writers (cases_lt 0 r));
   records_are =
-      count_map (λ k. GapPartRecords s j p n (q, k)) (λ (x : ℕ × ℕ). (x.0 ≡ q) × GapPartRecords s j p n x) (λ k. (q, k)) r
+      value_count_map (λ k. GapPartRecords s j p n (q, k)) (λ (x : ℕ × ℕ). (x.0 ≡ q) × GapPartRecords s j p n x) (λ k. (q, k)) r
       (λ a b is. ap (λ (x : ℕ × ℕ). x.1) is) (λ k h. (refl, h))
       (λ x h. (x.1, subst (λ z. GapPartRecords s j p n (z, x.1)) h.0 h.1, ap (λ z. (z, x.1)) (sym h.0))) records;
   words_are =
-      count_map (λ (x : ℕ × ℕ). StoredInGapOfImage s j p n (q, x.0, x.1))
-      (λ (x : ℕ × ℕ × ℕ). (x.0 ≡ q) × StoredInGapOfImage s j p n x) (λ (x : ℕ × ℕ). (q, x.0, x.1)) d
+      value_count_map (λ (x : ℕ × ℕ). StoredInGapOfPageImage s j p n (q, x.0, x.1))
+      (λ (x : ℕ × ℕ × ℕ). (x.0 ≡ q) × StoredInGapOfPageImage s j p n x) (λ (x : ℕ × ℕ). (q, x.0, x.1)) d
       (λ a b is. pairs a b (ap (λ (x : ℕ × ℕ × ℕ). x.1) is) (ap (λ (x : ℕ × ℕ × ℕ). x.2) is)) (λ k h. (refl, h))
       (λ x h. (
         (x.1, x.2),
-        subst (λ z. StoredInGapOfImage s j p n (z, x.1, x.2)) h.0 h.1,
+        subst (λ z. StoredInGapOfPageImage s j p n (z, x.1, x.2)) h.0 h.1,
         ap (λ z. (z, x.1, x.2)) (sym h.0),
       )) all;
 }
@@ -59,54 +59,54 @@ counts_part {s = s} {j = j} {p = p} {n = n} {q = q} {m = m} {t = t} {intervals =
     W : ℕ → Type 0
     W x = (x ≡ q) × GapPartWrites s j p n x
 
-    is : (k a : ℕ) → StoredInGapOfImage s j p n (q, k, a) ↔ (GapStoresWord s j n q (k, a) × (m q ≤ k) × (k < t q))
-    is k a = stored_is_in_gap q k a fetched time apart
+    is : (k a : ℕ) → StoredInGapOfPageImage s j p n (q, k, a) ↔ (FetchGapStoreOfWord s j n q (k, a) × (m q ≤ k) × (k < t q))
+    is k a = gap_event_between q k a fetched time apart
 
     pairs : (a b : ℕ × ℕ) → a.0 ≡ b.0 → a.1 ≡ b.1 → a ≡ b
     pairs a b first second = ap₂ (λ (k x : ℕ). (k, x)) first second
 
-    records : HasImageCount (λ k. GapPartRecords s j p n (q, k)) r
+    records : HasPageImageCount (λ k. GapPartRecords s j p n (q, k)) r
     records =
-        subst (HasImageCount (λ k. GapPartRecords s j p n (q, k))) (sym rs)
-        (count_of_same (λ k. GapStoresInPage s j n q k × (m q ≤ k) × (k < t q)) (λ k. GapPartRecords s j p n (q, k))
+        subst (HasPageImageCount (λ k. GapPartRecords s j p n (q, k))) (sym rs)
+        (gaps_counted_same (λ k. FetchGapStoreInPage s j n q k × (m q ≤ k) × (k < t q)) (λ k. GapPartRecords s j p n (q, k))
         (count_by (is_gap_tally_between (m q) (t q)) intervals)
         (λ k. (
           λ h. (h.0.0, (is k h.0.0).1 (h.0.1, h.1, h.2)),
           λ h. let g = (is k h.0).0 h.1 in ((h.0, g.0), g.1, g.2),
         ))
-        (row_counts (GapStoresInPage s j n q) (λ k. k) intervals (m q) (t q) in_rows))
+        (tally_row_counts (FetchGapStoreInPage s j n q) (λ k. k) intervals (m q) (t q) in_rows))
 
-    all : HasImageCount (λ (x : ℕ × ℕ). StoredInGapOfImage s j p n (q, x.0, x.1)) d
+    all : HasPageImageCount (λ (x : ℕ × ℕ). StoredInGapOfPageImage s j p n (q, x.0, x.1)) d
     all =
-        subst (HasImageCount (λ (x : ℕ × ℕ). StoredInGapOfImage s j p n (q, x.0, x.1))) (sym ds)
-        (count_of_same (λ (x : ℕ × ℕ). GapStoresWord s j n q x × (m q ≤ x.0) × (x.0 < t q))
-        (λ (x : ℕ × ℕ). StoredInGapOfImage s j p n (q, x.0, x.1)) (count_by (is_gap_tally_between (m q) (t q)) words)
+        subst (HasPageImageCount (λ (x : ℕ × ℕ). StoredInGapOfPageImage s j p n (q, x.0, x.1))) (sym ds)
+        (gaps_counted_same (λ (x : ℕ × ℕ). FetchGapStoreOfWord s j n q x × (m q ≤ x.0) × (x.0 < t q))
+        (λ (x : ℕ × ℕ). StoredInGapOfPageImage s j p n (q, x.0, x.1)) (count_by (is_gap_tally_between (m q) (t q)) words)
         (λ x. ((is x.0 x.1).1, (is x.0 x.1).0))
-        (row_counts (GapStoresWord s j n q) (λ (x : ℕ × ℕ). x.0) words (m q) (t q) in_words))
+        (tally_row_counts (FetchGapStoreOfWord s j n q) (λ (x : ℕ × ℕ). x.0) words (m q) (t q) in_words))
 
-    writers : (0 < r) ⊎ (r ≤ 0) → HasImageCount W (cond (nat_lt 0 r) 1 0)
+    writers : (0 < r) ⊎ (r ≤ 0) → HasPageImageCount W (cond (nat_lt 0 r) 1 0)
     writers (inl some) =
-        let k = count_some (λ k. GapPartRecords s j p n (q, k)) r records some in
-        rw (lt-ltb 0 r some) (count_one W q (refl, (k.0, k.1.0, k.1.1)) (λ y h. sym h.0))
+        let k = value_count_some (λ k. GapPartRecords s j p n (q, k)) r records some in
+        rw (lt-ltb 0 r some) (value_count_one W q (refl, (k.0, k.1.0, k.1.1)) (λ y h. sym h.0))
     writers (inr none) =
         let zeros : r ≡ 0 = omega arith in
         rw (le-ltb 0 r none)
-        (count_none W (λ y h. count_zero (λ k. GapPartRecords s j p n (q, k)) h.1.0
-        (subst (HasImageCount (λ k. GapPartRecords s j p n (q, k))) zeros records)
-        (h.1.1, subst (λ z. StoredInGapOfImage s j p n (z, h.1.0, h.1.1)) h.0 h.1.2)))
+        (value_count_none W (λ y h. value_count_zero (λ k. GapPartRecords s j p n (q, k)) h.1.0
+        (subst (HasPageImageCount (λ k. GapPartRecords s j p n (q, k))) zeros records)
+        (h.1.1, subst (λ z. StoredInGapOfPageImage s j p n (z, h.1.0, h.1.1)) h.0 h.1.2)))
 
 -- none of no processors
-pub gap_part_counts_start : (s : Sizes) (j : List Event) (p n : ℕ) → GapCountsAmong s j p n (λ q. q < 0) 0 0 0
+pub gap_part_counts_start : (s : Sizes) (j : List Event) (p n : ℕ) → FetchGapAmountsAmong s j p n (λ q. q < 0) 0 0 0
 gap_part_counts_start s j p n = record {
-  writers_are = count_none (λ (r : ℕ). (r < 0) × GapPartWrites s j p n r) (λ r h. (let no = h.0 in omega arith));
-  records_are = count_none (λ (x : ℕ × ℕ). (x.0 < 0) × GapPartRecords s j p n x) (λ x h. (let no = h.0 in omega arith));
-  words_are = count_none (λ (x : ℕ × ℕ × ℕ). (x.0 < 0) × StoredInGapOfImage s j p n x) (λ x h. (let no = h.0 in omega arith));
+  writers_are = value_count_none (λ (r : ℕ). (r < 0) × GapPartWrites s j p n r) (λ r h. (let no = h.0 in omega arith));
+  records_are = value_count_none (λ (x : ℕ × ℕ). (x.0 < 0) × GapPartRecords s j p n x) (λ x h. (let no = h.0 in omega arith));
+  words_are = value_count_none (λ (x : ℕ × ℕ × ℕ). (x.0 < 0) × StoredInGapOfPageImage s j p n x) (λ x h. (let no = h.0 in omega arith));
 }
 
-gap_part_joined : {A : Type 0} (key : A → ℕ) (V : A → Type 0) (n a b : ℕ) → HasImageCount (λ x. (key x < n) × V x) a
-    → HasImageCount (λ x. (key x ≡ n) × V x) b → HasImageCount (λ x. (key x < n + 1) × V x) (a + b)
+gap_part_joined : {A : Type 0} (key : A → ℕ) (V : A → Type 0) (n a b : ℕ) → HasPageImageCount (λ x. (key x < n) × V x) a
+    → HasPageImageCount (λ x. (key x ≡ n) × V x) b → HasPageImageCount (λ x. (key x < n + 1) × V x) (a + b)
 gap_part_joined {A} key V n a b =
-    count_join (λ x. (key x < n) × V x) (λ x. (key x ≡ n) × V x) (λ x. (key x < n + 1) × V x) a b
+    value_count_joined (λ x. (key x < n) × V x) (λ x. (key x ≡ n) × V x) (λ x. (key x < n + 1) × V x) a b
     (λ x h g. (let less = h.0 in let is = g.0 in omega arith)) (λ x. (there x, back x))
   where
     there : (x : A) → (key x < n + 1) × V x → ((key x < n) × V x) ⊎ ((key x ≡ n) × V x)
@@ -120,28 +120,28 @@ gap_part_joined {A} key V n a b =
     back x (inr h) = ((let is = h.0 in omega arith), h.1)
 
 -- one more processor's
-pub gap_part_counts_next : {s : Sizes} {j : List Event} {p n : ℕ} (q w r d w' r' d' : ℕ) → GapCountsAmong s j p n (λ x. x < q) w r d
-    → GapCountsAmong s j p n (λ x. x ≡ q) w' r' d' → GapCountsAmong s j p n (λ x. x < q + 1) (w + w') (r + r') (d + d')
+pub gap_part_counts_next : {s : Sizes} {j : List Event} {p n : ℕ} (q w r d w' r' d' : ℕ) → FetchGapAmountsAmong s j p n (λ x. x < q) w r d
+    → FetchGapAmountsAmong s j p n (λ x. x ≡ q) w' r' d' → FetchGapAmountsAmong s j p n (λ x. x < q + 1) (w + w') (r + r') (d + d')
 gap_part_counts_next {s = s} {j = j} {p = p} {n = n} q w r d w' r' d' old now = record {
   writers_are = gap_part_joined (λ (x : ℕ). x) (GapPartWrites s j p n) q w w' old.writers_are now.writers_are;
   records_are = gap_part_joined (λ (x : ℕ × ℕ). x.0) (GapPartRecords s j p n) q r r' old.records_are now.records_are;
-  words_are = gap_part_joined (λ (x : ℕ × ℕ × ℕ). x.0) (StoredInGapOfImage s j p n) q d d' old.words_are now.words_are;
+  words_are = gap_part_joined (λ (x : ℕ × ℕ × ℕ). x.0) (StoredInGapOfPageImage s j p n) q d d' old.words_are now.words_are;
 }
 
 -- all processors'
-pub gap_part_counts_all : (s : Sizes) {j : List Event} (p n : ℕ) {most : ℕ} (w r d : ℕ) → ProcessorsInRange most j
-    → GapCountsAmong s j p n (λ x. x < most) w r d → GapCounts s j p n w r d
+pub gap_part_counts_all : (s : Sizes) {j : List Event} (p n : ℕ) {most : ℕ} (w r d : ℕ) → EventProcessorsInRange most j
+    → FetchGapAmountsAmong s j p n (λ x. x < most) w r d → GapCounts s j p n w r d
 gap_part_counts_all s {j = j} p n {most = most} w r d range c = record {
   writers_are =
-      count_of_same (λ (q : ℕ). (q < most) × GapPartWrites s j p n q) (GapPartWrites s j p n) w
+      gaps_counted_same (λ (q : ℕ). (q < most) × GapPartWrites s j p n q) (GapPartWrites s j p n) w
       (λ q. (λ h. h.1, λ h. (within q h.0 h.1 h.2, h))) c.writers_are;
   records_are =
-      count_of_same (λ (x : ℕ × ℕ). (x.0 < most) × GapPartRecords s j p n x) (GapPartRecords s j p n) r
+      gaps_counted_same (λ (x : ℕ × ℕ). (x.0 < most) × GapPartRecords s j p n x) (GapPartRecords s j p n) r
       (λ x. (λ h. h.1, λ h. (within x.0 x.1 h.0 h.1, h))) c.records_are;
   words_are =
-      count_of_same (λ (x : ℕ × ℕ × ℕ). (x.0 < most) × StoredInGapOfImage s j p n x) (StoredInGapOfImage s j p n) d
+      gaps_counted_same (λ (x : ℕ × ℕ × ℕ). (x.0 < most) × StoredInGapOfPageImage s j p n x) (StoredInGapOfPageImage s j p n) d
       (λ x. (λ h. h.1, λ h. (within x.0 x.1 x.2 h, h))) c.words_are;
 }
   where
-    within : (q k a : ℕ) → StoredInGapOfImage s j p n (q, k, a) → q < most
+    within : (q k a : ℕ) → StoredInGapOfPageImage s j p n (q, k, a) → q < most
     within q k a g = range g.0 (event q (Store a g.1)) g.2

@@ -6,22 +6,22 @@ use Rattle.journal.specs.declared.event.Event.{Event}
 use Rattle.journal.specs.declared.event.Kind.{Kind}
 use Rattle.journal.specs.declared.event.Kind.TheVariants.{Ask, Acquire, Arrive, Depart, Watch, Await}
 use Rattle.journal.specs.Sizes.{Sizes}
-use Rattle.journal.specs.Events.{is_taking}
-use Rattle.journal.specs.WellFormed.{Allowed, AnswersCall, MayFollow}
-use Rattle.journal.specs.Waits.{awaited}
-use Rattle.journal.proofs.Journals.WellFormedLast.{last_unique}
+use Rattle.journal.specs.Events.{event_takes}
+use Rattle.journal.specs.WellFormed.{WellFormedAllows, WellFormedAnswer, WellFormedNext}
+use Rattle.journal.specs.AwaitedNext.{awaited_next}
+use Rattle.journal.proofs.Journals.WellFormedStays.{well_formed_stays_last_unique}
 use Rattle.judge.specs.declared.why.Why.{Why}
 use Rattle.judge.specs.declared.why.Why.TheVariants.{NoSuchProcessor, OutOfRange, Waits, AsksWhatItHolds, NotAsked}
 use Rattle.judge.specs.declared.why.Why.TheVariants.{HeldBy, AskedEarlier, NotHeld, NotArrived, NotSet}
-use Rattle.judge.specs.Lax.{LaxAllowed, LaxLaw, LaxMayFollow}
-use Rattle.judge.specs.Why.{IsWhy, AwaitsKind, WhyLaw}
+use Rattle.judge.specs.LaxWellFormed.{LaxAllowed, LaxLaw, LaxMayFollow}
+use Rattle.judge.specs.Why.{IsWhy, WhyWaitsFor, WhyLaw}
 
 -- what is allowed is so in the lax sense
-pub refusing_lax_allowed : (s : Sizes) (j : List Event) (p : ℕ) (k : Kind) → Allowed s j p k → LaxAllowed s j p k
+pub refusing_lax_allowed : (s : Sizes) (j : List Event) (p : ℕ) (k : Kind) → WellFormedAllows s j p k → LaxAllowed s j p k
 refusing_lax_allowed s j p (Acquire l) a = ((a.0, a.1), a.2.free)
 refusing_lax_allowed s j p _ a = a
 
-pub refusing_may_lax : (s : Sizes) (j : List Event) (e : Event) → MayFollow s j e → LaxMayFollow s j e
+pub refusing_may_lax : (s : Sizes) (j : List Event) (e : Event) → WellFormedNext s j e → LaxMayFollow s j e
 refusing_may_lax s j e m = record {
   processor = m.processor;
   in_range = m.in_range;
@@ -29,19 +29,19 @@ refusing_may_lax s j e m = record {
   allowed = refusing_lax_allowed s j e.processor e.kind m.allowed;
 }
 
-pub lax_law : LaxLaw
-lax_law s j well k e at = refusing_may_lax s (take k j) e (well k e at)
+pub refusing_lax_law : LaxLaw
+refusing_lax_law s j well k e at = refusing_may_lax s (take k j) e (well k e at)
 
 -- what answers a call is what it waits for
-refusing_answers_kind : (a k b : Kind) → awaited a ≡ Some k → AnswersCall a b → b ≡ k
+refusing_answers_kind : (a k b : Kind) → awaited_next a ≡ Some k → WellFormedAnswer a b → b ≡ k
 refusing_answers_kind (Ask l) k b waits is = is ∙ same_Some (Acquire l) k waits
 refusing_answers_kind Arrive k b waits is = is ∙ same_Some Depart k waits
 refusing_answers_kind (Watch f) k b waits is = is ∙ same_Some (Await f) k waits
 refusing_answers_kind _ k b waits is = absurd (none-some k waits)
 
 -- who may take waits for that
-refusing_waits_taking : (s : Sizes) (j : List Event) (p : ℕ) (k : Kind) → IsTrue (is_taking k) → LaxAllowed s j p k
-    → AwaitsKind j p k
+refusing_waits_taking : (s : Sizes) (j : List Event) (p : ℕ) (k : Kind) → IsTrue (event_takes k) → LaxAllowed s j p k
+    → WhyWaitsFor j p k
 refusing_waits_taking s j p (Acquire l) takes a = record { place = a.0.0; kind = Ask l; last = a.0.1; awaits = refl }
 refusing_waits_taking s j p Depart takes a = record { place = a.0; kind = Arrive; last = a.1; awaits = refl }
 refusing_waits_taking s j p (Await f) takes a = record { place = a.0; kind = Watch f; last = a.3; awaits = refl }
@@ -67,14 +67,14 @@ refuses_lax s j e NotSet is m =
     let a = subst (LaxAllowed s j e.processor) is.1 m.allowed in is.2 a.1 a.2 a.4
 
 -- where any reason is
-refuses : (s : Sizes) (j : List Event) (e : Event) (w : Why) → IsWhy false s j e w → ¬ MayFollow s j e
+refuses : (s : Sizes) (j : List Event) (e : Event) (w : Why) → IsWhy false s j e w → ¬ WellFormedNext s j e
 refuses s j e (AskedEarlier q i) is m =
-    let a = subst (Allowed s j e.processor) is.1 m.allowed in
-    let one = last_unique j e.processor a.0 is.2.place (Ask is.0) (Ask is.0) a.1 is.2.asked in
+    let a = subst (WellFormedAllows s j e.processor) is.1 m.allowed in
+    let one = well_formed_stays_last_unique j e.processor a.0 is.2.place (Ask is.0) (Ask is.0) a.1 is.2.asked in
     let before = is.2.before in
     a.2.first i q (omega (arith, one.0)) is.2.earlier
 refuses s j e w is m = refuses_lax s j e w is (refusing_may_lax s j e m)
 
-pub why_law : WhyLaw
-why_law true s j e w is = refuses_lax s j e w is
-why_law false s j e w is = refuses s j e w is
+pub refusing_why_law : WhyLaw
+refusing_why_law true s j e w is = refuses_lax s j e w is
+refusing_why_law false s j e w is = refuses s j e w is

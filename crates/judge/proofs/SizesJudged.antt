@@ -2,14 +2,14 @@
 use Rattle.std.proofs.Common.{arith}
 use Rattle.std.proofs.lemmas.Nat.{mul-le}
 use Rattle.journal.specs.Sizes.{Sizes}
-use Rattle.judge.specs.Sizes.{AreSizesJudged, AreSizesSmall}
+use Rattle.judge.specs.JudgedSizes.{AreJudgedSizes, AreJudgedSizesSmall}
 
-pub sizes_judged_small : (s : Sizes) → AreSizesSmall s → AreSizesJudged s
+pub sizes_judged_small : (s : Sizes) → AreJudgedSizesSmall s → AreJudgedSizes s
 sizes_judged_small s small = record {
   processors = small.processors;
   pages = (let le = small.pages in omega arith);
   words = (let le = small.words in omega arith);
   addresses = (let le = mul-le s.pages s.words 64 64 small.pages small.words in omega (arith, le));
-  locks = small.locks;
-  flags = small.flags;
+  locks = (let le = small.locks in omega arith);
+  flags = (let le = small.flags in omega arith);
 }

@@ -2,5 +2,5 @@ pub mod SetsHeld
 pub mod WithoutLocks
 pub mod NeedingLocks
 pub mod KeptAccesses
-pub mod StorersAndWords
+pub mod WatchedWords
 pub mod TellingLocksets

@@ -1,7 +1,7 @@
-pub mod Reading
-pub mod Lasts
-pub mod Choosing
-pub mod Keeping
-pub mod InRows
+pub mod ReadingSources
+pub mod LastInPast
+pub mod ChoosingSources
+pub mod KeepingStored
+pub mod LoadRows
 pub mod Answering
-pub mod Unordering
+pub mod UnorderedLoads

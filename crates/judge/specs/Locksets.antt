@@ -2,5 +2,5 @@ pub mod Unlocked
 pub mod Pairs
 pub mod Held
 pub mod Watched
-pub mod Tells
+pub mod KeptLocksets
 pub mod Prelude

@@ -7,12 +7,12 @@ use Rattle.journal.specs.HappensBeforeEdges.{HappensBefore}
 use Rattle.journal.specs.WellFormed.{Does}
 use Rattle.journal.specs.ExplainedAnswers.{IsAnswer}
 use Rattle.journal.specs.Races.{RaceFree}
-use Rattle.journal.specs.FlatMemory.{memory_after}
+use Rattle.journal.specs.ReplayMemory.{memory_after}
 use Rattle.judge.specs.declared.models.MemoryModel.{MemoryModel}
 use Rattle.judge.specs.declared.models.MemoryModel.TheVariants as model
 
 -- v was stored at a before place k, by a store that doesn't happen before it
-pub record ModelUnorderedStore (j : List Event) (k a v : ℕ) : Type 0 where
+pub record ModelConcurrentStore (j : List Event) (k a v : ℕ) : Type 0 where
   pub place : ℕ
   pub by : ℕ
   pub stores : Does j place by (Store a v)
@@ -24,17 +24,17 @@ abbrev pub IsFlatModelWord : Sizes → List Event → ℕ → ℕ → ℕ → Ty
 IsFlatModelWord s j k a v = slice_get (memory_after (replicate (addresses s) 0) (take k j)) a ≡ Some v
 
 -- v is what a load of a at place k may answer under the model
-abbrev pub IsOwed : MemoryModel → Sizes → List Event → ℕ → ℕ → ℕ → Type 0
-IsOwed model.RaceFree s j k a v = RaceFree (take (suc k) j) → IsAnswer j k a v
-IsOwed model.HappensBefore s j k a v = IsAnswer j k a v ⊎ ModelUnorderedStore j k a v
-IsOwed model.LazyRelease s j k a v = IsAnswer j k a v
-IsOwed model.Sequential s j k a v = IsFlatModelWord s j k a v
+abbrev pub IsModelAnswer : MemoryModel → Sizes → List Event → ℕ → ℕ → ℕ → Type 0
+IsModelAnswer model.RaceFree s j k a v = RaceFree (take (suc k) j) → IsAnswer j k a v
+IsModelAnswer model.HappensBefore s j k a v = IsAnswer j k a v ⊎ ModelConcurrentStore j k a v
+IsModelAnswer model.LazyRelease s j k a v = IsAnswer j k a v
+IsModelAnswer model.Sequential s j k a v = IsFlatModelWord s j k a v
 
 -- each load answers what it may under the model
 abbrev pub ExplainedUnderModel : MemoryModel → Sizes → List Event → Type 0
-ExplainedUnderModel m s j = (k p a v : ℕ) → Does j k p (Load a v) → IsOwed m s j k a v
+ExplainedUnderModel m s j = (k p a v : ℕ) → Does j k p (Load a v) → IsModelAnswer m s j k a v
 
 -- what a load may answer stays as the history goes on
-abbrev pub OwedByModelStaysLaw : Type 0
-OwedByModelStaysLaw = (m : MemoryModel) (s : Sizes) (j es : List Event) (k a v : ℕ) → k < length j
-    → IsOwed m s (j ++ es) k a v ↔ IsOwed m s j k a v
+abbrev pub ModelAnswersStayLaw : Type 0
+ModelAnswersStayLaw = (m : MemoryModel) (s : Sizes) (j es : List Event) (k a v : ℕ) → k < length j
+    → IsModelAnswer m s (j ++ es) k a v ↔ IsModelAnswer m s j k a v

@@ -10,15 +10,15 @@ use Rattle.judge.specs.declared.owed.Owed.{Owed}
 use Rattle.judge.specs.declared.owed.Owed.TheVariants as owed
 use Rattle.judge.specs.declared.permitted.Permitted.{Permitted}
 use Rattle.judge.specs.declared.permitted.Permitted.TheVariants as permitted
-use Rattle.judge.specs.declared.sources.readable.Sources.{Sources}
-use Rattle.judge.specs.FlatMemory.{IsLastFlatStoreTo, IsMemoryAfter}
+use Rattle.judge.specs.declared.sources.readable.ReadableSources.{ReadableSources}
+use Rattle.judge.specs.LastFlatStores.{IsLastFlatStoreTo, HasLastFlatStores}
 use Rattle.judge.specs.Sources.Latest.{IsLatest}
-use Rattle.judge.specs.Sources.Tells.{AreSourceStoresOf}
+use Rattle.judge.specs.Sources.KeptSources.{AreKeptSourcesOf}
 use Rattle.judge.specs.Sources.Unordered.{IsUnorderedAt}
 
 -- the sources tell this history of a cluster of these sizes
-pub record AreSourcesOfOwed (s : Sizes) (j : List Event) (x : Sources) : Type 0 where
-  pub tells : AreSourceStoresOf j x
+pub record AreSourcesOfOwed (s : Sizes) (j : List Event) (x : ReadableSources) : Type 0 where
+  pub tells : AreKeptSourcesOf j x
   pub processors : x.processors ≡ s.processors
   pub addresses : x.addresses ≡ addresses s
 
@@ -27,21 +27,21 @@ abbrev pub AreOwedBy : MemoryModel → Sizes → List Event → Owed → Type 0
 AreOwedBy m s j (owed.RaceFree x) = (m ≡ model.RaceFree) × AreSourcesOfOwed s j x
 AreOwedBy m s j (owed.HappensBefore x) = (m ≡ model.HappensBefore) × AreSourcesOfOwed s j x
 AreOwedBy m s j (owed.LazyRelease x) = (m ≡ model.LazyRelease) × AreSourcesOfOwed s j x
-AreOwedBy m s j (owed.Sequential x) = (m ≡ model.Sequential) × IsMemoryAfter j (addresses s) x
+AreOwedBy m s j (owed.Sequential x) = (m ≡ model.Sequential) × HasLastFlatStores j (addresses s) x
 
 -- whether some events of j race, or one does with e, which comes next
-abbrev pub IsRacyWithNext : List Event → Event → Bool → Type 0
-IsRacyWithNext j e racy = MatchBool racy (¬ RaceFree (j ++ e ∷ [])) (RaceFree (j ++ e ∷ []))
+abbrev pub IsOwedRacy : List Event → Event → Bool → Type 0
+IsOwedRacy j e racy = MatchBool racy (¬ RaceFree (j ++ e ∷ [])) (RaceFree (j ++ e ∷ []))
 
 -- of each processor, the place of its latest store for a load of a at place k
-abbrev pub AreLatestPlaces : List Event → ℕ → ℕ → List (Option ℕ) → Type 0
-AreLatestPlaces j k a latest = (q i : ℕ) → (slice_get latest q ≡ Some (Some i)) ↔ IsLatest j k a q i
+abbrev pub AreOwedLatestPlaces : List Event → ℕ → ℕ → List (Option ℕ) → Type 0
+AreOwedLatestPlaces j k a latest = (q i : ℕ) → (slice_get latest q ≡ Some (Some i)) ↔ IsLatest j k a q i
 
 -- what a load of a at place k may answer under the model is the value of these stores, or 0 where its past has none
-abbrev pub ArePermitted : MemoryModel → List Event → ℕ → ℕ → Permitted → Type 0
-ArePermitted m j k a (permitted.Latest latest) =
-    ((m ≡ model.RaceFree) ⊎ (m ≡ model.LazyRelease)) × AreLatestPlaces j k a latest
-ArePermitted m j k a (permitted.Heard latest unordered) =
-    (m ≡ model.HappensBefore) × AreLatestPlaces j k a latest
+abbrev pub PermitsOwed : MemoryModel → List Event → ℕ → ℕ → Permitted → Type 0
+PermitsOwed m j k a (permitted.Latest latest) =
+    ((m ≡ model.RaceFree) ⊎ (m ≡ model.LazyRelease)) × AreOwedLatestPlaces j k a latest
+PermitsOwed m j k a (permitted.Heard latest unordered) =
+    (m ≡ model.HappensBefore) × AreOwedLatestPlaces j k a latest
     × ((i : ℕ) → Has unordered.items i ↔ IsUnorderedAt j k a i)
-ArePermitted m j k a (permitted.Last store) = (m ≡ model.Sequential) × IsLastFlatStoreTo (take k j) a store
+PermitsOwed m j k a (permitted.Last store) = (m ≡ model.Sequential) × IsLastFlatStoreTo (take k j) a store

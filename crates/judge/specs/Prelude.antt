@@ -1,15 +1,15 @@
 -- The words that contracts name, passed on from one place. Declares nothing.
-pub use Rattle.judge.specs.Sizes.{AreSizesJudged, AreSizesSmall, most_judged_addresses, sizes_of}
-pub use Rattle.judge.specs.SparseTables.{IsSparse, IsSparseFor, IsSparseRowWith, IsSparseWith, sparse_at, sparse_mark, sparse_room, sparse_row}
-pub use Rattle.judge.specs.Lax.{LaxLaw, LaxMayFollow, WellFormedOrLax}
-pub use Rattle.judge.specs.Why.{IsFirstIllFormed, IsInTurn, IsWhyVerdict, AwaitsKind, WhyLaw}
-pub use Rattle.judge.specs.FrontTells.{TellsFirstAsk, TellsNobodyAsks, FrontTellsHistory, tells_holder_after, tells_flag_set_after}
-pub use Rattle.judge.specs.Ranges.{RangeLaw}
-pub use Rattle.judge.specs.GapTally.{AddsToGapTally, IsTallyFor, is_gap_tally_between, tally_mark, gap_tally_numbers, gap_tally_row_index}
-pub use Rattle.judge.specs.Gaps.{AreGapCountsFew, AreGapsOf, AreGapsLong, GapCountsAmong, GapFetchedUpTo, GapStoresInPage, TellsGaps, gap_fetch_time}
-pub use Rattle.judge.specs.Miscounted.{CountsItsGap, IsFirstMiscounted, IsEventInSizes, Miscounts}
-pub use Rattle.judge.specs.Models.{ExplainedUnderModel, IsFlatModelWord, IsOwed, OwedByModelStaysLaw, ModelUnorderedStore}
-pub use Rattle.judge.specs.NearestRaces.{RaceAccessesAreKept, AreRacesOf, IsLastUncountedByRaces, IsNearestRace, IsNearestTo, IsUncountedByRaces}
-pub use Rattle.judge.specs.FlatMemory.{IsLastFlatStoreTo, IsMemoryAfter}
-pub use Rattle.judge.specs.Owed.{AreOwedBy, ArePermitted, IsRacyWithNext}
-pub use Rattle.judge.specs.History.{IsHistoryInSizes, IsHistoryOfJournal, IsHistoryOfSizes, IsSizedHistory, most_in_history, whole_history}
+pub use Rattle.judge.specs.JudgedSizes.{AreJudgedSizes, AreJudgedSizesSmall, judged_sizes_most_addresses, judged_sizes_of}
+pub use Rattle.judge.specs.SparseTables.{IsSparse, IsSparseFor, IsSparseRowWith, IsSparseWith, most_sparse_values, sparse_at, sparse_chunk_rows, sparse_mark, sparse_room, sparse_row}
+pub use Rattle.judge.specs.LaxWellFormed.{LaxLaw, LaxMayFollow, WellFormedOrLax}
+pub use Rattle.judge.specs.Why.{IsFirstWhyIllFormed, WhyIsInTurn, IsWhyVerdict, WhyWaitsFor, WhyLaw}
+pub use Rattle.judge.specs.FrontTells.{FrontTellsFirstAsk, FrontTellsNobodyAsks, FrontTellsHistory, front_tells_holder_after, front_tells_flag_set_after}
+pub use Rattle.judge.specs.HistoryRanges.{HistoryRangeLaw}
+pub use Rattle.judge.specs.GapTally.{GapTallyAdds, IsGapTallyFor, is_gap_tally_between, gap_tally_mark, gap_tally_numbers, gap_tally_place_of}
+pub use Rattle.judge.specs.FetchGaps.{AreFetchGapAmountsFew, AreFetchGapsOf, AreFetchGapsLong, FetchGapAmountsAmong, FetchGapBroughtUpTo, FetchGapStoreInPage, TellsFetchGaps, fetch_gap_time}
+pub use Rattle.judge.specs.Miscounted.{IsNotMiscounted, IsFirstMiscounted, IsEventInSizes, Miscounts}
+pub use Rattle.judge.specs.Models.{ExplainedUnderModel, IsFlatModelWord, IsModelAnswer, ModelAnswersStayLaw, ModelConcurrentStore}
+pub use Rattle.judge.specs.NearestRaces.{NearestRaceAccessesAreKept, AreNearestRacesOf, IsNearestRaceLastUncounted, IsNearestRace, IsNearestRaceTo, IsNearestRaceUncounted}
+pub use Rattle.judge.specs.LastFlatStores.{IsLastFlatStoreTo, HasLastFlatStores}
+pub use Rattle.judge.specs.Owed.{AreOwedBy, PermitsOwed, IsOwedRacy}
+pub use Rattle.judge.specs.SizedHistory.{IsHistoryInSizes, IsSizedHistoryOfJournal, IsHistoryOfSizes, IsSizedHistory, most_in_sized_history, whole_sized_history}

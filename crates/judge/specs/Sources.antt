@@ -1,7 +1,7 @@
 pub mod Latest
-pub mod Stored
-pub mod Last
-pub mod Tells
-pub mod Answers
+pub mod KnownStores
+pub mod LastStores
+pub mod KeptSources
+pub mod LatestAnswers
 pub mod Unordered
 pub mod Prelude

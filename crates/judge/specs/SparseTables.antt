@@ -3,27 +3,35 @@ use Rattle.std.specs.Prelude.{ℕ, zero, suc, ◌≡◌, ◌≢◌, ◌*◌, ◌
 use Rattle.std.specs.Global.{Vec}
 use Rattle.judge.specs.declared.sparse_table.SparseTable.{SparseTable}
 
+-- how many rows' marks stand together, as a chunk
+abbrev pub sparse_chunk_rows : ℕ
+sparse_chunk_rows = 1024
+
+-- how many values a table takes at most
+abbrev pub most_sparse_values : ℕ
+most_sparse_values = 2 ^ 24
+
 -- the marks of a chunk, none past the last one
 abbrev pub sparse_chunk : Option (Vec ℕ) → List ℕ
 sparse_chunk None = []
 sparse_chunk (Some chunk) = chunk.items
 
--- the mark of row r, by chunks of 1024 rows: one more than where its value stands, 0 where it has none
+-- the mark of row r: one more than where its value stands, 0 where it has none
 abbrev pub sparse_mark : List (Vec ℕ) → ℕ → ℕ
-sparse_mark chunks r = slice_index (sparse_chunk (slice_get chunks (r / 1024))) (r % 1024)
+sparse_mark chunks r = slice_index (sparse_chunk (slice_get chunks (r / sparse_chunk_rows))) (r % sparse_chunk_rows)
 
 -- the value that a mark leads to
-abbrev pub sparse_value : {A : Type 0} → List A → ℕ → Option A
-sparse_value kept zero = None
-sparse_value kept (suc place) = slice_get kept place
+abbrev pub sparse_table_value : {A : Type 0} → List A → ℕ → Option A
+sparse_table_value kept zero = None
+sparse_table_value kept (suc place) = slice_get kept place
 
 -- the value of row r, if it has one
 abbrev pub sparse_at : {A : Type 0} → SparseTable A → ℕ → Option A
-sparse_at t r = sparse_value t.kept.items (sparse_mark t.marks.items r)
+sparse_at t r = sparse_table_value t.kept.items (sparse_mark t.marks.items r)
 
 -- how many rows there is room for
 abbrev pub sparse_room : {A : Type 0} → SparseTable A → ℕ
-sparse_room t = vec_len t.marks * 1024
+sparse_room t = vec_len t.marks * sparse_chunk_rows
 
 -- each mark leads to a value, and no two to one
 pub record IsSparse {A : Type 0} (t : SparseTable A) : Type 0 where

@@ -4,24 +4,24 @@ use Rattle.journal.specs.declared.event.Event.{Event}
 use Rattle.journal.specs.declared.event.Kind.{Kind}
 use Rattle.journal.specs.declared.event.Kind.TheVariants.{Ask, Acquire, Release, Depart, Set, Await}
 use Rattle.journal.specs.Sizes.{Sizes}
-use Rattle.journal.specs.Events.{At, count_of, is_arrive, is_depart, is_taking}
-use Rattle.journal.specs.WellFormed.{Does, Holds, KindInRange, LastIs}
-use Rattle.journal.specs.Waits.{awaited}
+use Rattle.journal.specs.Events.{EventAt, event_count, event_arrives, event_departs, event_takes}
+use Rattle.journal.specs.WellFormed.{Does, Holds, WellFormedKindInRange, LastIs}
+use Rattle.journal.specs.AwaitedNext.{awaited_next}
 use Rattle.judge.specs.declared.why.Why.{Why}
 use Rattle.judge.specs.declared.why.Why.TheVariants.{NoSuchProcessor, OutOfRange, Waits, AsksWhatItHolds, NotAsked}
 use Rattle.judge.specs.declared.why.Why.TheVariants.{HeldBy, AskedEarlier, NotHeld, NotArrived, NotSet}
-use Rattle.judge.specs.declared.judge.IllFormed.{IllFormed}
-use Rattle.judge.specs.Lax.{MayFollowOrLax, WellFormedOrLax}
+use Rattle.judge.specs.declared.ill_formed.IllFormed.{IllFormed}
+use Rattle.judge.specs.LaxWellFormed.{MayFollowOrLax, WellFormedOrLax}
 
 -- p's last event is one after which it waits, for this
-pub record AwaitsKind (j : List Event) (p : ℕ) (k : Kind) : Type 0 where
+pub record WhyWaitsFor (j : List Event) (p : ℕ) (k : Kind) : Type 0 where
   pub place : ℕ
   pub kind : Kind
   pub last : LastIs j p place kind
-  pub awaits : awaited kind ≡ Some k
+  pub awaits : awaited_next kind ≡ Some k
 
 -- p's ask of l is open, and q's at the earlier place i is too
-pub record IsAskedBehind (j : List Event) (p l q i : ℕ) : Type 0 where
+pub record WhyAskedBehind (j : List Event) (p l q i : ℕ) : Type 0 where
   pub place : ℕ
   pub asked : LastIs j p place (Ask l)
   pub earlier : LastIs j q i (Ask l)
@@ -30,15 +30,15 @@ pub record IsAskedBehind (j : List Event) (p l q i : ℕ) : Type 0 where
 -- the reason is true of the event e after j; lax, the order of asks is none
 abbrev pub IsWhy : Bool → Sizes → List Event → Event → Why → Type 0
 IsWhy lax s j e NoSuchProcessor = s.processors ≤ e.processor
-IsWhy lax s j e OutOfRange = ¬ KindInRange s e.kind
-IsWhy lax s j e (Waits k) = AwaitsKind j e.processor k × (e.kind ≢ k)
+IsWhy lax s j e OutOfRange = ¬ WellFormedKindInRange s e.kind
+IsWhy lax s j e (Waits k) = WhyWaitsFor j e.processor k × (e.kind ≢ k)
 IsWhy lax s j e AsksWhatItHolds = (l : ℕ) × (e.kind ≡ Ask l) × Holds j e.processor l
-IsWhy lax s j e NotAsked = IsTrue (is_taking e.kind) × (¬ AwaitsKind j e.processor e.kind)
+IsWhy lax s j e NotAsked = IsTrue (event_takes e.kind) × (¬ WhyWaitsFor j e.processor e.kind)
 IsWhy lax s j e (HeldBy q) = (l : ℕ) × (e.kind ≡ Acquire l) × Holds j q l
-IsWhy lax s j e (AskedEarlier q i) = (l : ℕ) × (e.kind ≡ Acquire l) × IsAskedBehind j e.processor l q i × (lax ≡ false)
+IsWhy lax s j e (AskedEarlier q i) = (l : ℕ) × (e.kind ≡ Acquire l) × WhyAskedBehind j e.processor l q i × (lax ≡ false)
 IsWhy lax s j e NotHeld = (l : ℕ) × (e.kind ≡ Release l) × (¬ Holds j e.processor l)
 IsWhy lax s j e (NotArrived q) =
-    (e.kind ≡ Depart) × (q < s.processors) × (count_of is_arrive j q ≤ count_of is_depart j e.processor)
+    (e.kind ≡ Depart) × (q < s.processors) × (event_count event_arrives j q ≤ event_count event_departs j e.processor)
 IsWhy lax s j e NotSet = (f : ℕ) × (e.kind ≡ Await f) × ((k q : ℕ) → ¬ Does j k q (Set f))
 
 -- the order of the reasons
@@ -74,15 +74,15 @@ abbrev pub IsWhyVerdict : Bool → Sizes → List Event → Event → Option Why
 IsWhyVerdict lax s j e o = MatchOption o (MayFollowOrLax lax s j e) (IsFirstTrueWhy lax s j e)
 
 -- its processor and its numbers are within the sizes, and it is what its processor waits for, where that waits
-pub record IsInTurn (s : Sizes) (j : List Event) (e : Event) : Type 0 where
+pub record WhyIsInTurn (s : Sizes) (j : List Event) (e : Event) : Type 0 where
   pub processor : e.processor < s.processors
-  pub in_range : KindInRange s e.kind
-  pub answers : (k : Kind) → AwaitsKind j e.processor k → e.kind ≡ k
+  pub in_range : WellFormedKindInRange s e.kind
+  pub answers : (k : Kind) → WhyWaitsFor j e.processor k → e.kind ≡ k
 
 -- the event at this place may not follow what stands before it, which is well formed, and this is the first reason
-pub record IsFirstIllFormed (lax : Bool) (s : Sizes) (j : List Event) (x : IllFormed) : Type 0 where
+pub record IsFirstWhyIllFormed (lax : Bool) (s : Sizes) (j : List Event) (x : IllFormed) : Type 0 where
   pub event : Event
-  pub at : At j x.place event
+  pub at : EventAt j x.place event
   pub before : WellFormedOrLax lax s (take x.place j)
   pub refused : ¬ MayFollowOrLax lax s (take x.place j) event
   pub why : IsFirstTrueWhy lax s (take x.place j) event x.why

@@ -5,20 +5,20 @@ ghost use Rattle.base.specs.Prelude.{most_processors};
 ghost use Rattle.journal.specs.declared.event.Event.{Event};
 ghost use Rattle.journal.specs.PageImages.{GapCounts};
 ghost use Rattle.journal.specs.declared.event.Kind.TheVariants.{Fetch, Store};
-ghost use Rattle.journal.specs.Prelude.{HasImageCount, IsTimeOf, did};
-ghost use Rattle.judge.specs.Prelude.{AreGapCountsFew, AreGapsOf, AreGapsLong, AreSizesJudged, GapCountsAmong, IsEventInSizes, TellsGaps, sizes_of};
-ghost use Rattle.judge.specs.Prelude.{GapFetchedUpTo, GapStoresInPage, gap_tally_row_index, most_in_history, most_judged_addresses};
+ghost use Rattle.journal.specs.Prelude.{HasPageImageCount, IsTimeOf, did};
+ghost use Rattle.judge.specs.Prelude.{AreFetchGapAmountsFew, AreFetchGapsOf, AreFetchGapsLong, AreJudgedSizes, FetchGapAmountsAmong, IsEventInSizes, TellsFetchGaps, judged_sizes_of};
+ghost use Rattle.judge.specs.Prelude.{FetchGapBroughtUpTo, FetchGapStoreInPage, gap_tally_place_of, most_in_sized_history, judged_sizes_most_addresses};
 
+use crate::gap_tally::GapTally;
 use crate::sizes::Sizes;
 use crate::sparse_table::SparseTable;
-use crate::tally::Tally;
 use base::MOST_PROCESSORS;
-use journal::{Clock, Clocks, Event, Kind};
+use journal::{Clock, Event, EventClocks, Kind};
 use std::alloc::{AllocError, Global};
 
 /// What a fetch counts: processors whose stores it brings, intervals of these stores, and words in them.
 #[derive(Clone, Copy)]
-pub(crate) struct CountedGap {
+pub(crate) struct GapAmounts {
     pub(crate) writers: usize,
     pub(crate) records: usize,
     pub(crate) words: usize,
@@ -32,21 +32,21 @@ pub(crate) struct CountedGap {
 #[derive(Drop)]
 pub struct Gaps {
     pub(crate) sizes: Sizes,
-    pub(crate) clocks: Clocks,
+    pub(crate) clocks: EventClocks,
     /// Of each page and processor the timestamp that the processor had at its last fetch of the page; zeros before.
     pub(crate) fetched: SparseTable<Clock>,
     /// Of each page and processor the intervals in which it stores in the page, each once.
-    pub(crate) intervals: Tally,
+    pub(crate) intervals: GapTally,
     /// The same, each once for each word.
-    pub(crate) words: Tally,
+    pub(crate) words: GapTally,
 }
 
-impl CountedGap {
+impl GapAmounts {
     /// Of nothing.
-    fn none() -> CountedGap
+    fn none() -> GapAmounts
         ensures { result ≡ record { writers = 0; records = 0; words = 0 } }
     {
-        CountedGap {
+        GapAmounts {
             writers: 0,
             records: 0,
             words: 0,
@@ -54,18 +54,18 @@ impl CountedGap {
     }
 
     /// With those of one more processor, after that many.
-    fn and(self, other: CountedGap, parts: usize) -> CountedGap
+    fn and(self, other: GapAmounts, parts: usize) -> GapAmounts
         requires parts { parts < most_processors }
-        requires few { AreGapCountsFew parts self }
-        requires other_few { AreGapCountsFew 1 other }
-        ensures few { AreGapCountsFew (parts + 1) result }
+        requires few { AreFetchGapAmountsFew parts self }
+        requires other_few { AreFetchGapAmountsFew 1 other }
+        ensures few { AreFetchGapAmountsFew (parts + 1) result }
         ensures sum { result ≡ record {
           writers = self.writers + other.writers;
           records = self.records + other.records;
           words = self.words + other.words;
         } }
     {
-        CountedGap {
+        GapAmounts {
             writers: self.writers + other.writers,
             records: self.records + other.records,
             words: self.words + other.words,
@@ -74,16 +74,16 @@ impl CountedGap {
 }
 
 /// Where it is kept what there is of a page or address and a processor.
-fn row_at(number: usize, processor: usize) -> usize
+fn gap_row_at(number: usize, processor: usize) -> usize
     requires processor { processor < most_processors }
-    requires number { number ≤ most_judged_addresses }
-    ensures { result ≡ gap_tally_row_index number processor }
+    requires number { number ≤ judged_sizes_most_addresses }
+    ensures { result ≡ gap_tally_place_of number processor }
 {
     number * MOST_PROCESSORS + processor
 }
 
 /// How many processors have that many records, where one has all of them.
-fn writers_of(records: usize) -> usize
+fn gap_writers_of(records: usize) -> usize
     ensures { result ≡ cond (nat_lt 0 records) 1 0 }
 {
     usize::from(records > 0)
@@ -92,18 +92,18 @@ fn writers_of(records: usize) -> usize
 impl Gaps {
     /// Before the first event. The only error is running out of memory.
     pub fn new(alloc: Global, sizes: Sizes) -> Result<Gaps, AllocError>
-        requires { AreSizesJudged (sizes_of sizes) }
-        ensures tells { IfOk result (TellsGaps []) }
+        requires { AreJudgedSizes (judged_sizes_of sizes) }
+        ensures tells { IfOk result (TellsFetchGaps []) }
         ensures sizes { IfOk result (λ g. g.sizes ≡ sizes) }
     {
         let rows = sizes.pages * MOST_PROCESSORS;
         let marks = sizes.pages * sizes.words * MOST_PROCESSORS;
         Ok(Gaps {
             sizes,
-            clocks: Clocks::new(alloc, sizes.processors)?,
+            clocks: EventClocks::new(alloc, sizes.processors)?,
             fetched: SparseTable::new(alloc, rows)?,
-            intervals: Tally::new(alloc, rows, rows)?,
-            words: Tally::new(alloc, rows, marks)?,
+            intervals: GapTally::new(alloc, rows, rows)?,
+            words: GapTally::new(alloc, rows, marks)?,
         })
     }
 
@@ -116,9 +116,9 @@ impl Gaps {
 
     /// The processor's timestamp.
     pub fn time(&self, processor: usize) -> &Clock
-        requires tells { (j : List Event) × TellsGaps j self.now }
+        requires tells { (j : List Event) × TellsFetchGaps j self.now }
         requires processor { processor < most_processors }
-        ensures { (j : List Event) → TellsGaps j self.now → IsTimeOf j processor (slice_index result.now) }
+        ensures { (j : List Event) → TellsFetchGaps j self.now → IsTimeOf j processor (slice_index result.now) }
     {
         self.clocks.of(processor)
     }
@@ -126,65 +126,64 @@ impl Gaps {
     /// The timestamp that the processor had at its last fetch of the page; zeros before it. It tells which stores of others
     /// its fetches of the page have brought.
     pub fn last_fetch(&self, processor: usize, page: usize) -> Clock
-        requires tells { (j : List Event) × TellsGaps j self.now }
+        requires tells { (j : List Event) × TellsFetchGaps j self.now }
         requires processor { processor < most_processors }
         requires page { page < self.now.sizes.pages }
-        ensures { (j : List Event) → TellsGaps j self.now
-            → GapFetchedUpTo (sizes_of self.now.sizes) j processor page (slice_index result) }
+        ensures { (j : List Event) → TellsFetchGaps j self.now
+            → FetchGapBroughtUpTo (judged_sizes_of self.now.sizes) j processor page (slice_index result) }
     {
-        match self.fetched.get(row_at(page, processor)) {
-            Some(time) => time,
-            None => [0; MOST_PROCESSORS],
-        }
+        self.fetched
+            .get(gap_row_at(page, processor))
+            .unwrap_or([0; MOST_PROCESSORS])
     }
 
     /// In how many of its intervals from `from` on and below `to` the processor `by` stores in the page. They are found by
     /// halving.
     pub fn records(&self, page: usize, by: usize, from: u32, to: u32) -> usize
-        requires tells { (j : List Event) × TellsGaps j self.now }
+        requires tells { (j : List Event) × TellsFetchGaps j self.now }
         requires page { page < self.now.sizes.pages }
         requires by { by < most_processors }
-        ensures { (j : List Event) → TellsGaps j self.now
-            → HasImageCount (λ k. GapStoresInPage (sizes_of self.now.sizes) j page by k × (from ≤ k) × (k < to)) result }
+        ensures { (j : List Event) → TellsFetchGaps j self.now
+            → HasPageImageCount (λ k. FetchGapStoreInPage (judged_sizes_of self.now.sizes) j page by k × (from ≤ k) × (k < to)) result }
     {
-        self.intervals.count(row_at(page, by), from, to)
+        self.intervals.count(gap_row_at(page, by), from, to)
     }
 
     /// What a fetch of the page by this processor has to count of one's stores.
-    fn part(&self, processor: usize, page: usize, by: usize) -> CountedGap
-        requires tells { (j : List Event) × TellsGaps j self.now × (length j < 2 ^ 22) }
+    fn part(&self, processor: usize, page: usize, by: usize) -> GapAmounts
+        requires tells { (j : List Event) × TellsFetchGaps j self.now × (length j < 2 ^ 22) }
         requires processor { processor < most_processors }
         requires page { page < self.now.sizes.pages }
         requires by { by < most_processors }
-        ensures few { AreGapCountsFew 1 result }
-        ensures counts { (j : List Event) → TellsGaps j self.now
-            → GapCountsAmong (sizes_of self.now.sizes) j processor page (λ q. q ≡ by)
+        ensures few { AreFetchGapAmountsFew 1 result }
+        ensures counts { (j : List Event) → TellsFetchGaps j self.now
+            → FetchGapAmountsAmong (judged_sizes_of self.now.sizes) j processor page (λ q. q ≡ by)
             result.writers result.records result.words }
     {
         if by == processor {
-            return CountedGap::none();
+            return GapAmounts::none();
         }
-        let row = row_at(page, by);
+        let row = gap_row_at(page, by);
         let from = self.last_fetch(processor, page)[by];
         let to = self.clocks.of(processor)[by];
         let records = self.intervals.count(row, from, to);
         let words = self.words.count(row, from, to);
-        CountedGap {
-            writers: writers_of(records),
+        GapAmounts {
+            writers: gap_writers_of(records),
             records,
             words,
         }
     }
 
     /// What a fetch of the page by this processor has to count, if it comes next.
-    pub(crate) fn due(&self, processor: usize, page: usize) -> CountedGap
-        requires tells { (j : List Event) × TellsGaps j self.now × (length j < 2 ^ 22) }
+    pub(crate) fn due(&self, processor: usize, page: usize) -> GapAmounts
+        requires tells { (j : List Event) × TellsFetchGaps j self.now × (length j < 2 ^ 22) }
         requires processor { processor < most_processors }
         requires page { page < self.now.sizes.pages }
-        ensures { (j : List Event) → TellsGaps j self.now → GapCounts (sizes_of self.now.sizes) j processor page
+        ensures { (j : List Event) → TellsFetchGaps j self.now → GapCounts (judged_sizes_of self.now.sizes) j processor page
             result.writers result.records result.words }
     {
-        let mut due = CountedGap::none();
+        let mut due = GapAmounts::none();
         for by in 0..self.sizes.processors {
             due = due.and(self.part(processor, page, by), by);
         }
@@ -193,44 +192,45 @@ impl Gaps {
 
     /// Tallies a store of the processor to the address, the next event.
     fn tally(&mut self, processor: usize, address: usize) -> Result<(), AllocError>
-        requires tells { (j : List Event) × TellsGaps j self.old × (length j < 2 ^ 22) }
+        requires tells { (j : List Event) × TellsFetchGaps j self.old × (length j < 2 ^ 22) }
         requires processor { processor < self.old.sizes.processors }
         requires address { address < self.old.sizes.pages * self.old.sizes.words }
         ensures sizes { self.new.sizes ≡ self.old.sizes }
         ensures clocks { self.new.clocks ≡ self.old.clocks }
-        ensures long { OnOk result (AreGapsLong self.new) }
-        ensures kept { OnOk result ((j : List Event) → TellsGaps j self.old → (v : ℕ)
-            → AreGapsOf (did j processor (Store address v)) self.new) }
+        ensures long { OnOk result (AreFetchGapsLong self.new) }
+        ensures kept { OnOk result ((j : List Event) → TellsFetchGaps j self.old → (v : ℕ)
+            → AreFetchGapsOf (did j processor (Store address v)) self.new) }
     {
         let interval = self.clocks.of(processor)[processor];
-        let row = row_at(address / self.sizes.words, processor);
+        let row = gap_row_at(address / self.sizes.words, processor);
         self.intervals.add(row, row, interval)?;
-        self.words.add(row, row_at(address, processor), interval)
+        self.words
+            .add(row, gap_row_at(address, processor), interval)
     }
 
     /// Takes note of a fetch of the page by the processor, the next event.
     fn fetch(&mut self, processor: usize, page: usize) -> Result<(), AllocError>
-        requires tells { (j : List Event) × TellsGaps j self.old × (length j < 2 ^ 22) }
+        requires tells { (j : List Event) × TellsFetchGaps j self.old × (length j < 2 ^ 22) }
         requires processor { processor < self.old.sizes.processors }
         requires page { page < self.old.sizes.pages }
         ensures sizes { self.new.sizes ≡ self.old.sizes }
         ensures clocks { self.new.clocks ≡ self.old.clocks }
-        ensures long { OnOk result (AreGapsLong self.new) }
-        ensures kept { OnOk result ((j : List Event) → TellsGaps j self.old → (writers records words : ℕ)
-            → AreGapsOf (did j processor (Fetch writers page records words)) self.new) }
+        ensures long { OnOk result (AreFetchGapsLong self.new) }
+        ensures kept { OnOk result ((j : List Event) → TellsFetchGaps j self.old → (writers records words : ℕ)
+            → AreFetchGapsOf (did j processor (Fetch writers page records words)) self.new) }
     {
         let time = *self.clocks.of(processor);
-        self.fetched.set(row_at(page, processor), time)
+        self.fetched.set(gap_row_at(page, processor), time)
     }
 
     /// Keeps what the event changes, which comes next, but for the timestamps so far.
     fn keep(&mut self, event: Event) -> Result<(), AllocError>
-        requires tells { (j : List Event) × TellsGaps j self.old × (length j < 2 ^ 22) }
-        requires within { IsEventInSizes (sizes_of self.old.sizes) event }
+        requires tells { (j : List Event) × TellsFetchGaps j self.old × (length j < 2 ^ 22) }
+        requires within { IsEventInSizes (judged_sizes_of self.old.sizes) event }
         ensures sizes { self.new.sizes ≡ self.old.sizes }
         ensures clocks { self.new.clocks ≡ self.old.clocks }
-        ensures long { OnOk result (AreGapsLong self.new) }
-        ensures kept { OnOk result ((j : List Event) → TellsGaps j self.old → AreGapsOf (j ++ event ∷ []) self.new) }
+        ensures long { OnOk result (AreFetchGapsLong self.new) }
+        ensures kept { OnOk result ((j : List Event) → TellsFetchGaps j self.old → AreFetchGapsOf (j ++ event ∷ []) self.new) }
     {
         match event.kind {
             Kind::Store(address, _) => self.tally(event.processor, address),
@@ -243,12 +243,12 @@ impl Gaps {
     /// may tell no history.
     pub fn note(&mut self, events: &[Event], place: usize) -> Result<(), AllocError>
         requires place { place < length events.now }
-        requires few { length events.now ≤ most_in_history }
+        requires few { length events.now ≤ most_in_sized_history }
         requires within { (k : ℕ) (e : Event) → slice_get events.now k ≡ Some e
-            → IsEventInSizes (sizes_of self.old.sizes) e }
-        requires so_far { TellsGaps (take place events.now) self.old }
+            → IsEventInSizes (judged_sizes_of self.old.sizes) e }
+        requires so_far { TellsFetchGaps (take place events.now) self.old }
         ensures sizes { self.new.sizes ≡ self.old.sizes }
-        ensures tells { OnOk result (TellsGaps (take (place + 1) events.now) self.new) }
+        ensures tells { OnOk result (TellsFetchGaps (take (place + 1) events.now) self.new) }
     {
         self.keep(events[place])?;
         self.clocks.note(events, place)

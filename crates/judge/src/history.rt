@@ -2,9 +2,9 @@
 ghost use Rattle.std.specs.Prelude.{◌≡◌, ◌↔◌, ◌≤◌, ◌*◌, IfOk, IfSome, IsSome, IsTrue, MatchOption, drop, length};
 ghost use Rattle.base.specs.Prelude.{most_held, most_processors};
 ghost use Rattle.journal.specs.Sizes.{addresses};
-ghost use Rattle.journal.specs.Prelude.{AddressesInRange, IsFirstRace, ProcessorsInRange, RaceFree};
-ghost use Rattle.judge.specs.Prelude.{AreSizesJudged, AreSizesSmall, IsHistoryInSizes, IsHistoryOfJournal, IsHistoryOfSizes, IsSizedHistory};
-ghost use Rattle.judge.specs.Prelude.{most_in_history, sizes_of, whole_history};
+ghost use Rattle.journal.specs.Prelude.{EventAddressesInRange, IsFirstRace, EventProcessorsInRange, RaceFree};
+ghost use Rattle.judge.specs.Prelude.{AreJudgedSizes, AreJudgedSizesSmall, IsHistoryInSizes, IsSizedHistoryOfJournal, IsHistoryOfSizes, IsSizedHistory};
+ghost use Rattle.judge.specs.Prelude.{most_in_sized_history, judged_sizes_of, whole_sized_history};
 
 use crate::sizes::Sizes;
 use base::MOST_HELD;
@@ -17,7 +17,7 @@ use std::marker::Model;
 ///
 /// If events were cut off before it, an arrival of each processor stands in front for them.
 ///
-/// Contracts see a `SizedHistory` (specs/History). What is true of each is said by `events` and `sizes`, so that whoever is
+/// Contracts see a `SizedHistory` (specs/SizedHistory). What is true of each is said by `events` and `sizes`, so that whoever is
 /// handed a history need not ask for it.
 #[derive(Drop)]
 pub struct History<'a> {
@@ -30,21 +30,21 @@ pub struct History<'a> {
 }
 
 impl<'a> Model for History<'a> {
-    ghost use Rattle.judge.specs.History.{SizedHistory};
+    ghost use Rattle.judge.specs.SizedHistory.{SizedHistory};
 
     ghost Value = { SizedHistory };
 
-    ghost use Rattle.judge.specs.HistoryInvariant.{HistoryInvariant, history_seen};
+    ghost use Rattle.judge.specs.HistoryInvariant.{HistoryInvariant, history_invariant_seen};
 
-    ghost view = { history_seen };
+    ghost view = { history_invariant_seen };
 
     ghost invariant = { HistoryInvariant };
 }
 
 /// Whether the numbers of each event are within the sizes, which are small.
-fn are_within(sizes: Sizes, events: &[Event]) -> bool
-    requires { AreSizesSmall (sizes_of sizes) }
-    ensures { IsTrue result ↔ IsHistoryInSizes (sizes_of sizes) events.now }
+fn is_history_within(sizes: Sizes, events: &[Event]) -> bool
+    requires { AreJudgedSizesSmall (judged_sizes_of sizes) }
+    ensures { IsTrue result ↔ IsHistoryInSizes (judged_sizes_of sizes) events.now }
 {
     events.iter().all(|event| sizes.have_event(*event))
 }
@@ -53,10 +53,10 @@ impl<'a> History<'a> {
     /// The history of these events, of which nothing was cut off. None if the sizes aren't small, if the events are more than
     /// `MOST_HELD`, or if one of them names a number past the sizes; else there is one.
     pub fn new(sizes: Sizes, events: &'a [Event]) -> Option<History<'a>>
-        ensures fits { IsSome result ↔ IsSizedHistory (whole_history sizes events.now) }
-        ensures value { IfSome result (λ h. h ≡ whole_history sizes events.now) }
+        ensures fits { IsSome result ↔ IsSizedHistory (whole_sized_history sizes events.now) }
+        ensures value { IfSome result (λ h. h ≡ whole_sized_history sizes events.now) }
     {
-        if !sizes.are_small() || events.len() > MOST_HELD || !are_within(sizes, events) {
+        if !sizes.are_small() || events.len() > MOST_HELD || !is_history_within(sizes, events) {
             return None;
         }
         Some(History {
@@ -70,11 +70,11 @@ impl<'a> History<'a> {
     /// The history that the journal has, with what stands for events that were cut off. None if the sizes aren't small, or if
     /// it isn't one of them; else there is one.
     pub fn of_journal(sizes: Sizes, journal: &'a Journal) -> Option<History<'a>>
-        ensures fits { IsSome result ↔ IsHistoryOfSizes (sizes_of sizes) journal.now }
-        ensures value { IfSome result (IsHistoryOfJournal sizes journal.now) }
+        ensures fits { IsSome result ↔ IsHistoryOfSizes (judged_sizes_of sizes) journal.now }
+        ensures value { IfSome result (IsSizedHistoryOfJournal sizes journal.now) }
     {
         let events = journal.history();
-        if !sizes.are_small() || !are_within(sizes, events) {
+        if !sizes.are_small() || !is_history_within(sizes, events) {
             return None;
         }
         Some(History {
@@ -88,15 +88,15 @@ impl<'a> History<'a> {
     /// The sizes of the cluster.
     pub fn sizes(&self) -> Sizes
         ensures value { result ≡ self.now.sizes }
-        ensures small { AreSizesSmall (sizes_of result) }
-        ensures judged { AreSizesJudged (sizes_of result) }
+        ensures small { AreJudgedSizesSmall (judged_sizes_of result) }
+        ensures judged { AreJudgedSizes (judged_sizes_of result) }
     {
         self.sizes
     }
 
     /// How many addresses the cluster has.
     pub fn addresses(&self) -> usize
-        ensures { result ≡ addresses (sizes_of self.now.sizes) }
+        ensures { result ≡ addresses (judged_sizes_of self.now.sizes) }
     {
         self.sizes.pages * self.sizes.words
     }
@@ -119,11 +119,11 @@ impl<'a> History<'a> {
     /// The events in order, with the arrivals in front.
     pub fn events(&self) -> &'a [Event]
         ensures value { result.now ≡ self.now.events }
-        ensures few { length result.now ≤ most_in_history }
+        ensures few { length result.now ≤ most_in_sized_history }
         ensures few_processors { self.now.sizes.processors ≤ most_processors }
-        ensures within { IsHistoryInSizes (sizes_of self.now.sizes) result.now }
-        ensures processors { ProcessorsInRange self.now.sizes.processors result.now }
-        ensures addresses { AddressesInRange (addresses (sizes_of self.now.sizes)) result.now }
+        ensures within { IsHistoryInSizes (judged_sizes_of self.now.sizes) result.now }
+        ensures processors { EventProcessorsInRange self.now.sizes.processors result.now }
+        ensures addresses { EventAddressesInRange (addresses (judged_sizes_of self.now.sizes)) result.now }
     {
         self.events
     }
@@ -133,7 +133,7 @@ impl<'a> History<'a> {
         ensures value { result.now ≡ drop self.now.opening self.now.events }
         ensures few { length result.now ≤ most_held }
         ensures few_processors { self.now.sizes.processors ≤ most_processors }
-        ensures processors { ProcessorsInRange self.now.sizes.processors result.now }
+        ensures processors { EventProcessorsInRange self.now.sizes.processors result.now }
     {
         let events = self.events;
         &events[self.opening..]

@@ -1,5 +1,5 @@
 //! Laws of what may come next, as contracts of functions that do nothing: the check proves each by its name.
-ghost use Rattle.judge.specs.Prelude.{LaxLaw, OwedByModelStaysLaw, RangeLaw, WhyLaw};
+ghost use Rattle.judge.specs.Prelude.{LaxLaw, ModelAnswersStayLaw, HistoryRangeLaw, WhyLaw};
 
 /// A well formed history is well formed whatever the order in which a lock's asks are granted.
 pub fn lax_law()
@@ -13,12 +13,12 @@ pub fn why_law()
 
 /// The processors and addresses of a well formed history, lax or not, are those of the cluster: so it may be given to
 /// what asks for that alone.
-pub fn range_law()
-    ensures { RangeLaw }
+pub fn history_range_law()
+    ensures { HistoryRangeLaw }
 {}
 
 /// What a load may answer under a model stays as the history goes on: so the first lie of a history is known as soon as it
 /// was read.
 pub fn owed_stays_law()
-    ensures { OwedByModelStaysLaw }
+    ensures { ModelAnswersStayLaw }
 {}

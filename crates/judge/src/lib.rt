@@ -1,10 +1,10 @@
 //! Whether a history is one that a cluster could make, event by event, and where it is not, why; and whether its fetches
 //! count what they bring.
 //!
-//! **What contracts see.** `MayFollow` and `WellFormed` of journal's specs/WellFormed: each event may follow what
-//! stands before it. `WellFormedLax` of specs/Lax is the same but for the order in which a lock's asks are granted.
-//! `IsWhy` of specs/Why says of each reason what it means. What fetches count is `AreCounted` of journal's
-//! specs/Counted. A `History` is a `SizedHistory` of specs/History: sizes, and events whose numbers are within them.
+//! **What contracts see.** `WellFormedNext` and `WellFormed` of journal's specs/WellFormed: each event may follow what
+//! stands before it. `WellFormedOrLax` of specs/LaxWellFormed is the same but for the order in which a lock's asks are granted.
+//! `IsWhy` of specs/Why says of each reason what it means. What fetches count is `FetchesCountGaps` of journal's
+//! specs/Counted. A `History` is a `SizedHistory` of specs/SizedHistory: sizes, and events whose numbers are within them.
 //!
 //! **What is proved.** `first_ill_formed` answers None exactly where the history is well formed, else the first event
 //! that may not follow what stands before it, with the first reason that applies, in the order of `Why`. The history
@@ -15,38 +15,38 @@
 //! not ask that.
 //!
 //! **What is only tested** (crate `test_memory`): that these definitions say what they are to say, by histories worked
-//! by hand; and that `first_ill_formed` judges 2^20 events in a test's time. Only `first_miscounted` takes memory.
+//! by hand; and that `first_ill_formed` judges 2^20 events in a test's time.
 #![tactic(auto)]
 
 mod flat_memory;
-mod front;
+mod frontier;
+mod gap_tally;
 mod gaps;
 mod history;
-mod judge;
+mod ill_formed;
 mod kinds;
 mod laws;
 pub mod locksets;
 mod miscounted;
 mod models;
+mod nearest_races;
 mod owed;
 mod permitted;
-mod races;
 mod sizes;
 pub mod sources;
 mod sparse_table;
-mod tally;
 mod why;
 
 pub use flat_memory::FlatMemory;
-pub use front::Frontier;
+pub use frontier::Frontier;
 pub use gaps::Gaps;
 pub use history::History;
-pub use judge::{IllFormed, first_ill_formed};
-pub use laws::{lax_law, owed_stays_law, range_law, why_law};
+pub use ill_formed::{IllFormed, first_ill_formed};
+pub use laws::{history_range_law, lax_law, owed_stays_law, why_law};
 pub use miscounted::{Miscounted, first_miscounted, miscount};
 pub use models::MemoryModel;
+pub use nearest_races::NearestRaces;
 pub use owed::Owed;
 pub use permitted::Permitted;
-pub use races::Races;
-pub use sizes::{MOST_ADDRESSES, Sizes};
+pub use sizes::{MOST_ADDRESSES, MOST_JUDGED_FLAGS, MOST_JUDGED_LOCKS, Sizes};
 pub use why::Why;

@@ -4,16 +4,16 @@
 //! word need a lock if they race in the history in which locks order nothing, from the first store to the word by a
 //! second processor on. A word is told if some such accesses hold a lock in common, and others don't.
 //!
-//! **What contracts see.** `NeedsLock`, `IsGuardedPair`, `IsUnguardedPair` and `IsUnprotectedBy` of specs/Locksets/Pairs.
+//! **What contracts see.** `IsPairToLock`, `IsGuardedPair`, `IsUnguardedPair` and `PairsLeaveUnprotected` of specs/Locksets/Pairs.
 //!
 //! **What is proved.** `unprotected_words` answers of each address whether it is such a word, with two accesses of each
 //! sort, and a lock.
 //!
 //! **What is only tested**: that these definitions say what they are to say, by histories worked by hand.
 
-mod finding;
-mod firm;
-mod held;
-mod word;
+mod held_locks;
+mod lockset_finder;
+mod unlocked;
+mod watched_word;
 
-pub use self::finding::{Unprotected, unprotected_words};
+pub use self::lockset_finder::{Unprotected, unprotected_words};

@@ -2,11 +2,11 @@
 ghost use Rattle.std.specs.Prelude.{◌≡◌, ◌↔◌, ◌<◌, ◌≤◌, ◌^◌, IfOk, IfSome, IsTrue, List, MatchOption, length, true};
 ghost use Rattle.base.specs.Prelude.{most_held};
 ghost use Rattle.journal.specs.declared.event.Event.{Event};
-ghost use Rattle.journal.specs.Counted.{AreCounted};
-ghost use Rattle.judge.specs.Prelude.{AreSizesJudged, CountsItsGap, IsFirstMiscounted, IsEventInSizes, Miscounts};
-ghost use Rattle.judge.specs.Prelude.{TellsGaps, WellFormedOrLax, sizes_of};
+ghost use Rattle.journal.specs.FetchesCountGaps.{FetchesCountGaps};
+ghost use Rattle.judge.specs.Prelude.{AreJudgedSizes, IsNotMiscounted, IsFirstMiscounted, IsEventInSizes, Miscounts};
+ghost use Rattle.judge.specs.Prelude.{TellsFetchGaps, WellFormedOrLax, judged_sizes_of};
 
-use crate::gaps::{CountedGap, Gaps};
+use crate::gaps::{GapAmounts, Gaps};
 use crate::sizes::Sizes;
 use journal::{Event, Kind};
 use std::alloc::{AllocError, Global};
@@ -25,7 +25,7 @@ pub struct Miscounted {
 }
 
 /// Whether these are the counts.
-fn is_count(due: CountedGap, writers: u32, records: u32, words: u32) -> bool
+fn is_not_miscounted(due: GapAmounts, writers: u32, records: u32, words: u32) -> bool
     ensures { IsTrue result ↔ (due ≡ record { writers = writers; records = records; words = words }) }
 {
     due.writers == writers as usize
@@ -35,12 +35,12 @@ fn is_count(due: CountedGap, writers: u32, records: u32, words: u32) -> bool
 
 /// What is due at this place instead, where the event there is a fetch that counts something else.
 pub fn miscount(gaps: &Gaps, event: Event, place: usize) -> Option<Miscounted>
-    requires tells { (j : List Event) × TellsGaps j gaps.now × (length j < 2 ^ 22) }
-    requires within { IsEventInSizes (sizes_of gaps.now.sizes) event }
+    requires tells { (j : List Event) × TellsFetchGaps j gaps.now × (length j < 2 ^ 22) }
+    requires within { IsEventInSizes (judged_sizes_of gaps.now.sizes) event }
     ensures place { IfSome result (λ m. m.place ≡ place) }
-    ensures verdict { (j : List Event) → TellsGaps j gaps.now
-        → MatchOption result (CountsItsGap (sizes_of gaps.now.sizes) j event)
-        (Miscounts (sizes_of gaps.now.sizes) j event) }
+    ensures verdict { (j : List Event) → TellsFetchGaps j gaps.now
+        → MatchOption result (IsNotMiscounted (judged_sizes_of gaps.now.sizes) j event)
+        (Miscounts (judged_sizes_of gaps.now.sizes) j event) }
 {
     match event.kind {
         Kind::Fetch {
@@ -50,7 +50,7 @@ pub fn miscount(gaps: &Gaps, event: Event, place: usize) -> Option<Miscounted>
             words,
         } => {
             let due = gaps.due(event.processor, page);
-            if is_count(due, writers, records, words) {
+            if is_not_miscounted(due, writers, records, words) {
                 None
             } else {
                 Some(Miscounted {
@@ -75,11 +75,11 @@ pub fn first_miscounted(
     sizes: Sizes,
     events: &[Event],
 ) -> Result<Option<Miscounted>, AllocError>
-    requires sizes { AreSizesJudged (sizes_of sizes) }
+    requires sizes { AreJudgedSizes (judged_sizes_of sizes) }
     requires few { length events.now ≤ most_held }
-    requires well { WellFormedOrLax true (sizes_of sizes) events.now }
-    ensures { IfOk result (λ o. MatchOption o (AreCounted (sizes_of sizes) events.now)
-        (IsFirstMiscounted (sizes_of sizes) events.now)) }
+    requires well { WellFormedOrLax true (judged_sizes_of sizes) events.now }
+    ensures { IfOk result (λ o. MatchOption o (FetchesCountGaps (judged_sizes_of sizes) events.now)
+        (IsFirstMiscounted (judged_sizes_of sizes) events.now)) }
 {
     let mut gaps = Gaps::new(alloc, sizes)?;
     for place in 0..events.len() {

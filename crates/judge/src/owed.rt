@@ -6,13 +6,13 @@ ghost use Rattle.journal.specs.declared.event.Kind.TheVariants.{Load};
 ghost use Rattle.journal.specs.Sizes.{Sizes as TheSizes, addresses};
 ghost use Rattle.journal.specs.Prelude.{did, event as an_event};
 ghost use Rattle.judge.specs.declared.models.MemoryModel.{MemoryModel as AModel};
-ghost use Rattle.judge.specs.Prelude.{AreOwedBy, ArePermitted, AreSizesJudged, IsOwed, IsRacyWithNext, IsEventInSizes, sizes_of};
+ghost use Rattle.judge.specs.Prelude.{AreOwedBy, PermitsOwed, AreJudgedSizes, IsModelAnswer, IsOwedRacy, IsEventInSizes, judged_sizes_of};
 
 use crate::flat_memory::FlatMemory;
 use crate::models::MemoryModel;
 use crate::permitted::Permitted;
 use crate::sizes::Sizes;
-use crate::sources::Sources;
+use crate::sources::ReadableSources;
 use journal::{Event, Kind};
 use std::alloc::{AllocError, Global};
 
@@ -20,11 +20,11 @@ use std::alloc::{AllocError, Global};
 #[derive(Drop)]
 pub enum Owed {
     /// Under `MemoryModel::RaceFree`.
-    RaceFree(Sources),
+    RaceFree(ReadableSources),
     /// Under `MemoryModel::HappensBefore`.
-    HappensBefore(Sources),
+    HappensBefore(ReadableSources),
     /// Under `MemoryModel::LazyRelease`.
-    LazyRelease(Sources),
+    LazyRelease(ReadableSources),
     /// Under `MemoryModel::Sequential`.
     Sequential(FlatMemory),
 }
@@ -32,19 +32,19 @@ pub enum Owed {
 impl Owed {
     /// Before the first event of a history of these sizes. The only error is running out of memory.
     pub fn new(alloc: Global, model: MemoryModel, sizes: Sizes) -> Result<Owed, AllocError>
-        requires { AreSizesJudged (sizes_of sizes) }
-        ensures { IfOk result (AreOwedBy model (sizes_of sizes) []) }
+        requires { AreJudgedSizes (judged_sizes_of sizes) }
+        ensures { IfOk result (AreOwedBy model (judged_sizes_of sizes) []) }
     {
         let addresses = sizes.pages * sizes.words;
         match model {
             MemoryModel::RaceFree => {
-                Sources::new(alloc, sizes.processors, addresses).map(Owed::RaceFree)
+                ReadableSources::new(alloc, sizes.processors, addresses).map(Owed::RaceFree)
             }
             MemoryModel::HappensBefore => {
-                Sources::new(alloc, sizes.processors, addresses).map(Owed::HappensBefore)
+                ReadableSources::new(alloc, sizes.processors, addresses).map(Owed::HappensBefore)
             }
             MemoryModel::LazyRelease => {
-                Sources::new(alloc, sizes.processors, addresses).map(Owed::LazyRelease)
+                ReadableSources::new(alloc, sizes.processors, addresses).map(Owed::LazyRelease)
             }
             MemoryModel::Sequential => FlatMemory::new(alloc, addresses).map(Owed::Sequential),
         }
@@ -64,8 +64,8 @@ impl Owed {
             × (processor < s.processors) × (address < addresses s) }
         ensures { (m : AModel) (s : TheSizes) → AreOwedBy m s events.now self.now
             → processor < s.processors → address < addresses s
-            → IsRacyWithNext events.now (an_event processor (Load address value)) is_racy
-            → IsTrue result ↔ IsOwed m s (did events.now processor (Load address value)) (length events.now) address value }
+            → IsOwedRacy events.now (an_event processor (Load address value)) is_racy
+            → IsTrue result ↔ IsModelAnswer m s (did events.now processor (Load address value)) (length events.now) address value }
     {
         match self {
             Owed::RaceFree(sources) => {
@@ -85,9 +85,9 @@ impl Owed {
     pub fn is_paid(&self, events: &[Event], event: Event, is_racy: bool) -> bool
         requires { (m : AModel) × (s : TheSizes) × AreOwedBy m s events.now self.now × IsEventInSizes s event }
         ensures { (m : AModel) (s : TheSizes) → AreOwedBy m s events.now self.now → IsEventInSizes s event
-            → IsRacyWithNext events.now event is_racy
+            → IsOwedRacy events.now event is_racy
             → IsTrue result ↔ ((a v : ℕ) → event.kind ≡ Load a v
-            → IsOwed m s (events.now ++ event ∷ []) (length events.now) a v) }
+            → IsModelAnswer m s (events.now ++ event ∷ []) (length events.now) a v) }
     {
         match event.kind {
             Kind::Load(address, value) => {
@@ -108,7 +108,7 @@ impl Owed {
             × (processor < s.processors) × (address < addresses s) }
         ensures { IfOk result (λ x. (m : AModel) (s : TheSizes) (j : List Event) → AreOwedBy m s j self.now
             → processor < s.processors → address < addresses s → (v : ℕ)
-            → ArePermitted m (did j processor (Load address v)) (length j) address x) }
+            → PermitsOwed m (did j processor (Load address v)) (length j) address x) }
     {
         match self {
             Owed::RaceFree(sources) => {

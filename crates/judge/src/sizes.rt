@@ -1,7 +1,7 @@
 //! The sizes of a cluster.
 ghost use Rattle.std.specs.Prelude.{◌↔◌, IsTrue};
-ghost use Rattle.journal.specs.WellFormed.{KindInRange};
-ghost use Rattle.judge.specs.Prelude.{AreSizesJudged, AreSizesSmall, IsEventInSizes, sizes_of};
+ghost use Rattle.journal.specs.WellFormed.{WellFormedKindInRange};
+ghost use Rattle.judge.specs.Prelude.{AreJudgedSizes, AreJudgedSizesSmall, IsEventInSizes, judged_sizes_of};
 
 use base::{MOST_FLAGS, MOST_LOCKS, MOST_PAGES, MOST_WORDS};
 use journal::{Event, Kind, MOST_PROCESSORS};
@@ -9,7 +9,14 @@ use journal::{Event, Kind, MOST_PROCESSORS};
 /// The most addresses of a history that is judged.
 pub const MOST_ADDRESSES: usize = 1 << 20;
 
-/// The sizes of the cluster whose history is judged: at most 16 processors, `MOST_ADDRESSES` addresses, 32 locks and 32 flags.
+/// The most locks of a history that is judged.
+pub const MOST_JUDGED_LOCKS: usize = 1 << 16;
+
+/// The most flags of a history that is judged.
+pub const MOST_JUDGED_FLAGS: usize = 1 << 16;
+
+/// The sizes of the cluster whose history is judged: at most 16 processors, `MOST_ADDRESSES` addresses, `MOST_JUDGED_LOCKS`
+/// locks and `MOST_JUDGED_FLAGS` flags.
 #[derive(Clone, Copy, Debug, PartialEq, Eq)]
 pub struct Sizes {
     /// How many processors it has.
@@ -27,19 +34,19 @@ pub struct Sizes {
 impl Sizes {
     /// Whether a history of these sizes can be judged: whether they are no larger than that.
     pub fn are_judged(&self) -> bool
-        ensures { IsTrue result ↔ AreSizesJudged (sizes_of self.now) }
+        ensures { IsTrue result ↔ AreJudgedSizes (judged_sizes_of self.now) }
     {
         self.processors <= MOST_PROCESSORS
             && self.pages <= MOST_ADDRESSES
             && self.words <= MOST_ADDRESSES
             && self.pages * self.words <= MOST_ADDRESSES
-            && self.locks <= MOST_LOCKS
-            && self.flags <= MOST_FLAGS
+            && self.locks <= MOST_JUDGED_LOCKS
+            && self.flags <= MOST_JUDGED_FLAGS
     }
 
     /// Whether they are the product's own: at most 16 processors, 64 pages of 64 words, 32 locks and 32 flags.
     pub fn are_small(&self) -> bool
-        ensures { IsTrue result ↔ AreSizesSmall (sizes_of self.now) }
+        ensures { IsTrue result ↔ AreJudgedSizesSmall (judged_sizes_of self.now) }
     {
         self.processors <= MOST_PROCESSORS
             && self.pages <= MOST_PAGES
@@ -50,8 +57,8 @@ impl Sizes {
 
     /// Whether the numbers that the event names are within the sizes.
     pub(crate) fn have(&self, kind: Kind) -> bool
-        requires { AreSizesJudged (sizes_of self.now) }
-        ensures { IsTrue result ↔ KindInRange (sizes_of self.now) kind }
+        requires { AreJudgedSizes (judged_sizes_of self.now) }
+        ensures { IsTrue result ↔ WellFormedKindInRange (judged_sizes_of self.now) kind }
     {
         match kind {
             Kind::Load(address, _) | Kind::Store(address, _) => address < self.pages * self.words,
@@ -63,8 +70,8 @@ impl Sizes {
     }
     /// Whether the event's processor and the numbers that it names are within the sizes.
     pub fn have_event(&self, event: Event) -> bool
-        requires { AreSizesJudged (sizes_of self.now) }
-        ensures { IsTrue result ↔ IsEventInSizes (sizes_of self.now) event }
+        requires { AreJudgedSizes (judged_sizes_of self.now) }
+        ensures { IsTrue result ↔ IsEventInSizes (judged_sizes_of self.now) event }
     {
         event.processor < self.processors && self.have(event.kind)
     }

@@ -1,6 +1,6 @@
 //! Tables of rows, of which few may have a value.
-ghost use Rattle.std.specs.Prelude.{◌≡◌, ◌≢◌, ℕ, ◌+◌, ◌*◌, ◌<◌, ◌≤◌, ◌^◌, suc, None, IfOk, MatchOption, OnOk, slice_index, vec_len};
-ghost use Rattle.judge.specs.Prelude.{IsSparse, IsSparseFor, IsSparseRowWith, IsSparseWith, sparse_at, sparse_mark, sparse_room};
+ghost use Rattle.std.specs.Prelude.{◌≡◌, ◌≢◌, ℕ, ◌+◌, ◌*◌, ◌<◌, ◌≤◌, suc, None, IfOk, MatchOption, OnOk, slice_index, vec_len};
+ghost use Rattle.judge.specs.Prelude.{IsSparse, IsSparseFor, IsSparseRowWith, IsSparseWith, most_sparse_values, sparse_at, sparse_chunk_rows, sparse_mark, sparse_room, sparse_row};
 
 use std::alloc::{AllocError, Global};
 
@@ -18,7 +18,7 @@ pub(crate) struct SparseTable<T> {
 }
 
 /// So many chunks without a mark. The only error is running out of memory.
-fn no_marks(alloc: Global, chunks: usize) -> Result<Vec<Vec<u32>>, AllocError>
+fn sparse_table_without_marks(alloc: Global, chunks: usize) -> Result<Vec<Vec<u32>>, AllocError>
     ensures long { IfOk result (λ v. vec_len v ≡ chunks) }
     ensures none { IfOk result (λ v. (r : ℕ) → sparse_mark v.items r ≡ 0) }
 {
@@ -30,7 +30,7 @@ fn no_marks(alloc: Global, chunks: usize) -> Result<Vec<Vec<u32>>, AllocError>
 }
 
 /// The mark of the row.
-fn mark_of(marks: &[Vec<u32>], row: usize) -> u32
+fn sparse_mark_of(marks: &[Vec<u32>], row: usize) -> u32
     ensures { result ≡ sparse_mark marks.now row }
 {
     let number = row / CHUNK;
@@ -43,8 +43,8 @@ fn mark_of(marks: &[Vec<u32>], row: usize) -> u32
 }
 
 /// Lengthens the chunk by zeros, so that it has the place. The only error is running out of memory.
-fn lengthen(chunk: &mut Vec<u32>, place: usize) -> Result<(), AllocError>
-    requires { place < 1024 }
+fn lengthen_sparse_chunk(chunk: &mut Vec<u32>, place: usize) -> Result<(), AllocError>
+    requires { place < sparse_chunk_rows }
     ensures long { OnOk result (place < vec_len chunk.new) }
     ensures same { (i : ℕ) → slice_index chunk.new.items i ≡ slice_index chunk.old.items i }
 {
@@ -55,14 +55,14 @@ fn lengthen(chunk: &mut Vec<u32>, place: usize) -> Result<(), AllocError>
 }
 
 /// Marks the row. The only error is running out of memory.
-fn mark(marks: &mut Vec<Vec<u32>>, row: usize, value: u32) -> Result<(), AllocError>
-    requires { row < vec_len marks.old * 1024 }
+fn mark_in_sparse_table(marks: &mut Vec<Vec<u32>>, row: usize, value: u32) -> Result<(), AllocError>
+    requires { row < vec_len marks.old * sparse_chunk_rows }
     ensures long { vec_len marks.new ≡ vec_len marks.old }
     ensures marked { OnOk result (sparse_mark marks.new.items row ≡ value) }
     ensures others { OnOk result ((r : ℕ) → r ≢ row → sparse_mark marks.new.items r ≡ sparse_mark marks.old.items r) }
 {
     let chunk = &mut marks[row / CHUNK];
-    lengthen(chunk, row % CHUNK)?;
+    lengthen_sparse_chunk(chunk, row % CHUNK)?;
     chunk[row % CHUNK] = value;
     Ok(())
 }
@@ -74,7 +74,7 @@ impl<T> SparseTable<T> {
         ensures none { IfOk result (λ t. (r : ℕ) → sparse_at t r ≡ None) }
     {
         Ok(SparseTable {
-            marks: no_marks(alloc, rows / CHUNK + 1)?,
+            marks: sparse_table_without_marks(alloc, rows / CHUNK + 1)?,
             kept: Vec::new(alloc),
         })
     }
@@ -84,7 +84,7 @@ impl<T> SparseTable<T> {
         ensures { MatchOption result (sparse_mark self.now.marks.items row ≡ 0)
             (λ k. sparse_mark self.now.marks.items row ≡ suc k) }
     {
-        let mark = mark_of(&self.marks, row);
+        let mark = sparse_mark_of(&self.marks, row);
         if mark == 0 {
             None
         } else {
@@ -99,14 +99,14 @@ impl<T: Drop> SparseTable<T> {
     pub(crate) fn add(&mut self, row: usize, value: T) -> Result<(), AllocError>
         requires sparse { IsSparse self.old }
         requires room { row < sparse_room self.old }
-        requires few { vec_len self.old.kept < 2 ^ 24 }
+        requires few { vec_len self.old.kept < most_sparse_values }
         requires none { sparse_mark self.old.marks.items row ≡ 0 }
         ensures room { sparse_room self.new ≡ sparse_room self.old }
         ensures few { vec_len self.new.kept ≤ vec_len self.old.kept + 1 }
         ensures added { OnOk result (IsSparseWith self.old self.new row value) }
     {
         self.kept.push(value)?;
-        mark(&mut self.marks, row, self.kept.len() as u32)
+        mark_in_sparse_table(&mut self.marks, row, self.kept.len() as u32)
     }
 }
 
@@ -127,7 +127,7 @@ impl<T: Copy + Drop> SparseTable<T> {
     pub(crate) fn set(&mut self, row: usize, value: T) -> Result<(), AllocError>
         requires sparse { IsSparse self.old }
         requires room { row < sparse_room self.old }
-        requires few { vec_len self.old.kept < 2 ^ 24 }
+        requires few { vec_len self.old.kept < most_sparse_values }
         ensures room { sparse_room self.new ≡ sparse_room self.old }
         ensures few { vec_len self.new.kept ≤ vec_len self.old.kept + 1 }
         ensures set { OnOk result (IsSparseWith self.old self.new row value) }
@@ -142,15 +142,26 @@ impl<T: Copy + Drop> SparseTable<T> {
     }
 }
 
+/// The row's items: none where it has no value.
+pub(crate) fn items_of_row<T>(table: &SparseTable<Vec<T>>, row: usize) -> &[T]
+    requires { IsSparse table.now }
+    ensures { result.now ≡ sparse_row table.now row }
+{
+    match table.place(row) {
+        Some(place) => table.kept[place].as_slice(),
+        None => &[],
+    }
+}
+
 /// Adds the item to the row. The only error is running out of memory, after which nothing is said of the rows.
-pub(crate) fn push_in_row<T: Drop>(
+pub(crate) fn push_in_sparse_table_row<T: Drop>(
     table: &mut SparseTable<Vec<T>>,
     row: usize,
     item: T,
 ) -> Result<(), AllocError>
     requires sparse { IsSparse table.old }
     requires room { row < sparse_room table.old }
-    requires few { vec_len table.old.kept < 2 ^ 24 }
+    requires few { vec_len table.old.kept < most_sparse_values }
     ensures room { sparse_room table.new ≡ sparse_room table.old }
     ensures few { vec_len table.new.kept ≤ vec_len table.old.kept + 1 }
     ensures pushed { OnOk result (IsSparseRowWith table.old table.new row item) }

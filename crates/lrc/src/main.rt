@@ -5,35 +5,37 @@
 //! What runs scripts is handed in here.
 #![tactic(auto)]
 
-mod progress;
 mod studies;
+mod terminal;
 
-use crate::studies::{check_file, explain_file, explore_file, sample_file, tell_file};
+use crate::studies::{
+    study_by_check, study_by_explain, study_by_explore, study_by_sample, study_by_tell,
+};
 use lrc_options::command_line::options;
 use lrc_options::options::{Asked, Commands};
-use lrc_program::{answer_words, refuse, run_file, words_of};
+use lrc_program::{answer_program_words, program_words_of, refuse_program_words, run_program_file};
 use lrc_run::OnCluster;
 use std::process::ExitCode;
 use std::sync::Wait;
 use std::thread::Threads;
 
 /// Does what the words ask for.
-fn start<R: Threads + Wait + Sync>(rt: &HostRuntime, handle: &R, words: &[String]) -> u8 {
+fn start_lrc<R: Threads + Wait + Sync>(rt: &HostRuntime, handle: &R, words: &[String]) -> u8 {
     match options(rt.alloc(), words, Commands::All) {
-        Ok(Asked::Script(options)) => run_file(rt, handle, &OnCluster, &options),
-        Ok(Asked::Explain(options)) => explain_file(rt, handle, &options),
-        Ok(Asked::Tell(options)) => tell_file(rt, &options),
-        Ok(Asked::Sample(options)) => sample_file(rt, handle, &options),
-        Ok(Asked::Explore(options)) => explore_file(rt, &options),
-        Ok(Asked::Trace(options)) => check_file(rt, &options),
-        Err(error) => answer_words(rt, &error),
+        Ok(Asked::Script(options)) => run_program_file(rt, handle, &OnCluster, &options),
+        Ok(Asked::Explain(options)) => study_by_explain(rt, handle, &options),
+        Ok(Asked::Tell(options)) => study_by_tell(rt, &options),
+        Ok(Asked::Sample(options)) => study_by_sample(rt, handle, &options),
+        Ok(Asked::Explore(options)) => study_by_explore(rt, &options),
+        Ok(Asked::Trace(options)) => study_by_check(rt, &options),
+        Err(error) => answer_program_words(rt, &error),
     }
 }
 
 fn main(rt: HostRuntime) -> ExitCode {
-    let status = match words_of(&rt) {
-        Ok(words) => start(&rt, &rt, &words),
-        Err(fault) => refuse(&rt, fault),
+    let status = match program_words_of(&rt) {
+        Ok(words) => start_lrc(&rt, &rt, &words),
+        Err(fault) => refuse_program_words(&rt, fault),
     };
     ExitCode::from(status)
 }

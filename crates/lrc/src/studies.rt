@@ -1,31 +1,31 @@
 //! The files of the commands that study a script or a trace.
 
-use crate::progress::{Counted, Found};
-use lrc_commands::checking::check_program;
-use lrc_commands::explaining::explain_program;
-use lrc_commands::exploring::explore_program;
-use lrc_commands::sampling::sample_program;
-use lrc_commands::telling::tell_program;
+use crate::terminal::{TerminalCounted, TerminalFound};
+use lrc_commands::checking::run_check_command;
+use lrc_commands::explaining::run_explain_command;
+use lrc_commands::exploring::run_explore_command;
+use lrc_commands::sampling::run_sample_command;
+use lrc_commands::telling::run_tell_command;
 use lrc_options::options::{
     ExplainOptions, ExploreOptions, SampleOptions, TellOptions, TraceOptions,
 };
 use lrc_program::fault::ProgramFault;
-use lrc_program::file_named;
-use lrc_program::program::say;
+use lrc_program::program::program_says;
+use lrc_program::program_file_named;
 use lrc_program::reasons::{KeepsReason, say_reason};
 use lrc_run::OnCluster;
 use std::fs::File;
 use std::sync::Wait;
 
 /// Judges the trace of the file, or of standard input if no file or `-` is given.
-pub(crate) fn check_file(rt: &HostRuntime, options: &TraceOptions) -> u8 {
+pub(crate) fn study_by_check(rt: &HostRuntime, options: &TraceOptions) -> u8 {
     let alloc = rt.alloc();
     let (mut out, mut err) = (KeepsReason::new(rt.stdout()), rt.stderr());
-    let status = match file_named(&options.file) {
-        None => check_program(alloc, options, &mut rt.stdin(), &mut out, &mut err),
+    let status = match program_file_named(&options.file) {
+        None => run_check_command(alloc, options, &mut rt.stdin(), &mut out, &mut err),
         Some(path) => match File::open(rt, path) {
-            Ok(mut source) => check_program(alloc, options, &mut source, &mut out, &mut err),
-            Err(error) => say(alloc, Some(path), ProgramFault::from(error), &mut err),
+            Ok(mut source) => run_check_command(alloc, options, &mut source, &mut out, &mut err),
+            Err(error) => program_says(alloc, Some(path), ProgramFault::from(error), &mut err),
         },
     };
     say_reason(alloc, out.reason(), &mut err);
@@ -33,11 +33,15 @@ pub(crate) fn check_file(rt: &HostRuntime, options: &TraceOptions) -> u8 {
 }
 
 /// Explains a run of the file's script, or of that of standard input if no file or `-` is given.
-pub(crate) fn explain_file<R: Wait>(rt: &HostRuntime, handle: &R, options: &ExplainOptions) -> u8 {
+pub(crate) fn study_by_explain<R: Wait>(
+    rt: &HostRuntime,
+    handle: &R,
+    options: &ExplainOptions,
+) -> u8 {
     let alloc = rt.alloc();
     let (mut out, mut err) = (KeepsReason::new(rt.stdout()), rt.stderr());
-    let status = match file_named(&options.file) {
-        None => explain_program(
+    let status = match program_file_named(&options.file) {
+        None => run_explain_command(
             &OnCluster,
             handle,
             alloc,
@@ -47,7 +51,7 @@ pub(crate) fn explain_file<R: Wait>(rt: &HostRuntime, handle: &R, options: &Expl
             &mut err,
         ),
         Some(path) => match File::open(rt, path) {
-            Ok(mut source) => explain_program(
+            Ok(mut source) => run_explain_command(
                 &OnCluster,
                 handle,
                 alloc,
@@ -56,7 +60,7 @@ pub(crate) fn explain_file<R: Wait>(rt: &HostRuntime, handle: &R, options: &Expl
                 &mut out,
                 &mut err,
             ),
-            Err(error) => say(alloc, Some(path), ProgramFault::from(error), &mut err),
+            Err(error) => program_says(alloc, Some(path), ProgramFault::from(error), &mut err),
         },
     };
     say_reason(alloc, out.reason(), &mut err);
@@ -64,14 +68,14 @@ pub(crate) fn explain_file<R: Wait>(rt: &HostRuntime, handle: &R, options: &Expl
 }
 
 /// Tells the trace of the file, or of standard input if no file or `-` is given.
-pub(crate) fn tell_file(rt: &HostRuntime, options: &TellOptions) -> u8 {
+pub(crate) fn study_by_tell(rt: &HostRuntime, options: &TellOptions) -> u8 {
     let alloc = rt.alloc();
     let (mut out, mut err) = (KeepsReason::new(rt.stdout()), rt.stderr());
-    let status = match file_named(&options.file) {
-        None => tell_program(alloc, options, &mut rt.stdin(), &mut out, &mut err),
+    let status = match program_file_named(&options.file) {
+        None => run_tell_command(alloc, options, &mut rt.stdin(), &mut out, &mut err),
         Some(path) => match File::open(rt, path) {
-            Ok(mut source) => tell_program(alloc, options, &mut source, &mut out, &mut err),
-            Err(error) => say(alloc, Some(path), ProgramFault::from(error), &mut err),
+            Ok(mut source) => run_tell_command(alloc, options, &mut source, &mut out, &mut err),
+            Err(error) => program_says(alloc, Some(path), ProgramFault::from(error), &mut err),
         },
     };
     say_reason(alloc, out.reason(), &mut err);
@@ -79,12 +83,16 @@ pub(crate) fn tell_file(rt: &HostRuntime, options: &TellOptions) -> u8 {
 }
 
 /// Samples the file's script, or that of standard input if no file or `-` is given.
-pub(crate) fn sample_file<R: Wait>(rt: &HostRuntime, handle: &R, options: &SampleOptions) -> u8 {
+pub(crate) fn study_by_sample<R: Wait>(
+    rt: &HostRuntime,
+    handle: &R,
+    options: &SampleOptions,
+) -> u8 {
     let alloc = rt.alloc();
     let (mut out, mut err) = (KeepsReason::new(rt.stdout()), rt.stderr());
-    let runs = Counted::new(rt, OnCluster, u64::from(options.seeds) + 1);
-    let status = match file_named(&options.file) {
-        None => sample_program(
+    let runs = TerminalCounted::new(rt, OnCluster, u64::from(options.seeds) + 1);
+    let status = match program_file_named(&options.file) {
+        None => run_sample_command(
             &runs,
             handle,
             alloc,
@@ -94,7 +102,7 @@ pub(crate) fn sample_file<R: Wait>(rt: &HostRuntime, handle: &R, options: &Sampl
             &mut err,
         ),
         Some(path) => match File::open(rt, path) {
-            Ok(mut source) => sample_program(
+            Ok(mut source) => run_sample_command(
                 &runs,
                 handle,
                 alloc,
@@ -103,7 +111,7 @@ pub(crate) fn sample_file<R: Wait>(rt: &HostRuntime, handle: &R, options: &Sampl
                 &mut out,
                 &mut err,
             ),
-            Err(error) => say(alloc, Some(path), ProgramFault::from(error), &mut err),
+            Err(error) => program_says(alloc, Some(path), ProgramFault::from(error), &mut err),
         },
     };
     say_reason(alloc, out.reason(), &mut err);
@@ -111,12 +119,12 @@ pub(crate) fn sample_file<R: Wait>(rt: &HostRuntime, handle: &R, options: &Sampl
 }
 
 /// Looks at all schedules of the file's script, or of that of standard input if no file or `-` is given.
-pub(crate) fn explore_file(rt: &HostRuntime, options: &ExploreOptions) -> u8 {
+pub(crate) fn study_by_explore(rt: &HostRuntime, options: &ExploreOptions) -> u8 {
     let alloc = rt.alloc();
     let (mut out, mut err) = (KeepsReason::new(rt.stdout()), rt.stderr());
-    let mut found = Found::new(rt);
-    let status = match file_named(&options.file) {
-        None => explore_program(
+    let mut found = TerminalFound::new(rt);
+    let status = match program_file_named(&options.file) {
+        None => run_explore_command(
             alloc,
             options,
             &mut rt.stdin(),
@@ -126,9 +134,9 @@ pub(crate) fn explore_file(rt: &HostRuntime, options: &ExploreOptions) -> u8 {
         ),
         Some(path) => match File::open(rt, path) {
             Ok(mut source) => {
-                explore_program(alloc, options, &mut source, &mut out, &mut err, &mut found)
+                run_explore_command(alloc, options, &mut source, &mut out, &mut err, &mut found)
             }
-            Err(error) => say(alloc, Some(path), ProgramFault::from(error), &mut err),
+            Err(error) => program_says(alloc, Some(path), ProgramFault::from(error), &mut err),
         },
     };
     say_reason(alloc, out.reason(), &mut err);

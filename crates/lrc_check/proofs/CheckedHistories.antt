@@ -8,24 +8,24 @@ use Rattle.journal.specs.Races.{RaceFree}
 use Rattle.judge.specs.declared.models.MemoryModel.{MemoryModel}
 use Rattle.judge.specs.declared.sizes.Sizes.{Sizes as JudgedSizes}
 use Rattle.judge.specs.NearestRaces.{IsNearestRace}
-use Rattle.judge.specs.Sizes.{sizes_of}
+use Rattle.judge.specs.JudgedSizes.{judged_sizes_of}
 use Rattle.lrc_check.specs.declared.checked.Checked.{Checked}
 use Rattle.lrc_check.specs.declared.checked.Lie.{Lie}
 use Rattle.lrc_check.specs.declared.checked.Lie.TheVariants as lie
 use Rattle.lrc_check.specs.declared.checked.Rules.{Rules}
 use Rattle.lrc_check.specs.declared.checked.TraceVerdict.{TraceVerdict}
 use Rattle.lrc_check.specs.declared.checked.TraceVerdict.TheVariants as verdict
-use Rattle.lrc_check.specs.declared.judging.TraceJudge.{TraceJudge}
-use Rattle.lrc_check.specs.Checked.{EndsAsAsked, IsChecked, IsLie, IsRaceOf, IsCheckVerdictOf, IsCheckedWhole, checked_for_race}
+use Rattle.lrc_check.specs.declared.trace_judge.TraceJudge.{TraceJudge}
+use Rattle.lrc_check.specs.CheckVerdicts.{CheckVerdictEndsAsAsked, IsTrueCheckVerdict, IsCheckVerdictLie, IsCheckVerdictRace, IsCheckVerdictOf, IsCheckVerdictWhole, check_verdict_race_events}
 use Rattle.lrc_check.specs.Faithful.{IsFaithfulAndCounted}
-use Rattle.lrc_check.specs.Judged.{IsJudgedFaithful, IsJudged}
-use Rattle.lrc_check.proofs.Judged.{judged_race_last}
+use Rattle.lrc_check.specs.TraceJudge.{TraceJudgeTellsFaithful, IsTraceJudgeOf}
+use Rattle.lrc_check.proofs.JudgedRaces.{judged_race_at_end}
 
 -- a faithful history, judged to its end
-pub checked_faithful : (r : Rules) (s : Sizes) (j : List Event) (race : Option (ℕ × ℕ)) (x : Checked)
-    → x.count ≡ length j → x.race ≡ race → IsJudgedFaithful r.model race j x.verdict
-    → IsFaithfulAndCounted r.model r.lax s j → IsRaceOf j race → IsChecked r s j x
-checked_faithful r s j race x count same told accepted is = record {
+pub checked_history_whole : (r : Rules) (s : Sizes) (j : List Event) (race : Option (ℕ × ℕ)) (x : Checked)
+    → x.count ≡ length j → x.race ≡ race → TraceJudgeTellsFaithful r.model race j x.verdict
+    → IsFaithfulAndCounted r.model r.lax s j → IsCheckVerdictRace j race → IsTrueCheckVerdict r s j x
+checked_history_whole r s j race x count same told accepted is = record {
   within = omega arith;
   verdict = subst (λ xs. IsCheckVerdictOf r.model r.lax s xs x.race x.verdict) (sym whole)
       (subst (λ o. IsCheckVerdictOf r.model r.lax s j o x.verdict) (sym same) (verdict_is x.verdict told));
@@ -36,26 +36,26 @@ checked_faithful r s j race x count same told accepted is = record {
     whole : take x.count j ≡ j
     whole = (let le : length j ≤ x.count = omega arith in take_all x.count j le)
 
-    verdict_is : (v : TraceVerdict) → IsJudgedFaithful r.model race j v → IsCheckVerdictOf r.model r.lax s j race v
+    verdict_is : (v : TraceVerdict) → TraceJudgeTellsFaithful r.model race j v → IsCheckVerdictOf r.model r.lax s j race v
     verdict_is (verdict.Faithful traffic unjudged) t = (accepted, is, t.0, t.1)
     verdict_is (verdict.Lie y) t = absurd t
     verdict_is verdict.Racy t = absurd t
 
-    whole_is : (v : TraceVerdict) → IsCheckedWhole j x.count v
+    whole_is : (v : TraceVerdict) → IsCheckVerdictWhole j x.count v
     whole_is (verdict.Faithful traffic unjudged) = count
     whole_is (verdict.Lie y) = tt
     whole_is verdict.Racy = tt
 
-    ends_is : (v : TraceVerdict) → IsJudgedFaithful r.model race j v → EndsAsAsked r.ends_at_race v
+    ends_is : (v : TraceVerdict) → TraceJudgeTellsFaithful r.model race j v → CheckVerdictEndsAsAsked r.ends_at_race v
     ends_is (verdict.Faithful traffic unjudged) t = tt
     ends_is (verdict.Lie y) t = tt
     ends_is verdict.Racy t = absurd t
 
 -- a lie
-pub checked_lie : (r : Rules) (s : Sizes) (j : List Event) (place : ℕ) (race : Option (ℕ × ℕ)) (x : Lie)
-    → place < length j → IsLie r.model r.lax s (take (place + 1) j) x → IsRaceOf (checked_for_race x (take (place + 1) j)) race
-    → IsChecked r s j (record { count = place + 1; race = race; verdict = verdict.Lie x })
-checked_lie r s j place race x lt told is = record {
+pub checked_history_lie : (r : Rules) (s : Sizes) (j : List Event) (place : ℕ) (race : Option (ℕ × ℕ)) (x : Lie)
+    → place < length j → IsCheckVerdictLie r.model r.lax s (take (place + 1) j) x → IsCheckVerdictRace (check_verdict_race_events x (take (place + 1) j)) race
+    → IsTrueCheckVerdict r s j (record { count = place + 1; race = race; verdict = verdict.Lie x })
+checked_history_lie r s j place race x lt told is = record {
   within = omega arith;
   verdict = (told, is);
   whole = tt;
@@ -63,12 +63,12 @@ checked_lie r s j place race x lt told is = record {
 }
 
 -- the second event of the first race, which ends the judging
-pub checked_racy : (r : Rules) {s : Sizes} (j : List Event) (place : ℕ) (race : ℕ × ℕ) (e : Event) → r.ends_at_race ≡ true
+pub checked_history_racy : (r : Rules) {s : Sizes} (j : List Event) (place : ℕ) (race : ℕ × ℕ) (e : Event) → r.ends_at_race ≡ true
     → place < length j → take (place + 1) j ≡ take place j ++ e ∷ []
     → IsFaithfulAndCounted r.model r.lax s (take place j) → RaceFree (take place j)
     → IsNearestRace (take (place + 1) j) race.0 race.1
-    → IsChecked r s j (record { count = place + 1; race = Some race; verdict = verdict.Racy })
-checked_racy r {s} j place race e ends lt next accepted free nearest = record {
+    → IsTrueCheckVerdict r s j (record { count = place + 1; race = Some race; verdict = verdict.Racy })
+checked_history_racy r {s} j place race e ends lt next accepted free nearest = record {
   within = omega arith;
   verdict = record {
     first = race.0;
@@ -86,17 +86,17 @@ checked_racy r {s} j place race e ends lt next accepted free nearest = record {
     short = length-take-le place j (omega arith)
 
     second : race.1 ≡ place
-    second = judged_race_last (take place j) e race.0 race.1 free (subst (λ xs. IsNearestRace xs race.0 race.1) next nearest) ∙ short
+    second = judged_race_at_end (take place j) e race.0 race.1 free (subst (λ xs. IsNearestRace xs race.0 race.1) next nearest) ∙ short
 
     front : take race.1 (take (place + 1) j) ≡ take place j
     front = ap (λ n. take n (take (place + 1) j)) second
         ∙ (let le : place ≤ place + 1 = omega arith in take-take place (place + 1) j le)
 
 -- what may not follow ends no race: so a race that is told with a lie, where there was none before, ends with the lie
-pub checked_nearest_read : (m : MemoryModel) (lax : Bool) (s : Sizes) (j : List Event) (place : ℕ) (x : Lie) (race : ℕ × ℕ)
-    → place < length j → RaceFree (take place j) → IsLie m lax s (take (place + 1) j) x
-    → IsRaceOf (checked_for_race x (take (place + 1) j)) (Some race) → IsNearestRace (take (place + 1) j) race.0 race.1
-checked_nearest_read m lax s j place (lie.IllFormed x) race lt free told is = absurd (free race.0 race.1 (subst (λ xs.
+pub checked_history_race_at_lie : (m : MemoryModel) (lax : Bool) (s : Sizes) (j : List Event) (place : ℕ) (x : Lie) (race : ℕ × ℕ)
+    → place < length j → RaceFree (take place j) → IsCheckVerdictLie m lax s (take (place + 1) j) x
+    → IsCheckVerdictRace (check_verdict_race_events x (take (place + 1) j)) (Some race) → IsNearestRace (take (place + 1) j) race.0 race.1
+checked_history_race_at_lie m lax s j place (lie.IllFormed x) race lt free told is = absurd (free race.0 race.1 (subst (λ xs.
     IsNearestRace xs race.0 race.1) front is).race)
   where
     at : x.place ≡ place
@@ -105,36 +105,36 @@ checked_nearest_read m lax s j place (lie.IllFormed x) race lt free told is = ab
     front : take x.place (take (place + 1) j) ≡ take place j
     front = ap (λ n. take n (take (place + 1) j)) at
         ∙ (let le : place ≤ place + 1 = omega arith in take-take place (place + 1) j le)
-checked_nearest_read m lax s j place (lie.Unexplained x) race lt free told is = is
-checked_nearest_read m lax s j place (lie.Miscounted x) race lt free told is = is
+checked_history_race_at_lie m lax s j place (lie.Unexplained x) race lt free told is = is
+checked_history_race_at_lie m lax s j place (lie.Miscounted x) race lt free told is = is
 
 -- the race that a judge tells after an event, where it told none before
-pub checked_race_read : (m : MemoryModel) (lax : Bool) (s : Sizes) (j : List Event) (place : ℕ) (x : TraceJudge)
+pub checked_history_race : (m : MemoryModel) (lax : Bool) (s : Sizes) (j : List Event) (place : ℕ) (x : TraceJudge)
     (o : Option Lie) (race : ℕ × ℕ) → place < length j → RaceFree (take place j)
-    → MatchOption o (IsJudged (take (place + 1) j) x)
-    (λ y. IsLie m lax s (take (place + 1) j) y × IsRaceOf (checked_for_race y (take (place + 1) j)) x.race)
+    → MatchOption o (IsTraceJudgeOf (take (place + 1) j) x)
+    (λ y. IsCheckVerdictLie m lax s (take (place + 1) j) y × IsCheckVerdictRace (check_verdict_race_events y (take (place + 1) j)) x.race)
     → x.race ≡ Some race → IsNearestRace (take (place + 1) j) race.0 race.1
-checked_race_read m lax s j place x None race lt free judged same =
-    subst (IsRaceOf (take (place + 1) j)) same judged.race
-checked_race_read m lax s j place x (Some y) race lt free told same =
-    checked_nearest_read m lax s j place y race lt free told.0 (subst (IsRaceOf (checked_for_race y (take (place + 1) j))) same told.1)
+checked_history_race m lax s j place x None race lt free judged same =
+    subst (IsCheckVerdictRace (take (place + 1) j)) same judged.race
+checked_history_race m lax s j place x (Some y) race lt free told same =
+    checked_history_race_at_lie m lax s j place y race lt free told.0 (subst (IsCheckVerdictRace (check_verdict_race_events y (take (place + 1) j))) same told.1)
 
 -- what is faithful by the judge is so by the rules that it was made for
-pub checked_accepted_by : (r : Rules) (t : JudgedSizes) (j : List Event) (x : TraceJudge) → x.model ≡ r.model → x.lax ≡ r.lax
-    → x.sizes ≡ t → IsJudged j x → IsFaithfulAndCounted r.model r.lax (sizes_of t) j
-checked_accepted_by r t j x model lax sizes judged =
-    subst (λ m. IsFaithfulAndCounted m r.lax (sizes_of t) j) model
-    (subst (λ l. IsFaithfulAndCounted x.model l (sizes_of t) j) lax
-    (subst (λ y. IsFaithfulAndCounted x.model x.lax (sizes_of y) j) sizes judged.faithful))
+pub checked_history_by_rules : (r : Rules) (t : JudgedSizes) (j : List Event) (x : TraceJudge) → x.model ≡ r.model → x.lax ≡ r.lax
+    → x.sizes ≡ t → IsTraceJudgeOf j x → IsFaithfulAndCounted r.model r.lax (judged_sizes_of t) j
+checked_history_by_rules r t j x model lax sizes judged =
+    subst (λ m. IsFaithfulAndCounted m r.lax (judged_sizes_of t) j) model
+    (subst (λ l. IsFaithfulAndCounted x.model l (judged_sizes_of t) j) lax
+    (subst (λ y. IsFaithfulAndCounted x.model x.lax (judged_sizes_of y) j) sizes judged.faithful))
 
-pub checked_lie_by : (r : Rules) (t : JudgedSizes) (j : List Event) (x : TraceJudge) (y : Lie) → x.model ≡ r.model
-    → x.lax ≡ r.lax → x.sizes ≡ t → IsLie x.model x.lax (sizes_of x.sizes) j y
-    → IsLie r.model r.lax (sizes_of t) j y
-checked_lie_by r t j x y model lax sizes told =
-    subst (λ m. IsLie m r.lax (sizes_of t) j y) model
-    (subst (λ l. IsLie x.model l (sizes_of t) j y) lax
-    (subst (λ z. IsLie x.model x.lax (sizes_of z) j y) sizes told))
+pub checked_history_lie_by_rules : (r : Rules) (t : JudgedSizes) (j : List Event) (x : TraceJudge) (y : Lie) → x.model ≡ r.model
+    → x.lax ≡ r.lax → x.sizes ≡ t → IsCheckVerdictLie x.model x.lax (judged_sizes_of x.sizes) j y
+    → IsCheckVerdictLie r.model r.lax (judged_sizes_of t) j y
+checked_history_lie_by_rules r t j x y model lax sizes told =
+    subst (λ m. IsCheckVerdictLie m r.lax (judged_sizes_of t) j y) model
+    (subst (λ l. IsCheckVerdictLie x.model l (judged_sizes_of t) j y) lax
+    (subst (λ z. IsCheckVerdictLie x.model x.lax (judged_sizes_of z) j y) sizes told))
 
 -- without a race so far there is none
-pub checked_unraced_free : (j : List Event) (x : TraceJudge) → x.race ≡ None → IsJudged j x → RaceFree j
-checked_unraced_free j x none judged = subst (IsRaceOf j) none judged.race
+pub checked_history_race_free : (j : List Event) (x : TraceJudge) → x.race ≡ None → IsTraceJudgeOf j x → RaceFree j
+checked_history_race_free j x none judged = subst (IsCheckVerdictRace j) none judged.race

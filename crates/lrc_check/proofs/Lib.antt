@@ -1,6 +1,6 @@
 pub mod Accepting
 pub mod LyingTraces
-pub mod Judged
+pub mod JudgedRaces
 pub mod CheckedHistories
 pub mod FoundRaces
 pub mod ToldEvents

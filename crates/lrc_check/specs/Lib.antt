@@ -1,9 +1,9 @@
 pub mod Faithful
-pub mod Checked
-pub mod Judged
-pub mod Found
-pub mod Telling
-pub mod Told
+pub mod CheckVerdicts
+pub mod TraceJudge
+pub mod FoundInBytes
+pub mod ToldLines
+pub mod ToldTraces
 pub mod Unprotected
 pub mod Prelude
 pub mod Traces

@@ -1,12 +1,12 @@
 pub mod Sizes
-pub mod Text
+pub mod TraceText
 pub mod Labels
-pub mod Lawful
+pub mod LawfulTraces
 pub mod Begun
 pub mod Names
-pub mod Lines
+pub mod TraceLines
 pub mod Heads
-pub mod Faults
-pub mod Fed
+pub mod TraceFaults
+pub mod FedText
 pub mod Laws
 pub mod Prelude

@@ -1,9 +1,9 @@
 //! What the command `lrc check` says of a trace: whether such a memory could have made it, and if not, where not and why.
 //!
-//! **What contracts see.** `Checked` as it is. `IsAccepted` (specs/Faithful) says of a history that each event may follow
-//! what stands before it, lax or not, that each load answers what it may under the model (`IsOwed` of judge), and that under
-//! lazy release, unless lax, each fetch counts its gap. `IsJudged` says what a `TraceJudge` is by the events that it was told,
-//! `IsChecked` what each answer means, and `IsFoundOf` that it is true of the one trace with these bytes.
+//! **What contracts see.** `Checked` as it is. `IsFaithfulAndCounted` (specs/Faithful) says of a history that each event may follow
+//! what stands before it, lax or not, that each load answers what it may under the model (`IsModelAnswer` of judge), and that under
+//! lazy release, unless lax, each fetch counts its gap. `IsTraceJudgeOf` says what a `TraceJudge` is by the events that it was told,
+//! `IsTrueCheckVerdict` what each answer means, and `IsFoundInBytes` that it is true of the one trace with these bytes.
 //!
 //! **What is proved.** A `TraceJudge` takes an event at a time. It tells a lie as soon as that is read: what stands before it
 //! is faithful, and with it nothing is, however it goes on; and why. It tells the first race as soon as its second event is
@@ -16,20 +16,20 @@
 //! without need.
 #![tactic(auto)]
 
+mod check_fault;
 mod checked;
-mod checking;
-mod fault;
-mod history;
-mod judging;
-mod locksets;
-mod telling;
-mod text;
+mod checking_traces;
+mod telling_traces;
+mod trace_history;
+mod trace_judge;
 pub mod traces;
+mod unprotected;
+mod verdict_text;
 
+pub use check_fault::CheckFault;
 pub use checked::{Checked, Lie, Rules, TraceVerdict, Unexplained};
-pub use checking::{JudgedTrace, check, check_trace, judge_trace};
-pub use fault::CheckFault;
-pub use history::can_be_told;
-pub use judging::{TraceJudge, judge_history};
-pub use telling::{ToldTrace, tell_trace};
-pub use text::{AnswersTold, answers_told, reason_text};
+pub use checking_traces::{JudgedTrace, check, check_trace, judge_trace};
+pub use telling_traces::{ToldTrace, tell_trace};
+pub use trace_history::can_trace_history_be_told;
+pub use trace_judge::{TraceJudge, judge_history};
+pub use verdict_text::{AnswersTold, verdict_reason_text, verdict_text_answers};

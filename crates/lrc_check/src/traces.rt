@@ -4,9 +4,9 @@
 //! them: `event 8 1 fetch 0 1 1 1`, numbered from 0, each with its line feed, and nothing else. What stands on a line
 //! behind two spaces in a row is its label (module `labels`).
 //!
-//! **What contracts see.** A `Trace` as it is; its sizes as the journal's (`sizes_of`). `IsTrace` says which sizes
+//! **What contracts see.** A `Trace` as it is; its sizes as the journal's (`sizes_of`). `IsLawfulTrace` says which sizes
 //! and events a trace may have, `trace_text` what its bytes are, `bare` what a text is without its labels. `IsTraceFault` says
-//! what a fault says of such bytes. Of a `Reader`, `IsReadOf` says which bytes it was fed.
+//! what a fault says of such bytes. Of a `Reader`, `IsFedTextOf` says which bytes it was fed.
 //!
 //! **What is proved.** `trace::read` answers a trace only where it is one and the bytes are its text, and a fault
 //! only where they are no trace's, with the first line that isn't due. A `Reader` answers this of all its pieces'
@@ -17,13 +17,13 @@
 //! **What is only tested** (in `test_lrc`): which fault is answered among several on one line, the texts of the
 //! faults, and that memory isn't wanted needlessly.
 
-mod begun;
+mod event_name;
 pub mod fault;
 mod head;
 pub mod labels;
 pub mod laws;
-mod line;
-mod names;
 mod range;
 pub mod reader;
 pub mod trace;
+mod trace_event;
+mod trace_lines;

@@ -1,4 +1,4 @@
-pub mod Statuses
-pub mod Judging
-pub mod Serving
-pub mod Pictures
+pub mod StatusMeanings
+pub mod JudgedSources
+pub mod StudiedScripts
+pub mod DrawnHistories

@@ -1,6 +1,6 @@
-pub mod Statuses
-pub mod JudgedTraces
-pub mod Sampled
-pub mod Explained
-pub mod Searched
+pub mod ExitStatus
+pub mod TraceCommand
+pub mod SampleCommand
+pub mod ExplainCommand
+pub mod ExploreCommand
 pub mod Prelude

@@ -1,7 +1,8 @@
 -- The words that contracts name, passed on from one place. Declares nothing.
-pub use Rattle.lrc_commands.specs.Statuses.{IsStatusBeforeAnswer, IsInputsStatus, IsStudyStatusOf, study_status_of}
-pub use Rattle.lrc_commands.specs.JudgedTraces.{HasTraceText, IsFaithfulTrace, IsJudgedAs, IsNoTraceOf, IsRacyTrace, IsSmallTrace, IsToldAs, IsTraceReadSoFar, IsUnfaithfulTrace}
-pub use Rattle.lrc_commands.specs.JudgedTraces.{judged_model, judgement_in}
-pub use Rattle.lrc_commands.specs.Sampled.{IsSampleAnswer, IsSampleWritten, IsSampled, lock_asked}
-pub use Rattle.lrc_commands.specs.Explained.{IsEndAsked, IsExplained, IsRunExplained, ExplainedWritten, is_halted}
-pub use Rattle.lrc_commands.specs.Searched.{IsAllowedAnswer, IsAllowedFound, IsFoundWritten, IsSearchAnswer, IsSearchAsked, IsSearchWritten, IsShowingAnswer, IsShowingAsked, SearchWritten, search_detail}
+pub use Rattle.lrc_commands.specs.ExitStatus.{IsCommandExitStatusBeforeAnswer, IsCommandExitStatusOfInput, IsCommandExitStatusOf, command_exit_status_of}
+pub use Rattle.lrc_commands.specs.TraceCommand.{HasTraceCommandText, IsTraceCommandOnFaithful, IsTraceCommandJudgedAs, IsTraceCommandOnNone, IsTraceCommandOnRacy, IsTraceCommandOnSmall, IsTraceCommandToldAs, IsTraceCommandReadSoFar, IsTraceCommandOnUnfaithful}
+pub use Rattle.lrc_commands.specs.TraceCommand.{trace_command_model, trace_command_judgement}
+pub use Rattle.lrc_commands.specs.SampleCommand.{IsSampleCommandAnswer, IsSampleCommandWritten, IsSampleCommandOnSource, sample_command_lock}
+pub use Rattle.lrc_commands.specs.ExplainCommand.{IsExplainCommandEnd, IsExplainCommandOnSource, IsExplainCommandRun, ExplainCommandWritten, is_explain_command_halted}
+pub use Rattle.lrc_commands.specs.ExploreCommand.{IsExploreCommandAllowedAnswer, IsExploreCommandAllowedFound, IsExploreCommandFoundWritten, IsExploreCommandAnswer, IsExploreCommandAsked, IsExploreCommandSearchWritten, IsExploreCommandShowingAnswer, IsExploreCommandShowingAsked, ExploreCommandWritten, explore_command_detail}
+pub use Rattle.lrc_commands.specs.ExploreCommand.{IsExploreCommandAllowedShowing, IsExploreCommandAllowedShowingAnswer, IsExploreCommandShowingFound}

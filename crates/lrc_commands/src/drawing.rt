@@ -1,24 +1,24 @@
 //! The picture of a run or of a trace.
 ghost use Rattle.std.specs.Prelude.{ℕ, ◌-◌, ◌<◌, ◌≤◌, All, IfErr, IfOk, OnOk, length};
 ghost use Rattle.std.specs.Io.KnownBytes.{Keeps};
-ghost use Rattle.lrc_picture.specs.Prelude.{ArePlaces, CanBeDrawn};
-ghost use Rattle.lrc_commands.specs.Prelude.{IsStatusBeforeAnswer, IsInputsStatus};
+ghost use Rattle.lrc_picture.specs.Prelude.{AreArrowPlaces, HasPictureLayout};
+ghost use Rattle.lrc_commands.specs.Prelude.{IsCommandExitStatusBeforeAnswer, IsCommandExitStatusOfInput};
 
-use crate::fault::StudyFault;
+use crate::fault::CommandFault;
 use causes::{Part, hand_overs};
 use journal::Journal;
 use judge::History;
 use lrc_check::ToldTrace;
 use lrc_explain::{Sketch, ToldHistory, sketch_run, sketch_trace};
 use lrc_picture::changes::changes;
-use lrc_picture::page::{RunState, render_page};
 use lrc_picture::picture::render;
-use lrc_picture::story::{Details, Story, Subject};
+use lrc_picture::picture_page::{PicturePageState, render_picture_page};
+use lrc_picture::story::{Details, PictureStory, Subject};
 use std::alloc::{AllocError, Global};
 use std::io::Write;
 
 /// Adds the place, counted from `opening` on, unless it stands before that.
-fn add_place(left: &mut Vec<usize>, place: usize, opening: usize) -> Result<(), AllocError>
+fn add_drawing_place(left: &mut Vec<usize>, place: usize, opening: usize) -> Result<(), AllocError>
     ensures { OnOk result ((n : ℕ) → place < n → All (λ i. i < n - opening) left.old.items
         → All (λ i. i < n - opening) left.new.items) }
 {
@@ -29,45 +29,49 @@ fn add_place(left: &mut Vec<usize>, place: usize, opening: usize) -> Result<(), 
 }
 
 /// The places from `opening` on, counted from there.
-fn places_from(alloc: Global, places: &[usize], opening: usize) -> Result<Vec<usize>, AllocError>
+fn drawing_places_from(
+    alloc: Global,
+    places: &[usize],
+    opening: usize,
+) -> Result<Vec<usize>, AllocError>
     ensures { IfOk result (λ v. (n : ℕ) → All (λ i. i < n) places.now
         → All (λ i. i < n - opening) v.items) }
 {
     let mut left = Vec::new(alloc);
     for place in places {
-        add_place(&mut left, *place, opening)?;
+        add_drawing_place(&mut left, *place, opening)?;
     }
     Ok(left)
 }
 
 /// The rows from `opening` on, with the places from there on, counted from there.
-fn rows_from(
+fn drawing_rows_from(
     alloc: Global,
     rows: &[Vec<usize>],
     opening: usize,
 ) -> Result<Vec<Vec<usize>>, AllocError>
     requires opening { opening ≤ length rows.now }
-    requires places { ArePlaces (length rows.now) rows.now }
-    ensures { IfOk result (λ v. ArePlaces (length rows.now - opening) v.items) }
+    requires places { AreArrowPlaces (length rows.now) rows.now }
+    ensures { IfOk result (λ v. AreArrowPlaces (length rows.now - opening) v.items) }
 {
     let mut left = Vec::new(alloc);
     for row in opening..rows.len() {
-        left.push(places_from(alloc, &rows[row], opening)?)?;
+        left.push(drawing_places_from(alloc, &rows[row], opening)?)?;
     }
     Ok(left)
 }
 
 /// For each event that is left of the history the places, counted from the first of these, of the other processors' events by
 /// which its processor gets its news: of a lock the last release alone.
-fn arrows_of(alloc: Global, history: &History<'_>) -> Result<Vec<Vec<usize>>, AllocError>
-    ensures { IfOk result (λ v. ArePlaces (length history.now.events - history.now.opening) v.items) }
+fn drawing_arrows(alloc: Global, history: &History<'_>) -> Result<Vec<Vec<usize>>, AllocError>
+    ensures { IfOk result (λ v. AreArrowPlaces (length history.now.events - history.now.opening) v.items) }
 {
     let rows = hand_overs(alloc, history)?;
-    rows_from(alloc, &rows, history.opening())
+    drawing_rows_from(alloc, &rows, history.opening())
 }
 
 /// What the picture tells besides events and arrows.
-fn details_of(sketch: &Sketch) -> Details<'_> {
+fn drawing_details(sketch: &Sketch) -> Details<'_> {
     Details {
         notes: &sketch.notes,
         reads: &sketch.reads,
@@ -79,7 +83,7 @@ fn details_of(sketch: &Sketch) -> Details<'_> {
 
 /// How a run is drawn.
 #[derive(Clone, Copy)]
-pub(crate) struct Drawing<'a> {
+pub(crate) struct DrawingStyle<'a> {
     /// The name of the file, where there is one.
     pub name: Option<&'a str>,
     /// What of the run is drawn.
@@ -105,44 +109,44 @@ struct DrawnHistory<'a> {
 /// Draws the story of the history, as a picture or as a page that steps through it.
 fn draw_story<W: Write>(
     alloc: Global,
-    drawing: &Drawing<'_>,
-    story: &Story<'_>,
+    drawing: &DrawingStyle<'_>,
+    story: &PictureStory<'_>,
     drawn: &DrawnHistory<'_>,
     out: &mut W,
-) -> Result<(), StudyFault>
-    requires drawn { CanBeDrawn story.now.processors story.now.events.now story.now.incoming.now }
-    ensures runs { IfErr result (λ fault. IsInputsStatus fault → ⊥) }
+) -> Result<(), CommandFault>
+    requires drawn { HasPictureLayout story.now.processors story.now.events.now story.now.incoming.now }
+    ensures runs { IfErr result (λ fault. IsCommandExitStatusOfInput fault → ⊥) }
     ensures early { IfErr result
-        (λ fault. IsStatusBeforeAnswer fault → Keeps (W.contents out.old) (W.contents out.new)) }
+        (λ fault. IsCommandExitStatusBeforeAnswer fault → Keeps (W.contents out.old) (W.contents out.new)) }
 {
     if !drawing.is_page {
         render(alloc, story, &drawing.part, out)?;
         return Ok(());
     }
     let changes = changes(alloc, drawn.history)?;
-    let state = RunState {
+    let state = PicturePageState {
         history: drawn.history,
         words: drawn.words,
         changes: &changes,
     };
-    render_page(alloc, story, &drawing.part, &state, out)?;
+    render_picture_page(alloc, story, &drawing.part, &state, out)?;
     Ok(())
 }
 
 /// Draws the history.
 fn draw_history<W: Write>(
     alloc: Global,
-    drawing: &Drawing<'_>,
+    drawing: &DrawingStyle<'_>,
     drawn: &DrawnHistory<'_>,
     out: &mut W,
-) -> Result<(), StudyFault>
-    ensures runs { IfErr result (λ fault. IsInputsStatus fault → ⊥) }
+) -> Result<(), CommandFault>
+    ensures runs { IfErr result (λ fault. IsCommandExitStatusOfInput fault → ⊥) }
     ensures early { IfErr result
-        (λ fault. IsStatusBeforeAnswer fault → Keeps (W.contents out.old) (W.contents out.new)) }
+        (λ fault. IsCommandExitStatusBeforeAnswer fault → Keeps (W.contents out.old) (W.contents out.new)) }
 {
     let history = drawn.history;
-    let arrows = arrows_of(alloc, history)?;
-    let story = Story {
+    let arrows = drawing_arrows(alloc, history)?;
+    let story = PictureStory {
         subject: drawn.subject,
         name: drawing.name,
         processors: history.sizes().processors,
@@ -151,7 +155,7 @@ fn draw_history<W: Write>(
         first: history.cut_events(),
         race: drawn.race,
         halted: drawn.halted,
-        details: details_of(drawn.sketch),
+        details: drawing_details(drawn.sketch),
     };
     draw_story(alloc, drawing, &story, drawn, out)
 }
@@ -160,15 +164,15 @@ fn draw_history<W: Write>(
 /// output.
 pub(crate) fn draw<W: Write>(
     alloc: Global,
-    drawing: &Drawing<'_>,
+    drawing: &DrawingStyle<'_>,
     journal: &Journal,
     history: &History<'_>,
     halted: bool,
     out: &mut W,
-) -> Result<(), StudyFault>
-    ensures runs { IfErr result (λ fault. IsInputsStatus fault → ⊥) }
+) -> Result<(), CommandFault>
+    ensures runs { IfErr result (λ fault. IsCommandExitStatusOfInput fault → ⊥) }
     ensures early { IfErr result
-        (λ fault. IsStatusBeforeAnswer fault → Keeps (W.contents out.old) (W.contents out.new)) }
+        (λ fault. IsCommandExitStatusBeforeAnswer fault → Keeps (W.contents out.old) (W.contents out.new)) }
 {
     let sketch = sketch_run(alloc, history)?;
     let drawn = DrawnHistory {
@@ -183,7 +187,7 @@ pub(crate) fn draw<W: Write>(
 }
 
 /// Of what the picture of the trace is.
-fn subject_of(told: &ToldTrace<'_>) -> Subject {
+fn drawing_subject(told: &ToldTrace<'_>) -> Subject {
     if told.lie.is_some() {
         Subject::LyingTrace
     } else {
@@ -195,20 +199,20 @@ fn subject_of(told: &ToldTrace<'_>) -> Subject {
 /// out of memory and that of the output.
 pub(crate) fn draw_trace<W: Write>(
     alloc: Global,
-    drawing: &Drawing<'_>,
+    drawing: &DrawingStyle<'_>,
     told: &ToldTrace<'_>,
     history: &ToldHistory<'_>,
     pages: bool,
     out: &mut W,
-) -> Result<(), StudyFault>
-    ensures runs { IfErr result (λ fault. IsInputsStatus fault → ⊥) }
+) -> Result<(), CommandFault>
+    ensures runs { IfErr result (λ fault. IsCommandExitStatusOfInput fault → ⊥) }
     ensures early { IfErr result
-        (λ fault. IsStatusBeforeAnswer fault → Keeps (W.contents out.old) (W.contents out.new)) }
+        (λ fault. IsCommandExitStatusBeforeAnswer fault → Keeps (W.contents out.old) (W.contents out.new)) }
 {
     let sketch = sketch_trace(alloc, history, pages)?;
     let words = vec![in alloc; 0; history.history.addresses()]?;
     let drawn = DrawnHistory {
-        subject: subject_of(told),
+        subject: drawing_subject(told),
         history: history.history,
         race: told.race,
         halted: false,

@@ -2,29 +2,33 @@
 ghost use Rattle.std.specs.Prelude.{◌≡◌, ◌≢◌, IfErr, IfOk, OnOk, is_some, false, true};
 ghost use Rattle.std.specs.Io.KnownBytes.{Keeps};
 ghost use Rattle.lrc_script.specs.Prelude.{IsLawful, plan_of};
-ghost use Rattle.lrc_program.specs.Prelude.{IsNoScript};
-ghost use Rattle.lrc_commands.specs.Prelude.{IsStatusBeforeAnswer, IsEndAsked, IsExplained, IsInputsStatus, IsRunExplained, ExplainedWritten};
-ghost use Rattle.lrc_commands.specs.Prelude.{is_halted};
+ghost use Rattle.lrc_program.specs.Prelude.{IsServedWithoutScript};
+ghost use Rattle.lrc_commands.specs.Prelude.{IsCommandExitStatusBeforeAnswer, IsExplainCommandEnd, IsExplainCommandOnSource, IsCommandExitStatusOfInput, IsExplainCommandRun, ExplainCommandWritten};
+ghost use Rattle.lrc_commands.specs.Prelude.{is_explain_command_halted};
 
-use crate::drawing::{Drawing, draw};
-use crate::fault::{HALTED, StudyFault};
-use crate::locks::lock_of;
+use crate::drawing::{DrawingStyle, draw};
+use crate::fault::{CommandFault, HALTED};
+use crate::locks::command_lock_of;
 use causes::Part;
-use conformance::{Cause, Ended, RunFault, Runs, Schedule};
+use conformance::{Cause, Ended, RunFault, Schedule, ScriptRunner};
 use journal::Journal;
 use judge::{History, Sizes};
 use lrc_explain::{Extent, render};
 use lrc_options::options::{ExplainOptions, ShowOptions};
 use lrc_program::fault::ProgramFault;
-use lrc_program::program::{read_script, say_line};
+use lrc_program::program::{program_reads_script, program_says_line};
 use lrc_script::script::Script;
 use std::alloc::{AllocError, Global};
 use std::io::{Read, Write};
 use std::sync::Wait;
 
 /// The line that standard error gets of a run that can't go on; None if it ended.
-fn halt_line(alloc: Global, file: Option<&str>, ended: &Ended) -> Result<Option<String>, AllocError>
-    ensures { IfOk result (λ line. is_some line ≡ is_halted ended.now) }
+fn explain_command_halt_line(
+    alloc: Global,
+    file: Option<&str>,
+    ended: &Ended,
+) -> Result<Option<String>, AllocError>
+    ensures { IfOk result (λ line. is_some line ≡ is_explain_command_halted ended.now) }
 {
     match ended {
         Ended::Whole(_) => Ok(None),
@@ -39,7 +43,7 @@ fn halt_line(alloc: Global, file: Option<&str>, ended: &Ended) -> Result<Option<
 }
 
 /// The part of the history that is told or drawn.
-fn part_of(showing: &ShowOptions) -> Part {
+fn explain_command_part(showing: &ShowOptions) -> Part {
     Part {
         first: showing.events.first,
         end: showing.events.end,
@@ -48,25 +52,28 @@ fn part_of(showing: &ShowOptions) -> Part {
 }
 
 /// How much of the history is told, with its pages or without.
-pub(crate) fn extent_of(showing: &ShowOptions, pages: bool) -> Extent {
+pub(crate) fn explain_command_extent(showing: &ShowOptions, pages: bool) -> Extent {
     Extent {
-        part: part_of(showing),
+        part: explain_command_part(showing),
         pages,
         state: showing.state,
     }
 }
 
 /// How the history of the file of this name is drawn.
-pub(crate) fn drawing_of<'a>(name: Option<&'a str>, showing: &ShowOptions) -> Drawing<'a> {
-    Drawing {
+pub(crate) fn explain_command_drawing<'a>(
+    name: Option<&'a str>,
+    showing: &ShowOptions,
+) -> DrawingStyle<'a> {
+    DrawingStyle {
         name,
-        part: part_of(showing),
+        part: explain_command_part(showing),
         is_page: showing.page,
     }
 }
 
 /// The sizes of the script's memory.
-fn sizes_of(script: &Script) -> Sizes {
+fn explain_command_sizes(script: &Script) -> Sizes {
     Sizes {
         processors: script.processors,
         pages: script.pages,
@@ -77,7 +84,7 @@ fn sizes_of(script: &Script) -> Sizes {
 }
 
 /// The journal of the run, and whether the run can't go on.
-fn journal_of(ended: &Ended) -> (&Journal, bool) {
+fn explain_command_journal(ended: &Ended) -> (&Journal, bool) {
     match ended {
         Ended::Whole(report) => (&report.journal, false),
         Ended::Halted(halt) => (&halt.journal, true),
@@ -85,45 +92,45 @@ fn journal_of(ended: &Ended) -> (&Journal, bool) {
 }
 
 /// Tells how a run of the script ended, or draws it.
-fn print_end<W: Write>(
+fn explain_command_prints_end<W: Write>(
     alloc: Global,
     options: &ExplainOptions,
     script: &Script,
     ended: &Ended,
     out: &mut W,
-) -> Result<(), StudyFault>
-    ensures told { OnOk result (ExplainedWritten options.now.showing.picture
+) -> Result<(), CommandFault>
+    ensures told { OnOk result (ExplainCommandWritten options.now.showing.picture
         (W.contents out.old) (W.contents out.new) ended.now) }
-    ensures runs { IfErr result (λ fault. IsInputsStatus fault → ⊥) }
+    ensures runs { IfErr result (λ fault. IsCommandExitStatusOfInput fault → ⊥) }
     ensures early { IfErr result
-        (λ fault. IsStatusBeforeAnswer fault → Keeps (W.contents out.old) (W.contents out.new)) }
+        (λ fault. IsCommandExitStatusBeforeAnswer fault → Keeps (W.contents out.old) (W.contents out.new)) }
 {
-    let (journal, halted) = journal_of(ended);
-    let Some(history) = History::of_journal(sizes_of(script), journal) else {
-        return Err(StudyFault::Untold);
+    let (journal, halted) = explain_command_journal(ended);
+    let Some(history) = History::of_journal(explain_command_sizes(script), journal) else {
+        return Err(CommandFault::Untold);
     };
     if options.showing.picture {
-        let drawing = drawing_of(options.file.as_deref(), &options.showing);
+        let drawing = explain_command_drawing(options.file.as_deref(), &options.showing);
         return draw(alloc, &drawing, journal, &history, halted, out);
     }
-    let extent = extent_of(&options.showing, true);
+    let extent = explain_command_extent(&options.showing, true);
     render(alloc, &history, &extent, ended, out)?;
     Ok(())
 }
 
 /// Runs a script by turns, as the options say.
-fn end_of<T: Runs, R: Wait>(
+fn explain_command_end<T: ScriptRunner, R: Wait>(
     runs: &T,
     rt: &R,
     alloc: Global,
     options: &ExplainOptions,
     script: &Script,
-) -> Result<Ended, StudyFault>
+) -> Result<Ended, CommandFault>
     requires { IsLawful (plan_of script.now) }
-    ensures end { IfOk result (IsEndAsked options.now (plan_of script.now)) }
-    ensures runs { IfErr result (λ fault. IsInputsStatus fault → ⊥) }
+    ensures end { IfOk result (IsExplainCommandEnd options.now (plan_of script.now)) }
+    ensures runs { IfErr result (λ fault. IsCommandExitStatusOfInput fault → ⊥) }
 {
-    let lock = lock_of(options.ticket);
+    let lock = command_lock_of(options.ticket);
     match options.schedule.as_deref() {
         Some(text) => {
             let schedule = Schedule::parse(alloc, text)?;
@@ -135,29 +142,29 @@ fn end_of<T: Runs, R: Wait>(
 
 /// Runs a script and tells the run, or draws it. Answers the line that standard error gets if it can't go on: there is
 /// memory for that before anything is written.
-fn print_run<T: Runs, R: Wait, W: Write>(
+fn explain_command_prints_run<T: ScriptRunner, R: Wait, W: Write>(
     runs: &T,
     rt: &R,
     alloc: Global,
     options: &ExplainOptions,
     script: &Script,
     out: &mut W,
-) -> Result<Option<String>, StudyFault>
+) -> Result<Option<String>, CommandFault>
     requires { IsLawful (plan_of script.now) }
-    ensures told { IfOk result (λ line. IsRunExplained options.now.showing.picture (is_some line)
+    ensures told { IfOk result (λ line. IsExplainCommandRun options.now.showing.picture (is_some line)
         options.now (plan_of script.now) (W.contents out.old) (W.contents out.new)) }
-    ensures runs { IfErr result (λ fault. IsInputsStatus fault → ⊥) }
+    ensures runs { IfErr result (λ fault. IsCommandExitStatusOfInput fault → ⊥) }
     ensures early { IfErr result
-        (λ fault. IsStatusBeforeAnswer fault → Keeps (W.contents out.old) (W.contents out.new)) }
+        (λ fault. IsCommandExitStatusBeforeAnswer fault → Keeps (W.contents out.old) (W.contents out.new)) }
 {
-    let ended = end_of(runs, rt, alloc, options, script)?;
-    let line = halt_line(alloc, options.file.as_deref(), &ended)?;
-    print_end(alloc, options, script, &ended, out)?;
+    let ended = explain_command_end(runs, rt, alloc, options, script)?;
+    let line = explain_command_halt_line(alloc, options.file.as_deref(), &ended)?;
+    explain_command_prints_end(alloc, options, script, &ended, out)?;
     Ok(line)
 }
 
 /// Reads a script, runs it and tells the run, or draws it.
-fn explain_script<T: Runs, R: Wait, S: Read, W: Write>(
+fn explain_command_on_script<T: ScriptRunner, R: Wait, S: Read, W: Write>(
     runs: &T,
     rt: &R,
     alloc: Global,
@@ -165,21 +172,21 @@ fn explain_script<T: Runs, R: Wait, S: Read, W: Write>(
     source: &mut S,
     refused: &mut Vec<u8>,
     out: &mut W,
-) -> Result<Option<String>, StudyFault>
-    ensures explained { IfOk result (λ line. IsExplained options.now.showing.picture (is_some line)
+) -> Result<Option<String>, CommandFault>
+    ensures explained { IfOk result (λ line. IsExplainCommandOnSource options.now.showing.picture (is_some line)
         options.now (S.remaining source.old) (W.contents out.old) (W.contents out.new)) }
-    ensures refused { IfErr result (λ fault. IsInputsStatus fault → IsNoScript (S.remaining source.old)) }
+    ensures refused { IfErr result (λ fault. IsCommandExitStatusOfInput fault → IsServedWithoutScript (S.remaining source.old)) }
     ensures early { IfErr result
-        (λ fault. IsStatusBeforeAnswer fault → Keeps (W.contents out.old) (W.contents out.new)) }
+        (λ fault. IsCommandExitStatusBeforeAnswer fault → Keeps (W.contents out.old) (W.contents out.new)) }
 {
-    let script = read_script(alloc, source, refused)?;
-    print_run(runs, rt, alloc, options, &script, out)
+    let script = program_reads_script(alloc, source, refused)?;
+    explain_command_prints_run(runs, rt, alloc, options, &script, out)
 }
 
 /// Runs the script of `source` by turns as the options say, and tells the run on `out`, or draws it there. If there is
 /// none, or if it can't go on, one line goes to `err`. Answers the exit status. The file that the options name isn't
 /// opened here.
-pub fn explain_program<T: Runs, R: Wait, S: Read, W: Write, E: Write>(
+pub fn run_explain_command<T: ScriptRunner, R: Wait, S: Read, W: Write, E: Write>(
     runs: &T,
     rt: &R,
     alloc: Global,
@@ -189,15 +196,15 @@ pub fn explain_program<T: Runs, R: Wait, S: Read, W: Write, E: Write>(
     err: &mut E,
 ) -> u8
     // The script that was read was run by turns to its end, and the run was told whole.
-    ensures whole { result ≡ 0 → IsExplained options.now.showing.picture false
+    ensures whole { result ≡ 0 → IsExplainCommandOnSource options.now.showing.picture false
         options.now
         (S.remaining source.old) (W.contents out.old) (W.contents out.new) }
     // It was run so as far as it goes, and can't go on; so far it was told whole.
-    ensures halted { result ≡ 3 → IsExplained options.now.showing.picture true
+    ensures halted { result ≡ 3 → IsExplainCommandOnSource options.now.showing.picture true
         options.now
         (S.remaining source.old) (W.contents out.old) (W.contents out.new) }
     // What is refused as a script is none.
-    ensures refused { result ≡ 2 → IsNoScript (S.remaining source.old) }
+    ensures refused { result ≡ 2 → IsServedWithoutScript (S.remaining source.old) }
     // At any status but 4, a run is told whole or not at all.
     ensures early { result ≢ 0 → result ≢ 3 → result ≢ 4
         → Keeps (W.contents out.old) (W.contents out.new) }
@@ -205,9 +212,9 @@ pub fn explain_program<T: Runs, R: Wait, S: Read, W: Write, E: Write>(
     ensures quiet { result ≡ 0 → Keeps (E.contents err.old) (E.contents err.new) }
 {
     let mut refused = Vec::new(alloc);
-    match explain_script(runs, rt, alloc, options, source, &mut refused, out) {
+    match explain_command_on_script(runs, rt, alloc, options, source, &mut refused, out) {
         Ok(None) => 0,
-        Ok(Some(line)) => say_line(Ok(line), HALTED, err),
+        Ok(Some(line)) => program_says_line(Ok(line), HALTED, err),
         Err(fault) => fault
             .of_told()
             .say(alloc, options.file.as_deref(), &refused, err),

@@ -2,19 +2,25 @@
 ghost use Rattle.std.specs.Prelude.{◌≡◌, ◌≢◌, IfErr, IfOk, OnOk, false, true};
 ghost use Rattle.std.specs.Io.KnownBytes.{Keeps};
 ghost use Rattle.lrc_script.specs.Prelude.{IsLawful, plan_of};
-ghost use Rattle.lrc_program.specs.Prelude.{IsNoScript};
-ghost use Rattle.lrc_commands.specs.Prelude.{IsStatusBeforeAnswer, IsInputsStatus, IsSearchAnswer, IsSearchAsked, IsSearchWritten, SearchWritten};
-ghost use Rattle.lrc_commands.specs.Prelude.{IsAllowedAnswer, IsAllowedFound, IsFoundWritten, IsShowingAnswer, IsShowingAsked, search_detail};
+ghost use Rattle.lrc_program.specs.Prelude.{IsServedWithoutScript};
+ghost use Rattle.lrc_commands.specs.Prelude.{IsCommandExitStatusBeforeAnswer, IsCommandExitStatusOfInput, IsExploreCommandAnswer, IsExploreCommandAsked, IsExploreCommandSearchWritten, ExploreCommandWritten};
+ghost use Rattle.lrc_commands.specs.Prelude.{IsExploreCommandAllowedAnswer, IsExploreCommandAllowedFound, IsExploreCommandFoundWritten, IsExploreCommandShowingAnswer, IsExploreCommandShowingAsked, explore_command_detail};
+ghost use Rattle.lrc_commands.specs.Prelude.{IsExploreCommandAllowedShowing, IsExploreCommandAllowedShowingAnswer, IsExploreCommandShowingFound};
 
-use crate::fault::StudyFault;
+use crate::fault::CommandFault;
 use explore::{
-    AllowedOutcomes, Detail, Explored, ExploredUntil, Progress, Verdict, allowed_outcomes, explore,
-    explore_until,
+    AllowedOutcomes, AllowedUntil, Detail, Explored, ExploredUntil, Progress, Showing, Verdict,
+    allowed_outcomes, allowed_until, explore, explore_until,
 };
-use lrc_explore::{render, render_allowed, render_showing, unshown_address};
-use lrc_json::{write_allowed, write_explored, write_showing};
+use lrc_explore::{
+    render, render_allowed_showing_text, render_allowed_text, render_showing_text,
+    unshown_asked_address,
+};
+use lrc_json::{
+    write_allowed_json, write_allowed_showing_json, write_explored_json, write_showing_json,
+};
 use lrc_options::options::{ExploreOptions, OutcomeDetail};
-use lrc_program::program::read_script;
+use lrc_program::program::program_reads_script;
 use lrc_script::script::Script;
 use std::alloc::Global;
 use std::io::{Read, Write};
@@ -23,8 +29,8 @@ use std::io::{Read, Write};
 const UNDECIDED: u8 = 7;
 
 /// What outcomes tell, by the options.
-fn search_detail(outcomes: OutcomeDetail) -> Detail
-    ensures { result ≡ search_detail outcomes }
+fn explore_command_detail(outcomes: OutcomeDetail) -> Detail
+    ensures { result ≡ explore_command_detail outcomes }
 {
     match outcomes {
         OutcomeDetail::Words => Detail::Words,
@@ -34,203 +40,272 @@ fn search_detail(outcomes: OutcomeDetail) -> Detail
 }
 
 /// Writes what was found of all schedules of a script, as text or as JSON.
-fn write_search<W: Write>(
+fn explore_command_writes_search<W: Write>(
     alloc: Global,
     json: bool,
     script: &Script,
     explored: &Explored,
     out: &mut W,
-) -> Result<(), StudyFault>
-    ensures written { OnOk result (IsSearchAnswer json (W.contents out.old) (W.contents out.new) explored.now) }
-    ensures runs { IfErr result (λ fault. IsInputsStatus fault → ⊥) }
+) -> Result<(), CommandFault>
+    ensures written { OnOk result (IsExploreCommandAnswer json (W.contents out.old) (W.contents out.new) explored.now) }
+    ensures runs { IfErr result (λ fault. IsCommandExitStatusOfInput fault → ⊥) }
     ensures early { IfErr result
-        (λ fault. IsStatusBeforeAnswer fault → Keeps (W.contents out.old) (W.contents out.new)) }
+        (λ fault. IsCommandExitStatusBeforeAnswer fault → Keeps (W.contents out.old) (W.contents out.new)) }
 {
     if json {
-        return Ok(write_explored(alloc, &script.shown, explored, out)?);
+        return Ok(write_explored_json(alloc, &script.shown, explored, out)?);
     }
     Ok(render(alloc, script, explored, out)?)
 }
 
 /// Writes whether a run of a script ends with words that were asked for, as text or as JSON.
-fn write_answer<W: Write>(
+fn explore_command_writes_answer<W: Write>(
     alloc: Global,
     json: bool,
     script: &Script,
     explored: &ExploredUntil,
     out: &mut W,
-) -> Result<(), StudyFault>
-    ensures written { OnOk result (IsShowingAnswer json (W.contents out.old) (W.contents out.new) explored.now) }
-    ensures runs { IfErr result (λ fault. IsInputsStatus fault → ⊥) }
+) -> Result<(), CommandFault>
+    ensures written { OnOk result (IsExploreCommandShowingAnswer json (W.contents out.old) (W.contents out.new) explored.now) }
+    ensures runs { IfErr result (λ fault. IsCommandExitStatusOfInput fault → ⊥) }
     ensures early { IfErr result
-        (λ fault. IsStatusBeforeAnswer fault → Keeps (W.contents out.old) (W.contents out.new)) }
+        (λ fault. IsCommandExitStatusBeforeAnswer fault → Keeps (W.contents out.old) (W.contents out.new)) }
 {
     if json {
-        return Ok(write_showing(alloc, script, explored, out)?);
+        return Ok(write_showing_json(alloc, script, explored, out)?);
     }
-    Ok(render_showing(alloc, script, explored, out)?)
+    Ok(render_showing_text(alloc, script, explored, out)?)
 }
 
 /// Writes what was found of all schedules of a racy script, and what the rules of the memory allow, as text or as JSON.
-fn write_search_allowed<W: Write>(
+fn explore_command_writes_allowed<W: Write>(
     alloc: Global,
     json: bool,
     script: &Script,
     explored: &Explored,
     allowed: &AllowedOutcomes,
     out: &mut W,
-) -> Result<(), StudyFault>
-    ensures written { OnOk result (IsAllowedAnswer json (W.contents out.old) (W.contents out.new) explored.now allowed.now) }
-    ensures runs { IfErr result (λ fault. IsInputsStatus fault → ⊥) }
+) -> Result<(), CommandFault>
+    ensures written { OnOk result (IsExploreCommandAllowedAnswer json (W.contents out.old) (W.contents out.new) explored.now allowed.now) }
+    ensures runs { IfErr result (λ fault. IsCommandExitStatusOfInput fault → ⊥) }
     ensures early { IfErr result
-        (λ fault. IsStatusBeforeAnswer fault → Keeps (W.contents out.old) (W.contents out.new)) }
+        (λ fault. IsCommandExitStatusBeforeAnswer fault → Keeps (W.contents out.old) (W.contents out.new)) }
 {
     if json {
-        return Ok(write_allowed(alloc, &script.shown, explored, allowed, out)?);
+        return Ok(write_allowed_json(alloc, &script.shown, explored, allowed, out)?);
     }
-    Ok(render_allowed(alloc, script, explored, allowed, out)?)
+    Ok(render_allowed_text(alloc, script, explored, allowed, out)?)
+}
+
+/// Writes that a schedule of a script races, and whether the rules of the memory allow a run that ends with words that were asked for, as text or
+/// as JSON.
+fn explore_command_writes_allowed_showing<W: Write>(
+    alloc: Global,
+    json: bool,
+    script: &Script,
+    explored: &ExploredUntil,
+    allowed: &AllowedUntil,
+    out: &mut W,
+) -> Result<(), CommandFault>
+    ensures written { OnOk result (IsExploreCommandAllowedShowingAnswer json (W.contents out.old) (W.contents out.new) explored.now allowed.now) }
+    ensures runs { IfErr result (λ fault. IsCommandExitStatusOfInput fault → ⊥) }
+    ensures early { IfErr result
+        (λ fault. IsCommandExitStatusBeforeAnswer fault → Keeps (W.contents out.old) (W.contents out.new)) }
+{
+    if json {
+        return Ok(write_allowed_showing_json(alloc, script, explored, allowed, out)?);
+    }
+    Ok(render_allowed_showing_text(alloc, script, explored, allowed, out)?)
 }
 
 /// Looks for all that the rules of the memory allow of a racy script, and writes it with what was found of its schedules. Answers whether
 /// nothing is open.
-fn print_allowed<W: Write, P: Progress>(
+fn explore_command_prints_allowed<W: Write, P: Progress>(
     alloc: Global,
     options: &ExploreOptions,
     script: &Script,
     explored: &Explored,
     out: &mut W,
     progress: &mut P,
-) -> Result<bool, StudyFault>
+) -> Result<bool, CommandFault>
     requires { IsLawful (plan_of script.now) }
-    ensures written { IfOk result (λ decided. IsAllowedFound options.now.outcomes options.now.most decided options.now.json
+    ensures written { IfOk result (λ decided. IsExploreCommandAllowedFound options.now.outcomes options.now.most decided options.now.json
         (plan_of script.now) explored.now (W.contents out.old) (W.contents out.new)) }
-    ensures runs { IfErr result (λ fault. IsInputsStatus fault → ⊥) }
+    ensures runs { IfErr result (λ fault. IsCommandExitStatusOfInput fault → ⊥) }
     ensures early { IfErr result
-        (λ fault. IsStatusBeforeAnswer fault → Keeps (W.contents out.old) (W.contents out.new)) }
+        (λ fault. IsCommandExitStatusBeforeAnswer fault → Keeps (W.contents out.old) (W.contents out.new)) }
 {
-    let detail = search_detail(options.outcomes);
+    let detail = explore_command_detail(options.outcomes);
     let allowed = allowed_outcomes(alloc, script, detail, options.most as usize, progress)?;
-    write_search_allowed(alloc, options.json, script, explored, &allowed, out)?;
+    explore_command_writes_allowed(alloc, options.json, script, explored, &allowed, out)?;
     Ok(allowed.are_all)
 }
 
 /// Writes what was found of all schedules of a script. Answers whether nothing is open.
-fn print_found<W: Write>(
+fn explore_command_prints_found<W: Write>(
     alloc: Global,
     options: &ExploreOptions,
     script: &Script,
     explored: &Explored,
     out: &mut W,
-) -> Result<bool, StudyFault>
-    ensures written { IfOk result (λ decided. IsFoundWritten decided options.now.json explored.now
+) -> Result<bool, CommandFault>
+    ensures written { IfOk result (λ decided. IsExploreCommandFoundWritten decided options.now.json explored.now
         (W.contents out.old) (W.contents out.new)) }
-    ensures runs { IfErr result (λ fault. IsInputsStatus fault → ⊥) }
+    ensures runs { IfErr result (λ fault. IsCommandExitStatusOfInput fault → ⊥) }
     ensures early { IfErr result
-        (λ fault. IsStatusBeforeAnswer fault → Keeps (W.contents out.old) (W.contents out.new)) }
+        (λ fault. IsCommandExitStatusBeforeAnswer fault → Keeps (W.contents out.old) (W.contents out.new)) }
 {
-    write_search(alloc, options.json, script, explored, out)?;
+    explore_command_writes_search(alloc, options.json, script, explored, out)?;
     Ok(explored.is_settled())
 }
 
 /// Looks at all schedules of a script, and writes what was found; of a racy one what the rules of the memory allow, too. Answers whether
 /// nothing is open.
-fn print_search<W: Write, P: Progress>(
+fn explore_command_prints_search<W: Write, P: Progress>(
     alloc: Global,
     options: &ExploreOptions,
     script: &Script,
     out: &mut W,
     progress: &mut P,
-) -> Result<bool, StudyFault>
+) -> Result<bool, CommandFault>
     requires { IsLawful (plan_of script.now) }
-    ensures written { IfOk result (λ decided. IsSearchWritten options.now.outcomes options.now.most decided options.now.json
+    ensures written { IfOk result (λ decided. IsExploreCommandSearchWritten options.now.outcomes options.now.most decided options.now.json
         (plan_of script.now) (W.contents out.old) (W.contents out.new)) }
-    ensures runs { IfErr result (λ fault. IsInputsStatus fault → ⊥) }
+    ensures runs { IfErr result (λ fault. IsCommandExitStatusOfInput fault → ⊥) }
     ensures early { IfErr result
-        (λ fault. IsStatusBeforeAnswer fault → Keeps (W.contents out.old) (W.contents out.new)) }
+        (λ fault. IsCommandExitStatusBeforeAnswer fault → Keeps (W.contents out.old) (W.contents out.new)) }
 {
-    let detail = search_detail(options.outcomes);
+    let detail = explore_command_detail(options.outcomes);
     let explored = explore(alloc, script, detail, options.most as usize, progress)?;
     match &explored.verdict {
-        Verdict::Racy(_) => print_allowed(alloc, options, script, &explored, out, progress),
-        _ => print_found(alloc, options, script, &explored, out),
+        Verdict::Racy(_) => explore_command_prints_allowed(
+            alloc, options, script, &explored, out, progress,
+        ),
+        _ => explore_command_prints_found(alloc, options, script, &explored, out),
     }
 }
 
-/// Looks for a run of a script that ends with the words that the options give, and writes what was found. Answers whether
-/// nothing is open.
-fn print_showing<W: Write, P: Progress>(
+/// Looks for a run of a racy script that the rules of the memory allow, and that ends with the words that the options give, and writes what was found
+/// with the schedule that races. Answers whether nothing is open.
+fn explore_command_prints_allowed_showing<W: Write, P: Progress>(
+    alloc: Global,
+    options: &ExploreOptions,
+    script: &Script,
+    explored: &ExploredUntil,
+    out: &mut W,
+    progress: &mut P,
+) -> Result<bool, CommandFault>
+    requires { IsLawful (plan_of script.now) }
+    ensures written { IfOk result (λ decided. IsExploreCommandAllowedShowing options.now.outcomes options.now.until.items options.now.most decided
+        options.now.json (plan_of script.now) explored.now (W.contents out.old) (W.contents out.new)) }
+    ensures runs { IfErr result (λ fault. IsCommandExitStatusOfInput fault → ⊥) }
+    ensures early { IfErr result
+        (λ fault. IsCommandExitStatusBeforeAnswer fault → Keeps (W.contents out.old) (W.contents out.new)) }
+{
+    let detail = explore_command_detail(options.outcomes);
+    let most = options.most as usize;
+    let allowed = allowed_until(alloc, script, detail, &options.until, most, progress)?;
+    explore_command_writes_allowed_showing(alloc, options.json, script, explored, &allowed, out)?;
+    Ok(allowed.is_settled())
+}
+
+/// Writes whether a run of a script ends with words that were asked for. Answers whether nothing is open.
+fn explore_command_prints_answer<W: Write>(
+    alloc: Global,
+    options: &ExploreOptions,
+    script: &Script,
+    explored: &ExploredUntil,
+    out: &mut W,
+) -> Result<bool, CommandFault>
+    ensures written { IfOk result (λ decided. IsExploreCommandShowingFound decided options.now.json explored.now
+        (W.contents out.old) (W.contents out.new)) }
+    ensures runs { IfErr result (λ fault. IsCommandExitStatusOfInput fault → ⊥) }
+    ensures early { IfErr result
+        (λ fault. IsCommandExitStatusBeforeAnswer fault → Keeps (W.contents out.old) (W.contents out.new)) }
+{
+    explore_command_writes_answer(alloc, options.json, script, explored, out)?;
+    Ok(explored.is_settled())
+}
+
+/// Looks for a run of a script that ends with the words that the options give, of a racy one for one that the rules of the memory allow, and writes
+/// what was found. Answers whether nothing is open.
+fn explore_command_prints_showing<W: Write, P: Progress>(
     alloc: Global,
     options: &ExploreOptions,
     script: &Script,
     out: &mut W,
     progress: &mut P,
-) -> Result<bool, StudyFault>
+) -> Result<bool, CommandFault>
     requires { IsLawful (plan_of script.now) }
-    ensures written { IfOk result (λ decided. IsShowingAsked options.now.outcomes options.now.until.items options.now.most decided options.now.json
+    ensures written { IfOk result (λ decided. IsExploreCommandShowingAsked options.now.outcomes options.now.until.items options.now.most decided options.now.json
         (plan_of script.now) (W.contents out.old) (W.contents out.new)) }
-    ensures runs { IfErr result (λ fault. IsInputsStatus fault → ⊥) }
+    ensures runs { IfErr result (λ fault. IsCommandExitStatusOfInput fault → ⊥) }
     ensures early { IfErr result
-        (λ fault. IsStatusBeforeAnswer fault → Keeps (W.contents out.old) (W.contents out.new)) }
+        (λ fault. IsCommandExitStatusBeforeAnswer fault → Keeps (W.contents out.old) (W.contents out.new)) }
 {
-    if let Some(address) = unshown_address(&script.shown, &options.until) {
-        return Err(StudyFault::Unshown(address));
+    if let Some(address) = unshown_asked_address(&script.shown, &options.until) {
+        return Err(CommandFault::Unshown(address));
     }
     let explored = explore_until(
         alloc,
         script,
-        search_detail(options.outcomes),
+        explore_command_detail(options.outcomes),
         &options.until,
         options.most as usize,
         progress,
     )?;
-    write_answer(alloc, options.json, script, &explored, out)?;
-    Ok(explored.is_settled())
+    match &explored.showing {
+        Showing::Racy(_) => explore_command_prints_allowed_showing(
+            alloc, options, script, &explored, out, progress,
+        ),
+        _ => explore_command_prints_answer(alloc, options, script, &explored, out),
+    }
 }
 
 /// Looks for what the options ask for, and writes what was found. Answers whether nothing is open.
-fn print_asked<W: Write, P: Progress>(
+fn explore_command_prints_asked<W: Write, P: Progress>(
     alloc: Global,
     options: &ExploreOptions,
     script: &Script,
     out: &mut W,
     progress: &mut P,
-) -> Result<bool, StudyFault>
+) -> Result<bool, CommandFault>
     requires { IsLawful (plan_of script.now) }
-    ensures written { IfOk result (λ decided. IsSearchAsked options.now.outcomes options.now.until.items options.now.most decided options.now.json
+    ensures written { IfOk result (λ decided. IsExploreCommandAsked options.now.outcomes options.now.until.items options.now.most decided options.now.json
         (plan_of script.now) (W.contents out.old) (W.contents out.new)) }
-    ensures runs { IfErr result (λ fault. IsInputsStatus fault → ⊥) }
+    ensures runs { IfErr result (λ fault. IsCommandExitStatusOfInput fault → ⊥) }
     ensures early { IfErr result
-        (λ fault. IsStatusBeforeAnswer fault → Keeps (W.contents out.old) (W.contents out.new)) }
+        (λ fault. IsCommandExitStatusBeforeAnswer fault → Keeps (W.contents out.old) (W.contents out.new)) }
 {
     if options.until.is_empty() {
-        print_search(alloc, options, script, out, progress)
+        explore_command_prints_search(alloc, options, script, out, progress)
     } else {
-        print_showing(alloc, options, script, out, progress)
+        explore_command_prints_showing(alloc, options, script, out, progress)
     }
 }
 
 /// Reads a script, looks for what the options ask for, and writes what was found.
-fn explore_script<S: Read, W: Write, P: Progress>(
+fn explore_command_on_script<S: Read, W: Write, P: Progress>(
     alloc: Global,
     options: &ExploreOptions,
     source: &mut S,
     refused: &mut Vec<u8>,
     out: &mut W,
     progress: &mut P,
-) -> Result<bool, StudyFault>
-    ensures searched { IfOk result (λ decided. SearchWritten options.now decided
+) -> Result<bool, CommandFault>
+    ensures searched { IfOk result (λ decided. ExploreCommandWritten options.now decided
         (S.remaining source.old) (W.contents out.old) (W.contents out.new)) }
-    ensures refused { IfErr result (λ fault. IsInputsStatus fault → IsNoScript (S.remaining source.old)) }
+    ensures refused { IfErr result (λ fault. IsCommandExitStatusOfInput fault → IsServedWithoutScript (S.remaining source.old)) }
     ensures early { IfErr result
-        (λ fault. IsStatusBeforeAnswer fault → Keeps (W.contents out.old) (W.contents out.new)) }
+        (λ fault. IsCommandExitStatusBeforeAnswer fault → Keeps (W.contents out.old) (W.contents out.new)) }
 {
-    let script = read_script(alloc, source, refused)?;
-    print_asked(alloc, options, &script, out, progress)
+    let script = program_reads_script(alloc, source, refused)?;
+    explore_command_prints_asked(alloc, options, &script, out, progress)
 }
 
 /// Looks at all schedules of the script of `source`, and for what the rules of the memory allow if it is racy, or for a run that ends
 /// with the words that the options give, and writes what was found to `out`, or why nothing was to `err`; answers the exit status. The file that the options name isn't opened here. `progress` is told now and then how far the search is.
-pub fn explore_program<S: Read, W: Write, E: Write, P: Progress>(
+pub fn run_explore_command<S: Read, W: Write, E: Write, P: Progress>(
     alloc: Global,
     options: &ExploreOptions,
     source: &mut S,
@@ -239,13 +314,13 @@ pub fn explore_program<S: Read, W: Write, E: Write, P: Progress>(
     progress: &mut P,
 ) -> u8
     // What the options ask for was looked for in the script that was read, to its end, and what was found was written, whole.
-    ensures decided { result ≡ 0 → SearchWritten options.now true (S.remaining source.old)
+    ensures decided { result ≡ 0 → ExploreCommandWritten options.now true (S.remaining source.old)
         (W.contents out.old) (W.contents out.new) }
     // The search was given up after as many states as the options say, or as fit, and what it had found was written.
-    ensures undecided { result ≡ 7 → SearchWritten options.now false (S.remaining source.old)
+    ensures undecided { result ≡ 7 → ExploreCommandWritten options.now false (S.remaining source.old)
         (W.contents out.old) (W.contents out.new) }
     // What is refused as a script is none.
-    ensures refused { result ≡ 2 → IsNoScript (S.remaining source.old) }
+    ensures refused { result ≡ 2 → IsServedWithoutScript (S.remaining source.old) }
     // At any status but 4, the text is written whole or not at all.
     ensures early { result ≢ 0 → result ≢ 7 → result ≢ 4
         → Keeps (W.contents out.old) (W.contents out.new) }
@@ -254,7 +329,7 @@ pub fn explore_program<S: Read, W: Write, E: Write, P: Progress>(
     ensures quiet_too { result ≡ 7 → Keeps (E.contents err.old) (E.contents err.new) }
 {
     let mut refused = Vec::new(alloc);
-    match explore_script(alloc, options, source, &mut refused, out, progress) {
+    match explore_command_on_script(alloc, options, source, &mut refused, out, progress) {
         Ok(true) => 0,
         Ok(false) => UNDECIDED,
         Err(fault) => fault.say(alloc, options.file.as_deref(), &refused, err),

@@ -7,15 +7,15 @@
 //! **What contracts see.** A reader by the bytes that it has left (`remaining`), a writer by those that it was given
 //! (`contents`). Scripts are run by whatever has the contract `Runs`.
 //!
-//! **What is proved.** `check_program` judges a trace: it answers 0 only if the source had the text of a faithful one,
-//! 6 only if it had one that isn't faithful, 2 only if it had none; `tell_program` answers so of a trace that it tells.
-//! `sample_program` answers 0 only if all that the
+//! **What is proved.** `run_check_command` judges a trace: it answers 0 only if the source had the text of a faithful one,
+//! 6 only if it had one that isn't faithful, 2 only if it had none; `run_tell_command` answers so of a trace that it tells.
+//! `run_sample_command` answers 0 only if all that the
 //! source had is a script's text, it was run by as many seeds as were asked for and with that lock, and the text of what
-//! that came to was written, and nothing else (`IsSampled`). `explain_program` answers 0 only if a run of the source's
-//! script came to its end and was told, 3 only if one that can't go on was told so far (`IsExplained`). `explore_program`
+//! that came to was written, and nothing else (`IsSampleCommandOnSource`). `run_explain_command` answers 0 only if a run of the source's
+//! script came to its end and was told, 3 only if one that can't go on was told so far (`IsExplainCommandOnSource`). `run_explore_command`
 //! answers 0 only if all schedules of the source's script were looked at, or a run with the words that were given was looked
-//! for, 7 only if that was given up, and what was found was written (`SearchWritten`). These answer 2 only if the source had no script's text. Each fault has its status
-//! (`study_status_of`).
+//! for, 7 only if that was given up, and what was found was written (`ExploreCommandWritten`). These answer 2 only if the source had no script's text. Each fault has its status
+//! (`command_exit_status_of`).
 //!
 //! **What is only tested**, by whole runs of the program. The texts of faults, which fault is met, that `explain` uses the
 //! lock and the seed that the words ask for, the picture, and that no call allocates without need. No contract sees what a

@@ -2,16 +2,16 @@
 ghost use Rattle.std.specs.Prelude.{◌≡◌, ◌≢◌, ◌+◌, IfErr, OnOk};
 ghost use Rattle.std.specs.Io.KnownBytes.{Keeps};
 ghost use Rattle.lrc_script.specs.Prelude.{IsLawful, plan_of};
-ghost use Rattle.lrc_program.specs.Prelude.{IsNoScript};
-ghost use Rattle.lrc_sample.specs.Prelude.{CameBySeed};
-ghost use Rattle.lrc_commands.specs.Prelude.{IsStatusBeforeAnswer, IsInputsStatus, IsSampleAnswer, IsSampleWritten, IsSampled, lock_asked};
+ghost use Rattle.lrc_program.specs.Prelude.{IsServedWithoutScript};
+ghost use Rattle.lrc_sample.specs.Prelude.{CameBySampleRunSeed};
+ghost use Rattle.lrc_commands.specs.Prelude.{IsCommandExitStatusBeforeAnswer, IsCommandExitStatusOfInput, IsSampleCommandAnswer, IsSampleCommandWritten, IsSampleCommandOnSource, sample_command_lock};
 
-use crate::fault::StudyFault;
-use crate::locks::lock_of;
-use conformance::Runs;
-use lrc_json::write_sampled;
+use crate::fault::CommandFault;
+use crate::locks::command_lock_of;
+use conformance::ScriptRunner;
+use lrc_json::write_sampled_json;
 use lrc_options::options::SampleOptions;
-use lrc_program::program::read_script;
+use lrc_program::program::program_reads_script;
 use lrc_sample::sampling::{Sampled, sample};
 use lrc_sample::text::render;
 use lrc_script::script::Script;
@@ -20,47 +20,47 @@ use std::io::{Read, Write};
 use std::sync::Wait;
 
 /// Writes what a script's runs came to, as text or as JSON.
-fn write_sample<W: Write>(
+fn sample_command_writes<W: Write>(
     alloc: Global,
     json: bool,
     sampled: &Sampled,
     out: &mut W,
-) -> Result<(), StudyFault>
-    ensures written { OnOk result (IsSampleAnswer json (W.contents out.old) (W.contents out.new) sampled.now) }
-    ensures runs { IfErr result (λ fault. IsInputsStatus fault → ⊥) }
+) -> Result<(), CommandFault>
+    ensures written { OnOk result (IsSampleCommandAnswer json (W.contents out.old) (W.contents out.new) sampled.now) }
+    ensures runs { IfErr result (λ fault. IsCommandExitStatusOfInput fault → ⊥) }
     ensures early { IfErr result
-        (λ fault. IsStatusBeforeAnswer fault → Keeps (W.contents out.old) (W.contents out.new)) }
+        (λ fault. IsCommandExitStatusBeforeAnswer fault → Keeps (W.contents out.old) (W.contents out.new)) }
 {
     if json {
-        return Ok(write_sampled(alloc, sampled, out)?);
+        return Ok(write_sampled_json(alloc, sampled, out)?);
     }
     Ok(render(alloc, sampled, out)?)
 }
 
 /// Runs a script under the seeds that the options ask for, and writes what that came to.
-fn print_sample<T: Runs, R: Wait, W: Write>(
+fn sample_command_prints<T: ScriptRunner, R: Wait, W: Write>(
     runs: &T,
     rt: &R,
     alloc: Global,
     options: &SampleOptions,
     script: &Script,
     out: &mut W,
-) -> Result<(), StudyFault>
+) -> Result<(), CommandFault>
     requires { IsLawful (plan_of script.now) }
-    ensures written { OnOk result (IsSampleWritten (CameBySeed T.followed T.drawn (lock_asked options.now.ticket))
+    ensures written { OnOk result (IsSampleCommandWritten (CameBySampleRunSeed T.followed T.drawn (sample_command_lock options.now.ticket))
         (options.now.seeds + 1) options.now.json (plan_of script.now) (W.contents out.old) (W.contents out.new)) }
-    ensures runs { IfErr result (λ fault. IsInputsStatus fault → ⊥) }
+    ensures runs { IfErr result (λ fault. IsCommandExitStatusOfInput fault → ⊥) }
     ensures early { IfErr result
-        (λ fault. IsStatusBeforeAnswer fault → Keeps (W.contents out.old) (W.contents out.new)) }
+        (λ fault. IsCommandExitStatusBeforeAnswer fault → Keeps (W.contents out.old) (W.contents out.new)) }
 {
-    let lock = lock_of(options.ticket);
+    let lock = command_lock_of(options.ticket);
     let sampled = sample(runs, rt, alloc, script, lock, options.seeds)?;
-    write_sample(alloc, options.json, &sampled, out)?;
+    sample_command_writes(alloc, options.json, &sampled, out)?;
     Ok(())
 }
 
 /// Reads a script, runs it under the seeds that the options ask for, and writes what that came to.
-fn sample_script<T: Runs, R: Wait, S: Read, W: Write>(
+fn sample_command_on_script<T: ScriptRunner, R: Wait, S: Read, W: Write>(
     runs: &T,
     rt: &R,
     alloc: Global,
@@ -68,20 +68,20 @@ fn sample_script<T: Runs, R: Wait, S: Read, W: Write>(
     source: &mut S,
     refused: &mut Vec<u8>,
     out: &mut W,
-) -> Result<(), StudyFault>
-    ensures sampled { OnOk result (IsSampled (CameBySeed T.followed T.drawn (lock_asked options.now.ticket))
+) -> Result<(), CommandFault>
+    ensures sampled { OnOk result (IsSampleCommandOnSource (CameBySampleRunSeed T.followed T.drawn (sample_command_lock options.now.ticket))
         (options.now.seeds + 1) options.now.json (S.remaining source.old) (W.contents out.old) (W.contents out.new)) }
-    ensures refused { IfErr result (λ fault. IsInputsStatus fault → IsNoScript (S.remaining source.old)) }
+    ensures refused { IfErr result (λ fault. IsCommandExitStatusOfInput fault → IsServedWithoutScript (S.remaining source.old)) }
     ensures early { IfErr result
-        (λ fault. IsStatusBeforeAnswer fault → Keeps (W.contents out.old) (W.contents out.new)) }
+        (λ fault. IsCommandExitStatusBeforeAnswer fault → Keeps (W.contents out.old) (W.contents out.new)) }
 {
-    let script = read_script(alloc, source, refused)?;
-    print_sample(runs, rt, alloc, options, &script, out)
+    let script = program_reads_script(alloc, source, refused)?;
+    sample_command_prints(runs, rt, alloc, options, &script, out)
 }
 
 /// Runs the script of `source` in rounds, and by the turns that as many seeds as the options say draw: writes what that came
 /// to to `out`, or one line to `err`, and answers the exit status. The file that the options name isn't opened here.
-pub fn sample_program<T: Runs, R: Wait, S: Read, W: Write, E: Write>(
+pub fn run_sample_command<T: ScriptRunner, R: Wait, S: Read, W: Write, E: Write>(
     runs: &T,
     rt: &R,
     alloc: Global,
@@ -92,17 +92,17 @@ pub fn sample_program<T: Runs, R: Wait, S: Read, W: Write, E: Write>(
 ) -> u8
     // The script that was read was run once by each of so many seeds and once without, with the lock that was asked for, and
     // what that came to was written, whole: as text, or as JSON if that was asked for.
-    ensures sampled { result ≡ 0 → IsSampled (CameBySeed T.followed T.drawn (lock_asked options.now.ticket))
+    ensures sampled { result ≡ 0 → IsSampleCommandOnSource (CameBySampleRunSeed T.followed T.drawn (sample_command_lock options.now.ticket))
         (options.now.seeds + 1) options.now.json (S.remaining source.old) (W.contents out.old) (W.contents out.new) }
     // What is refused as a script is none.
-    ensures refused { result ≡ 2 → IsNoScript (S.remaining source.old) }
+    ensures refused { result ≡ 2 → IsServedWithoutScript (S.remaining source.old) }
     // At any status but 4, the text is written whole or not at all.
     ensures early { result ≢ 0 → result ≢ 4 → Keeps (W.contents out.old) (W.contents out.new) }
     // If it was written, no line goes to the error output.
     ensures quiet { result ≡ 0 → Keeps (E.contents err.old) (E.contents err.new) }
 {
     let mut refused = Vec::new(alloc);
-    match sample_script(runs, rt, alloc, options, source, &mut refused, out) {
+    match sample_command_on_script(runs, rt, alloc, options, source, &mut refused, out) {
         Ok(()) => 0,
         Err(fault) => fault.say(alloc, options.file.as_deref(), &refused, err),
     }

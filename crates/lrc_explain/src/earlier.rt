@@ -1,13 +1,13 @@
 //! The store that stands last before each access, whether or not it is ordered before it.
 ghost use Rattle.std.specs.Prelude.{◌≡◌, ◌≤◌, ◌<◌, [], List, length};
 ghost use Rattle.journal.specs.declared.event.Event.{Event};
-ghost use Rattle.journal.specs.Prelude.{AddressInRange, AddressesInRange, ProcessorsInRange};
-ghost use Rattle.judge.specs.Prelude.{most_in_history};
-ghost use Rattle.judge.specs.Sources.Prelude.{AreSourceStoresOf};
+ghost use Rattle.journal.specs.Prelude.{EventAddressInRange, EventAddressesInRange, EventProcessorsInRange};
+ghost use Rattle.judge.specs.Prelude.{most_in_sized_history};
+ghost use Rattle.judge.specs.Sources.Prelude.{AreKeptSourcesOf};
 
 use journal::{Event, Kind};
 use judge::History;
-use judge::sources::Sources;
+use judge::sources::ReadableSources;
 use std::alloc::{AllocError, Global};
 
 /// The last store to the address of an access that stands before it in the history, by whomever.
@@ -20,10 +20,10 @@ pub struct Earlier {
 }
 
 /// The last store to the address of the event, where it is an access that comes next.
-fn earlier_at(sources: &Sources, last: &[Option<usize>], event: Event) -> Option<Earlier>
-    requires tells { (j : List Event) × AreSourceStoresOf j sources.now }
+fn earlier_at(sources: &ReadableSources, last: &[Option<usize>], event: Event) -> Option<Earlier>
+    requires tells { (j : List Event) × AreKeptSourcesOf j sources.now }
     requires processor { event.processor < sources.now.processors }
-    requires address { AddressInRange sources.now.addresses event.kind }
+    requires address { EventAddressInRange sources.now.addresses event.kind }
 {
     let (Kind::Load(address, _) | Kind::Store(address, _)) = event.kind else {
         return None;
@@ -39,7 +39,7 @@ fn earlier_at(sources: &Sources, last: &[Option<usize>], event: Event) -> Option
 }
 
 /// Keeps the place of the event, where it is a store.
-fn keep_store(last: &mut [Option<usize>], place: usize, kind: Kind) {
+fn keep_earlier_store(last: &mut [Option<usize>], place: usize, kind: Kind) {
     if let Kind::Store(address, _) = kind {
         if let Some(kept) = last.get_mut(address) {
             *kept = Some(place);
@@ -49,22 +49,22 @@ fn keep_store(last: &mut [Option<usize>], place: usize, kind: Kind) {
 
 /// Finds the last store before each event of a history, of which `sources` tells nothing yet. `last` has the last store to
 /// each address so far.
-fn find_stores(
+fn collect_earlier_stores(
     found: &mut [Option<Earlier>],
     last: &mut [Option<usize>],
-    sources: &mut Sources,
+    sources: &mut ReadableSources,
     events: &[Event],
 ) -> Result<(), AllocError>
-    requires few { length events.now ≤ most_in_history }
+    requires few { length events.now ≤ most_in_sized_history }
     requires places { length found.old ≡ length events.now }
-    requires tells { AreSourceStoresOf [] sources.old }
-    requires addresses { AddressesInRange sources.old.addresses events.now }
-    requires processors { ProcessorsInRange sources.old.processors events.now }
+    requires tells { AreKeptSourcesOf [] sources.old }
+    requires addresses { EventAddressesInRange sources.old.addresses events.now }
+    requires processors { EventProcessorsInRange sources.old.processors events.now }
 {
     for place in 0..events.len() {
         let event = events[place];
         found[place] = earlier_at(sources, last, event);
-        keep_store(last, place, event.kind);
+        keep_earlier_store(last, place, event.kind);
         sources.note(events, place)?;
     }
     Ok(())
@@ -74,15 +74,15 @@ fn find_stores(
 /// store; else None. The only error is running out of memory.
 ///
 /// It takes time as `causes::loads` does.
-pub fn stores_before(
+pub fn earlier_stores_before(
     alloc: Global,
     history: &History<'_>,
 ) -> Result<Vec<Option<Earlier>>, AllocError> {
     let events = history.events();
     let addresses = history.addresses();
-    let mut sources = Sources::new(alloc, history.sizes().processors, addresses)?;
+    let mut sources = ReadableSources::new(alloc, history.sizes().processors, addresses)?;
     let mut last = vec![in alloc; None; addresses]?;
     let mut found = vec![in alloc; None; events.len()]?;
-    find_stores(&mut found, &mut last, &mut sources, events)?;
+    collect_earlier_stores(&mut found, &mut last, &mut sources, events)?;
     Ok(found)
 }

@@ -1,10 +1,10 @@
 //! For what each processor of a run waits that can't go on.
 
-use crate::held::HeldNow;
-use crate::marked::Marked;
+use crate::held_now::HeldNow;
+use crate::marked_processors::MarkedProcessors;
 use journal::{Event, Kind, MOST_PROCESSORS};
 use judge::History;
-use lrc_prose::text::Text;
+use lrc_prose::text::ProseText;
 
 /// A run that can't go on: what is held at its end, and the last event of each processor.
 #[derive(Clone, Copy)]
@@ -16,7 +16,7 @@ pub struct Halted<'a> {
 }
 
 /// The last event of each processor.
-pub fn last_of(events: &[Event]) -> [Option<Kind>; MOST_PROCESSORS] {
+pub fn last_of_halted(events: &[Event]) -> [Option<Kind>; MOST_PROCESSORS] {
     let mut last = [None; MOST_PROCESSORS];
     for event in events {
         if let Some(kind) = last.get_mut(event.processor) {
@@ -37,8 +37,8 @@ impl Halted<'_> {
     }
 
     /// Those that the processor waits for at the barrier.
-    fn missing(&self, processor: usize) -> Marked<'_> {
-        Marked {
+    fn missing(&self, processor: usize) -> MarkedProcessors<'_> {
+        MarkedProcessors {
             marks: self.held.arrived(),
             mark: false,
             but: processor,
@@ -77,7 +77,7 @@ impl Halted<'_> {
     }
 
     /// Puts what the processor waits for.
-    pub fn put_wait(&self, text: &mut Text, processor: usize) {
+    pub fn put_wait(&self, text: &mut ProseText, processor: usize) {
         match self.last(processor) {
             Some(Kind::Ask(lock)) => {
                 text.put_number("waits for lock ", lock);
@@ -96,7 +96,7 @@ impl Halted<'_> {
     }
 
     /// Puts who holds the lock.
-    fn put_holder(&self, text: &mut Text, lock: usize) {
+    fn put_holder(&self, text: &mut ProseText, lock: usize) {
         match self.held.lock(lock).holder {
             Some(holder) => text.put_number(", held by p", holder),
             None if self.is_cut => text.put(", held since before the cut"),
@@ -105,7 +105,7 @@ impl Halted<'_> {
     }
 
     /// Puts what the others of the processor's circle wait for.
-    fn put_circle(&self, text: &mut Text, processor: usize) {
+    fn put_circle(&self, text: &mut ProseText, processor: usize) {
         let mut at = processor;
         for _ in 0..16 {
             match self.waits_for(at) {
@@ -121,7 +121,7 @@ impl Halted<'_> {
     }
 
     /// Puts what the processor waits for, in a line. A circle is told at its least processor.
-    fn put_processor(&self, text: &mut Text, processor: usize) {
+    fn put_processor(&self, text: &mut ProseText, processor: usize) {
         let circle = self.circle(processor);
         if circle.unwrap_or(processor) != processor {
             return;
@@ -137,8 +137,8 @@ impl Halted<'_> {
 }
 
 /// Puts what each processor waits for where this is held at the end of the history.
-pub fn put_waits(text: &mut Text, held: &HeldNow, history: &History<'_>) {
-    let last = last_of(history.left());
+pub fn put_halted_waits(text: &mut ProseText, held: &HeldNow, history: &History<'_>) {
+    let last = last_of_halted(history.left());
     let halted = Halted {
         held,
         last: &last,

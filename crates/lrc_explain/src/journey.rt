@@ -2,17 +2,17 @@
 ghost use Rattle.std.specs.Prelude.{◌<◌, length};
 ghost use Rattle.causes.specs.Prelude.{ArePathWays};
 
-use crate::history::EventNumbers;
+use crate::told_history::ProseNumbers;
 use causes::{Source, Ways};
 use journal::{Event, Kind};
-use lrc_prose::text::Text;
+use lrc_prose::text::ProseText;
 use std::alloc::{AllocError, Global};
 
 /// How many crossings are told at most.
 const MOST_CROSSINGS: usize = 3;
 
 /// The way from the store that the event at this place answers; None where it answers none.
-fn way_to(
+fn journey_to(
     alloc: Global,
     ways: &Ways,
     events: &[Event],
@@ -35,7 +35,7 @@ fn way_to(
 /// error is running out of memory.
 ///
 /// It takes time for each load as `causes::Ways::way` does.
-pub fn ways_to_loads(
+pub fn journey_to_each_load(
     alloc: Global,
     ways: &Ways,
     events: &[Event],
@@ -49,7 +49,7 @@ pub fn ways_to_loads(
             Some(source) => *source,
             None => None,
         };
-        found.push(way_to(alloc, ways, events, source, place)?)?;
+        found.push(journey_to(alloc, ways, events, source, place)?)?;
     }
     Ok(found)
 }
@@ -63,15 +63,15 @@ struct Edge {
 
 /// The crossings of a way: where it goes from one processor to another. Empty where it goes from none.
 #[derive(Clone, Copy)]
-pub struct Crossings<'a> {
-    pub numbers: EventNumbers,
+pub struct JourneyCrossings<'a> {
+    pub numbers: ProseNumbers,
     pub events: &'a [Event],
     /// The places of the way.
     pub places: &'a [usize],
 }
 
 /// What an event did, in a word.
-fn word_of(kind: Kind) -> &'static str {
+fn journey_word_of(kind: Kind) -> &'static str {
     match kind {
         Kind::Acquire(_) => "acquire",
         Kind::Release(_) => "release",
@@ -83,7 +83,7 @@ fn word_of(kind: Kind) -> &'static str {
     }
 }
 
-impl Crossings<'_> {
+impl JourneyCrossings<'_> {
     /// The edge to the place at this index of the way.
     fn edge(&self, index: usize) -> Edge
         requires first { 0 < index }
@@ -115,16 +115,16 @@ impl Crossings<'_> {
     }
 
     /// Puts what the event at this place did, and its number.
-    fn put_event(&self, text: &mut Text, place: usize) {
+    fn put_event(&self, text: &mut ProseText, place: usize) {
         let events = self.events;
         if let Some(event) = events.get(place) {
-            text.put(word_of(event.kind));
+            text.put(journey_word_of(event.kind));
             text.put_number(" at ", self.numbers.of(place));
         }
     }
 
     /// Puts one crossing, the one of this number among so many. Of many only the first and the last are told.
-    fn put_crossing(&self, text: &mut Text, edge: Edge, number: usize, count: usize) {
+    fn put_crossing(&self, text: &mut ProseText, edge: Edge, number: usize, count: usize) {
         let left_out = count.saturating_sub(2);
         if count > MOST_CROSSINGS && number == 1 {
             text.put_number(", ", left_out);
@@ -140,7 +140,7 @@ impl Crossings<'_> {
     }
 
     /// Puts them, with commas before them.
-    pub fn put(&self, text: &mut Text) {
+    pub fn put(&self, text: &mut ProseText) {
         let count = self.count();
         let mut number: usize = 0;
         for index in 1..self.places.len() {

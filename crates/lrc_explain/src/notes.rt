@@ -1,24 +1,24 @@
 //! What is said to the right of an event: why it went as it did, and for whom its processor waits.
 
 use crate::earlier::Earlier;
-use crate::found::Findings;
-use crate::held::{HeldNow, LockState, PastDeed};
-use crate::history::{EventNumbers, ToldHistory, numbers_of};
-use crate::journey::Crossings;
-use crate::lacks::{GoneStale, Stale, Writers};
-use crate::marked::Marked;
+use crate::findings::Findings;
+use crate::held_now::{HeldNow, LockState, PastDeed};
+use crate::journey::JourneyCrossings;
+use crate::marked_processors::MarkedProcessors;
 use crate::rivals::Rival;
-use crate::state::ToldState;
+use crate::stale_copies::{GoneStaleCopies, StaleCopies, StaleCopyWriters};
 use crate::strays::Stray;
+use crate::told_history::{ProseNumbers, ToldHistory, told_history_numbers};
+use crate::told_state::ToldState;
 use causes::{Due, Source, WordOrigin};
 use journal::{Event, Kind, MOST_PROCESSORS};
 use judge::Sizes;
-use lrc_prose::text::Text;
+use lrc_prose::text::ProseText;
 
 /// What is known of a history.
 #[derive(Clone, Copy)]
-pub struct Known<'a> {
-    pub numbers: EventNumbers,
+pub struct HistoryNotes<'a> {
+    pub numbers: ProseNumbers,
     pub sizes: Sizes,
     pub events: &'a [Event],
     /// Of each event its label.
@@ -28,11 +28,11 @@ pub struct Known<'a> {
     pub found: &'a Findings,
 }
 
-impl<'a> Known<'a> {
+impl<'a> HistoryNotes<'a> {
     /// The history of which this was found.
-    pub fn new(told: ToldHistory<'a>, found: &'a Findings) -> Known<'a> {
-        Known {
-            numbers: numbers_of(told.history),
+    pub fn new(told: ToldHistory<'a>, found: &'a Findings) -> HistoryNotes<'a> {
+        HistoryNotes {
+            numbers: told_history_numbers(told.history),
             sizes: told.history.sizes(),
             events: told.history.events(),
             labels: told.labels,
@@ -42,7 +42,7 @@ impl<'a> Known<'a> {
     }
 }
 
-impl Known<'_> {
+impl HistoryNotes<'_> {
     /// The event at this place, which is one of the history.
     fn deed(&self, place: usize) -> PastDeed {
         let processor = match self.events.get(place) {
@@ -61,13 +61,13 @@ impl Known<'_> {
     }
 
     /// The crossings of the way to the load at this place.
-    fn crossings(&self, place: usize) -> Crossings<'_> {
+    fn crossings(&self, place: usize) -> JourneyCrossings<'_> {
         let none: &[usize] = &[];
         let places = match self.found.loads.ways.get(place) {
             Some(Some(places)) => places.as_slice(),
             _ => none,
         };
-        Crossings {
+        JourneyCrossings {
             numbers: self.numbers,
             events: self.events,
             places,
@@ -75,7 +75,7 @@ impl Known<'_> {
     }
 
     /// Puts that the load at this place answers the store at that one, and how its word came there.
-    fn put_store(&self, text: &mut Text, place: usize, store: usize) {
+    fn put_store(&self, text: &mut ProseText, place: usize, store: usize) {
         text.put_number("event ", self.numbers.of(store));
         text.put_number(": p", self.deed(store).processor);
         text.put(" stored it");
@@ -83,7 +83,7 @@ impl Known<'_> {
     }
 
     /// Puts where the value of the load of the address at this place comes from.
-    fn put_source(&self, text: &mut Text, place: usize, address: usize, source: Source) {
+    fn put_source(&self, text: &mut ProseText, place: usize, address: usize, source: Source) {
         match source {
             Source::StoreAt(store) => self.put_store(text, place, store),
             _ if self.numbers.has_cut() => text.put("what stood before the cut"),
@@ -96,7 +96,7 @@ impl Known<'_> {
     }
 
     /// Puts which other store has the word of a load that answers none that it may.
-    fn put_stray(&self, text: &mut Text, stray: Option<Stray>) {
+    fn put_stray(&self, text: &mut ProseText, stray: Option<Stray>) {
         let Some(stray) = stray else {
             text.put("no store before it has this word");
             return;
@@ -142,8 +142,8 @@ impl Known<'_> {
     }
 
     /// Puts why the copy of the load's processor doesn't have the rival's word, but the one that was fetched.
-    fn put_rival(&self, text: &mut Text, rival: Rival, fetched: Option<WordOrigin>) {
-        put_other_store(text, self.numbers, self.deed(rival.store));
+    fn put_rival(&self, text: &mut ProseText, rival: Rival, fetched: Option<WordOrigin>) {
+        put_other_store_note(text, self.numbers, self.deed(rival.store));
         text.put(" is as late");
         let Some(origin) = fetched else {
             return;
@@ -172,13 +172,13 @@ impl Known<'_> {
     }
 
     /// Puts why the last store before the load that isn't told of yet isn't what it answers, where there is such a store.
-    fn put_last(&self, text: &mut Text, place: usize, source: Source) {
+    fn put_last(&self, text: &mut ProseText, place: usize, source: Source) {
         let Some(last) = self.earlier(place) else {
             return;
         };
         if source != Source::StoreAt(last.place) {
             if !last.is_ordered && !self.found.loads.is_stray(place, last.place) {
-                put_other_store(text, self.numbers, self.deed(last.place));
+                put_other_store_note(text, self.numbers, self.deed(last.place));
                 text.put(" is not ordered before it");
             }
             return;
@@ -188,12 +188,12 @@ impl Known<'_> {
         };
         if !self.is_rival(place, before.place) {
             let store = self.deed(before.place);
-            put_overwritten(text, self.numbers, store, before.is_ordered, last.place);
+            put_overwritten_note(text, self.numbers, store, before.is_ordered, last.place);
         }
     }
 
     /// Puts what is said of the load of the address at this place.
-    fn put_load(&self, text: &mut Text, place: usize, address: usize) {
+    fn put_load(&self, text: &mut ProseText, place: usize, address: usize) {
         if let Some(Some(source)) = self.found.loads.sources.get(place) {
             self.put_source(text, place, address, *source);
             let fetched = self.fetched(place, *source);
@@ -214,14 +214,14 @@ impl Known<'_> {
     }
 
     /// Puts whose records the fetch at this place brings, so many in all.
-    fn put_writers(&self, text: &mut Text, place: usize, records: u32) {
+    fn put_writers(&self, text: &mut ProseText, place: usize, records: u32) {
         if self.found.dues.is_empty() {
             return;
         }
         let dues = self.dues(place);
-        let writers = Writers {
+        let writers = StaleCopyWriters {
             dues,
-            has_older: self.numbers.has_cut() && records_of(dues) < records as usize,
+            has_older: self.numbers.has_cut() && note_records_of(dues) < records as usize,
         };
         writers.put(text);
     }
@@ -237,10 +237,10 @@ impl Known<'_> {
 
     /// Puts what is said of the await at this place of a flag that was set first by this: all sets that bring news, or else the
     /// first one.
-    fn put_await(&self, text: &mut Text, place: usize, first: Option<PastDeed>) {
+    fn put_await(&self, text: &mut ProseText, place: usize, first: Option<PastDeed>) {
         let sets = self.incoming(place);
         if sets.is_empty() {
-            put_awaited(text, self.numbers, first);
+            put_awaited_note(text, self.numbers, first);
             return;
         }
         for (index, set) in sets.iter().enumerate() {
@@ -251,19 +251,19 @@ impl Known<'_> {
                 _ => ", ",
             });
             let front = if index == 0 { "after p" } else { "p" };
-            put_by(text, self.numbers, front, self.deed(*set), "set");
+            put_note_by(text, self.numbers, front, self.deed(*set), "set");
         }
     }
 
     /// Puts what is said of the departure at this place: whose arrivals it follows.
-    fn put_depart(&self, text: &mut Text, place: usize) {
+    fn put_depart(&self, text: &mut ProseText, place: usize) {
         let mut marks = [false; MOST_PROCESSORS];
         for arrival in self.incoming(place) {
             if let Some(mark) = marks.get_mut(self.deed(*arrival).processor) {
                 *mark = true;
             }
         }
-        let arrived = Marked {
+        let arrived = MarkedProcessors {
             marks: &marks,
             mark: true,
             but: MOST_PROCESSORS,
@@ -287,7 +287,7 @@ impl Known<'_> {
     }
 
     /// Puts that the event at this place is a lie, and why; of a load besides what it answers.
-    fn put_lie(&self, text: &mut Text, reason: &str, place: usize, event: Event) {
+    fn put_lie(&self, text: &mut ProseText, reason: &str, place: usize, event: Event) {
         text.put("a lie: ");
         text.put(reason);
         if let Kind::Load(address, _) = event.kind {
@@ -297,7 +297,7 @@ impl Known<'_> {
     }
 
     /// Puts the label of the event at this place, behind two spaces where something stands before it.
-    fn put_label(&self, text: &mut Text, start: usize, place: usize) {
+    fn put_label(&self, text: &mut ProseText, start: usize, place: usize) {
         if let Some(label) = self.labels.get(place)
             && !label.is_empty()
         {
@@ -310,9 +310,9 @@ impl Known<'_> {
     /// Nothing is put where there is nothing to say.
     pub fn put_note(
         &self,
-        text: &mut Text,
+        text: &mut ProseText,
         held: &HeldNow,
-        stale: &Stale,
+        stale: &StaleCopies,
         place: usize,
         event: Event,
     ) {
@@ -322,7 +322,14 @@ impl Known<'_> {
     }
 
     /// Puts the same, without the label.
-    fn put_told(&self, text: &mut Text, held: &HeldNow, stale: &Stale, place: usize, event: Event) {
+    fn put_told(
+        &self,
+        text: &mut ProseText,
+        held: &HeldNow,
+        stale: &StaleCopies,
+        place: usize,
+        event: Event,
+    ) {
         if let Some(reason) = self.lie_at(place) {
             self.put_lie(text, reason, place, event);
             return;
@@ -337,7 +344,7 @@ impl Known<'_> {
         if text.len() > start && !dues.is_empty() {
             text.put("; ");
         }
-        let gone = GoneStale {
+        let gone = GoneStaleCopies {
             processor: event.processor,
             dues,
             stale,
@@ -362,15 +369,15 @@ impl Known<'_> {
     }
 
     /// Puts the same, without what is said of records.
-    fn put_reason(&self, text: &mut Text, held: &HeldNow, place: usize, event: Event) {
+    fn put_reason(&self, text: &mut ProseText, held: &HeldNow, place: usize, event: Event) {
         match event.kind {
             Kind::Load(address, _) => self.put_load(text, place, address),
-            Kind::Fetch { records, words, .. } => put_fetch(text, records, words),
-            Kind::Ask(lock) => put_ask(text, lock, held.lock(lock)),
-            Kind::Acquire(lock) => put_acquire(text, self.numbers, held.lock(lock).released),
-            Kind::Watch(flag) => put_watch(text, self.numbers, flag, held.set(flag)),
+            Kind::Fetch { records, words, .. } => put_fetch_note(text, records, words),
+            Kind::Ask(lock) => put_ask_note(text, lock, held.lock(lock)),
+            Kind::Acquire(lock) => put_acquire_note(text, self.numbers, held.lock(lock).released),
+            Kind::Watch(flag) => put_watch_note(text, self.numbers, flag, held.set(flag)),
             Kind::Await(flag) => self.put_await(text, place, held.set(flag)),
-            Kind::Arrive => put_arrive(text, held.arrived(), event.processor),
+            Kind::Arrive => put_arrive_note(text, held.arrived(), event.processor),
             Kind::Depart => self.put_depart(text, place),
             _ => {}
         }
@@ -378,20 +385,20 @@ impl Known<'_> {
 }
 
 /// Puts whose store it is that a load doesn't answer.
-fn put_other_store(text: &mut Text, numbers: EventNumbers, store: PastDeed) {
+fn put_other_store_note(text: &mut ProseText, numbers: ProseNumbers, store: PastDeed) {
     text.put_number("; event ", numbers.of(store.place));
     text.put_number("'s store by p", store.processor);
 }
 
 /// Puts why the store isn't what a load answers that comes later and answers the one at `source`.
-fn put_overwritten(
-    text: &mut Text,
-    numbers: EventNumbers,
+fn put_overwritten_note(
+    text: &mut ProseText,
+    numbers: ProseNumbers,
     store: PastDeed,
     is_ordered: bool,
     source: usize,
 ) {
-    put_other_store(text, numbers, store);
+    put_other_store_note(text, numbers, store);
     text.put(if is_ordered {
         " is overwritten by"
     } else {
@@ -401,7 +408,13 @@ fn put_overwritten(
 }
 
 /// Puts whose event of this name lets one through, behind these words.
-fn put_by(text: &mut Text, numbers: EventNumbers, front: &str, deed: PastDeed, name: &str) {
+fn put_note_by(
+    text: &mut ProseText,
+    numbers: ProseNumbers,
+    front: &str,
+    deed: PastDeed,
+    name: &str,
+) {
     text.put_number(front, deed.processor);
     text.put("'s ");
     text.put(name);
@@ -409,32 +422,32 @@ fn put_by(text: &mut Text, numbers: EventNumbers, front: &str, deed: PastDeed, n
 }
 
 /// Puts what is said of an acquire of a lock that had this release.
-fn put_acquire(text: &mut Text, numbers: EventNumbers, released: Option<PastDeed>) {
+fn put_acquire_note(text: &mut ProseText, numbers: ProseNumbers, released: Option<PastDeed>) {
     match released {
-        Some(release) => put_by(text, numbers, "after p", release, "release"),
+        Some(release) => put_note_by(text, numbers, "after p", release, "release"),
         None if numbers.has_cut() => text.put("nobody held it since the cut"),
         None => text.put("nobody held it before"),
     }
 }
 
 /// Puts what is said of an await of a flag that this set, of which its processor had heard.
-fn put_awaited(text: &mut Text, numbers: EventNumbers, set: Option<PastDeed>) {
+fn put_awaited_note(text: &mut ProseText, numbers: ProseNumbers, set: Option<PastDeed>) {
     match set {
-        Some(set) => put_by(text, numbers, "after p", set, "set"),
+        Some(set) => put_note_by(text, numbers, "after p", set, "set"),
         None if numbers.has_cut() => text.put("it was set before the cut"),
         None => {}
     }
 }
 
 /// Puts what is said of a watch of a flag that this set.
-fn put_watch(text: &mut Text, numbers: EventNumbers, flag: usize, set: Option<PastDeed>) {
+fn put_watch_note(text: &mut ProseText, numbers: ProseNumbers, flag: usize, set: Option<PastDeed>) {
     if set.is_none() && !numbers.has_cut() {
         text.put_number("waits: nobody has set flag ", flag);
     }
 }
 
 /// How many records these are.
-fn records_of(dues: &[Due]) -> usize {
+fn note_records_of(dues: &[Due]) -> usize {
     let mut records: usize = 0;
     for due in dues {
         records = records.saturating_add(due.records);
@@ -443,14 +456,14 @@ fn records_of(dues: &[Due]) -> usize {
 }
 
 /// Puts what is said of a fetch.
-fn put_fetch(text: &mut Text, records: u32, words: u32) {
+fn put_fetch_note(text: &mut ProseText, records: u32, words: u32) {
     text.put_count(records as usize, "record");
     text.put(", ");
     text.put_count(words as usize, "word");
 }
 
 /// Puts what is said of an ask for a lock in this state.
-fn put_ask(text: &mut Text, lock: usize, state: LockState) {
+fn put_ask_note(text: &mut ProseText, lock: usize, state: LockState) {
     if let Some(asker) = state.asker {
         text.put_number("waits: p", asker);
         text.put_number(" asked for lock ", lock);
@@ -462,8 +475,8 @@ fn put_ask(text: &mut Text, lock: usize, state: LockState) {
 }
 
 /// Puts what is said of an arrival of the processor, before which these had arrived.
-fn put_arrive(text: &mut Text, arrived: &[bool], processor: usize) {
-    let missing = Marked {
+fn put_arrive_note(text: &mut ProseText, arrived: &[bool], processor: usize) {
+    let missing = MarkedProcessors {
         marks: arrived,
         mark: false,
         but: processor,

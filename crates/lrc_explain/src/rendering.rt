@@ -2,52 +2,52 @@
 ghost use Rattle.std.specs.Prelude.{◌≡◌, ◌++◌, IfErr, IfOk, OnOk, false};
 ghost use Rattle.std.specs.Io.KnownBytes.{Appends};
 ghost use Rattle.lrc_explain.specs.declared.fault.ExplainFault.TheVariants.{Output};
-ghost use Rattle.lrc_explain.specs.Prelude.{IsExplainText, IsTextBefore, ExplainWritten, ExplainUnwritten, TraceTextWritten, end_text};
+ghost use Rattle.lrc_explain.specs.Prelude.{IsExplainText, IsExplainTextBefore, ExplainTextWritten, ExplainTextUnwritten, ExplainTextOfTraceWritten, explain_text_end};
 
+use crate::chronicle::{put_chronicle, put_chronicle_of_trace};
 use crate::extent::Extent;
 use crate::fault::ExplainFault;
-use crate::halting::put_waits;
-use crate::held::HeldNow;
-use crate::history::ToldHistory;
-use crate::story::{put_story, put_trace};
+use crate::halting::put_halted_waits;
+use crate::held_now::HeldNow;
+use crate::told_history::ToldHistory;
 use conformance::Ended;
 use judge::History;
-use lrc_prose::text::Text;
-use lrc_report::render::put_report;
+use lrc_prose::text::ProseText;
+use lrc_report::render::render_report_bytes;
 use std::alloc::{AllocError, Global};
 use std::io::Write;
 
 /// Puts a run with this history, as much of it, without its report. The only error is running out of memory.
-fn put_run(
-    text: &mut Text,
+fn render_explained_run(
+    text: &mut ProseText,
     alloc: Global,
     history: &History<'_>,
     extent: &Extent,
     ended: &Ended,
 ) -> Result<(), AllocError> {
     let mut held = HeldNow::new(alloc, history.sizes().processors)?;
-    put_story(text, &mut held, alloc, extent, history)?;
+    put_chronicle(text, &mut held, alloc, extent, history)?;
     if let Ended::Halted(_) = ended {
-        put_waits(text, &held, history);
+        put_halted_waits(text, &held, history);
     }
     Ok(())
 }
 
 /// Adds the report's lines, where the run has one. The only error is running out of memory.
-fn put_end(text: &mut Vec<u8>, ended: &Ended) -> Result<(), ExplainFault>
-    ensures { OnOk result (text.new.items ≡ text.old.items ++ end_text ended.now) }
+fn render_explained_end(text: &mut Vec<u8>, ended: &Ended) -> Result<(), ExplainFault>
+    ensures { OnOk result (text.new.items ≡ text.old.items ++ explain_text_end ended.now) }
 {
     let Ended::Whole(report) = ended else {
         return Ok(());
     };
-    match put_report(text, report) {
+    match render_report_bytes(text, report) {
         Ok(()) => Ok(()),
         Err(_) => Err(ExplainFault::NoMemory),
     }
 }
 
 /// The whole text of the run with this history.
-fn text_of(
+fn render_explained_text(
     alloc: Global,
     history: &History<'_>,
     extent: &Extent,
@@ -55,31 +55,31 @@ fn text_of(
 ) -> Result<Vec<u8>, ExplainFault>
     ensures { IfOk result (λ v. IsExplainText ended.now v.items) }
 {
-    let mut text = Text::new(alloc);
-    put_run(&mut text, alloc, history, extent, ended)?;
+    let mut text = ProseText::new(alloc);
+    render_explained_run(&mut text, alloc, history, extent, ended)?;
     let mut bytes = text.finish()?;
-    put_end(&mut bytes, ended)?;
+    render_explained_end(&mut bytes, ended)?;
     Ok(bytes)
 }
 
 /// The whole text of the trace: its story, and then what was found of it.
-fn trace_text_of(
+fn render_explained_trace_text(
     alloc: Global,
     history: &ToldHistory<'_>,
     extent: &Extent,
     verdict: &[u8],
 ) -> Result<Vec<u8>, ExplainFault>
-    ensures { IfOk result (λ v. IsTextBefore verdict.now v.items) }
+    ensures { IfOk result (λ v. IsExplainTextBefore verdict.now v.items) }
 {
-    let mut text = Text::new(alloc);
-    put_trace(&mut text, alloc, extent, history)?;
+    let mut text = ProseText::new(alloc);
+    put_chronicle_of_trace(&mut text, alloc, extent, history)?;
     let mut bytes = text.finish()?;
     bytes.extend_from_slice(verdict)?;
     Ok(bytes)
 }
 
 /// Writes the text and flushes the writer.
-fn write_text<W: Write>(text: &[u8], out: &mut W) -> Result<(), ExplainFault>
+fn write_explained_rendering<W: Write>(text: &[u8], out: &mut W) -> Result<(), ExplainFault>
     ensures written { OnOk result (Appends (W.contents out.old) (W.contents out.new) text.now) }
     ensures fault { IfErr result (λ e. e ≡ Output) }
 {
@@ -125,11 +125,11 @@ pub fn render<W: Write>(
     ended: &Ended,
     out: &mut W,
 ) -> Result<(), ExplainFault>
-    ensures written { OnOk result (ExplainWritten (W.contents out.old) (W.contents out.new) ended.now) }
-    ensures unwritten { IfErr result (ExplainUnwritten (W.contents out.old) (W.contents out.new)) }
+    ensures written { OnOk result (ExplainTextWritten (W.contents out.old) (W.contents out.new) ended.now) }
+    ensures unwritten { IfErr result (ExplainTextUnwritten (W.contents out.old) (W.contents out.new)) }
 {
-    let text = text_of(alloc, history, extent, ended)?;
-    write_text(&text, out)
+    let text = render_explained_text(alloc, history, extent, ended)?;
+    write_explained_rendering(&text, out)
 }
 
 /// Tells a trace, in one write where the writer takes all of it, and flushes the writer: its events as `render` tells those of a
@@ -142,16 +142,16 @@ pub fn render<W: Write>(
 /// # Errors
 ///
 /// As those of `render`.
-pub fn render_trace<W: Write>(
+pub fn render_explained_trace<W: Write>(
     alloc: Global,
     history: &ToldHistory<'_>,
     extent: &Extent,
     verdict: &[u8],
     out: &mut W,
 ) -> Result<(), ExplainFault>
-    ensures written { OnOk result (TraceTextWritten (W.contents out.old) (W.contents out.new) verdict.now) }
-    ensures unwritten { IfErr result (ExplainUnwritten (W.contents out.old) (W.contents out.new)) }
+    ensures written { OnOk result (ExplainTextOfTraceWritten (W.contents out.old) (W.contents out.new) verdict.now) }
+    ensures unwritten { IfErr result (ExplainTextUnwritten (W.contents out.old) (W.contents out.new)) }
 {
-    let text = trace_text_of(alloc, history, extent, verdict)?;
-    write_text(&text, out)
+    let text = render_explained_trace_text(alloc, history, extent, verdict)?;
+    write_explained_rendering(&text, out)
 }

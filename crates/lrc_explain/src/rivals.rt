@@ -28,7 +28,7 @@ struct RivaledLoad {
 
 /// What rivals are found by.
 #[derive(Drop)]
-struct Rivalry<'a> {
+struct RivalSearch<'a> {
     ways: &'a Ways,
     events: &'a [Event],
     /// How many words a page has, where that is known.
@@ -38,7 +38,7 @@ struct Rivalry<'a> {
 }
 
 /// Of each page and processor, the places of its fetches of the page. The only error is running out of memory.
-fn fetches_of(alloc: Global, events: &[Event]) -> Result<Vec<Vec<usize>>, AllocError> {
+fn rival_fetches_of(alloc: Global, events: &[Event]) -> Result<Vec<Vec<usize>>, AllocError> {
     let mut rows = Vec::with_capacity(alloc, MOST_PAGES * MOST_PROCESSORS)?;
     for _ in 0..MOST_PAGES * MOST_PROCESSORS {
         rows.push(Vec::new(alloc))?;
@@ -57,12 +57,12 @@ fn fetches_of(alloc: Global, events: &[Event]) -> Result<Vec<Vec<usize>>, AllocE
 }
 
 /// The first of these places from this one on.
-fn first_from(places: &[usize], from: usize) -> Option<usize> {
+fn first_rival_fetch_from(places: &[usize], from: usize) -> Option<usize> {
     let index = places.partition_point(|place| *place < from);
     places.get(index).copied()
 }
 
-impl Rivalry<'_> {
+impl RivalSearch<'_> {
     /// Where the load's processor fetched the store, which is another one's, before the load.
     fn fetch_of(&self, store: usize, load: RivaledLoad) -> Option<usize>
         requires { ArePathWays self.now.events.now self.now.ways.now }
@@ -77,7 +77,7 @@ impl Rivalry<'_> {
                 .saturating_mul(MOST_PROCESSORS)
                 .saturating_add(load.processor),
         )?;
-        let fetch = first_from(row, first)?;
+        let fetch = first_rival_fetch_from(row, first)?;
         if fetch < load.place {
             Some(fetch)
         } else {
@@ -163,11 +163,11 @@ pub fn rivals_of(
     requires latest { length latest.now ≡ length events.now }
     requires sources { length sources.now ≡ length events.now }
 {
-    let rivalry = Rivalry {
+    let rivalry = RivalSearch {
         ways,
         events,
         words,
-        fetches: fetches_of(alloc, events)?,
+        fetches: rival_fetches_of(alloc, events)?,
     };
     let mut rows = Vec::with_capacity(alloc, events.len())?;
     for place in 0..events.len() {

@@ -1,14 +1,14 @@
 //! What a picture has of a run besides its events: what is said of each, which loads answer which stores, who waits for whom.
 
-use crate::found::{Findings, found_of};
-use crate::halting::{Halted, last_of};
-use crate::held::HeldNow;
-use crate::history::{EventNumbers, ToldHistory};
-use crate::lacks::Stale;
-use crate::notes::Known;
+use crate::findings::{Findings, findings_of};
+use crate::halting::{Halted, last_of_halted};
+use crate::held_now::HeldNow;
+use crate::notes::HistoryNotes;
+use crate::stale_copies::StaleCopies;
+use crate::told_history::{ProseNumbers, ToldHistory};
 use causes::Source;
 use judge::History;
-use lrc_prose::text::Text;
+use lrc_prose::text::ProseText;
 use std::alloc::{AllocError, Global};
 
 /// What is told of a run's events, those alone that are left in the journal: their places are counted from 0.
@@ -28,16 +28,16 @@ pub struct Sketch {
 }
 
 /// Adds of each event that is left what is said of it. The only error is running out of memory.
-fn add_notes(
+fn add_sketch_notes(
     notes: &mut Vec<Vec<u8>>,
     held: &mut HeldNow,
     alloc: Global,
-    known: &Known<'_>,
+    known: &HistoryNotes<'_>,
 ) -> Result<(), AllocError> {
-    let mut stale = Stale::new();
+    let mut stale = StaleCopies::new();
     for (place, event) in known.events.iter().enumerate() {
         if !known.numbers.is_cut(place) {
-            let mut text = Text::new(alloc);
+            let mut text = ProseText::new(alloc);
             known.put_note(&mut text, held, &stale, place, *event);
             notes.push(text.into_line()?)?;
         }
@@ -48,7 +48,7 @@ fn add_notes(
 }
 
 /// The place of the store that has the word that the event at this place answers.
-fn store_of(found: &Findings, place: usize) -> Option<usize> {
+fn sketch_store_of(found: &Findings, place: usize) -> Option<usize> {
     match found.loads.sources.get(place) {
         Some(Some(Source::StoreAt(store))) => Some(*store),
         _ => Some(found.loads.stray(place)?.store),
@@ -56,8 +56,8 @@ fn store_of(found: &Findings, place: usize) -> Option<usize> {
 }
 
 /// The same, counted from where the events are that are left.
-fn read_at(found: &Findings, numbers: EventNumbers, place: usize) -> Option<usize> {
-    let store = store_of(found, place)?;
+fn sketch_read_at(found: &Findings, numbers: ProseNumbers, place: usize) -> Option<usize> {
+    let store = sketch_store_of(found, place)?;
     if numbers.is_cut(store) {
         None
     } else {
@@ -66,13 +66,13 @@ fn read_at(found: &Findings, numbers: EventNumbers, place: usize) -> Option<usiz
 }
 
 /// Whether the event at this place is a load that misses a store.
-fn is_stale(found: &Findings, place: usize) -> bool {
+fn sketch_is_stale(found: &Findings, place: usize) -> bool {
     match (
         found.loads.sources.get(place),
         found.loads.earlier.get(place),
     ) {
         (Some(Some(_)), Some(Some(last))) => {
-            !last.is_ordered && store_of(found, place) != Some(last.place)
+            !last.is_ordered && sketch_store_of(found, place) != Some(last.place)
         }
         _ => false,
     }
@@ -80,35 +80,35 @@ fn is_stale(found: &Findings, place: usize) -> bool {
 
 /// Of each event that is left, of so many in all, the place of the store that it answers. The only error is running out of
 /// memory.
-fn reads_of(
+fn sketch_reads_of(
     alloc: Global,
     found: &Findings,
-    numbers: EventNumbers,
+    numbers: ProseNumbers,
     count: usize,
 ) -> Result<Vec<Option<usize>>, AllocError> {
     let mut reads = Vec::new(alloc);
     for place in numbers.opening..count {
-        reads.push(read_at(found, numbers, place))?;
+        reads.push(sketch_read_at(found, numbers, place))?;
     }
     Ok(reads)
 }
 
 /// Of each event that is left, of so many in all, whether it misses a store. The only error is running out of memory.
-fn stale_of(
+fn sketch_stale_of(
     alloc: Global,
     found: &Findings,
-    numbers: EventNumbers,
+    numbers: ProseNumbers,
     count: usize,
 ) -> Result<Vec<bool>, AllocError> {
     let mut stale = Vec::new(alloc);
     for place in numbers.opening..count {
-        stale.push(is_stale(found, place))?;
+        stale.push(sketch_is_stale(found, place))?;
     }
     Ok(stale)
 }
 
 /// For what the processor waits, in words; None where it waits for nothing. The only error is running out of memory.
-fn wait_of(
+fn sketch_wait_of(
     alloc: Global,
     halted: &Halted<'_>,
     processor: usize,
@@ -116,26 +116,26 @@ fn wait_of(
     if !halted.waits(processor) {
         return Ok(None);
     }
-    let mut text = Text::new(alloc);
+    let mut text = ProseText::new(alloc);
     halted.put_wait(&mut text, processor);
     Ok(Some(text.into_line()?))
 }
 
 /// For what each of so many processors waits. The only error is running out of memory.
-fn waits_of(
+fn sketch_waits_of(
     alloc: Global,
     halted: &Halted<'_>,
     processors: usize,
 ) -> Result<Vec<Option<Vec<u8>>>, AllocError> {
     let mut waits = Vec::new(alloc);
     for processor in 0..processors {
-        waits.push(wait_of(alloc, halted, processor)?)?;
+        waits.push(sketch_wait_of(alloc, halted, processor)?)?;
     }
     Ok(waits)
 }
 
 /// Of each of so many processors the one that could let it go on. The only error is running out of memory.
-fn holders_of(
+fn sketch_holders_of(
     alloc: Global,
     halted: &Halted<'_>,
     processors: usize,
@@ -155,37 +155,37 @@ fn sketch_history(
     history: &ToldHistory<'_>,
     pages: bool,
 ) -> Result<Sketch, AllocError> {
-    let found = found_of(alloc, history.history, pages, &[])?;
+    let found = findings_of(alloc, history.history, pages, &[])?;
     let mut notes = Vec::new(alloc);
-    let known = Known::new(*history, &found);
-    add_notes(&mut notes, held, alloc, &known)?;
+    let known = HistoryNotes::new(*history, &found);
+    add_sketch_notes(&mut notes, held, alloc, &known)?;
     let numbers = known.numbers;
     let count = known.events.len();
     Ok(Sketch {
         notes,
-        reads: reads_of(alloc, &found, numbers, count)?,
-        stale: stale_of(alloc, &found, numbers, count)?,
+        reads: sketch_reads_of(alloc, &found, numbers, count)?,
+        stale: sketch_stale_of(alloc, &found, numbers, count)?,
         waits: Vec::new(alloc),
         holders: Vec::new(alloc),
     })
 }
 
 /// Adds who waits at the history's end, where this is held, for what and for whom. The only error is running out of memory.
-fn add_waits(
+fn add_sketch_waits(
     sketch: &mut Sketch,
     alloc: Global,
     held: &HeldNow,
     history: &History<'_>,
 ) -> Result<(), AllocError> {
     let processors = history.sizes().processors;
-    let last = last_of(history.left());
+    let last = last_of_halted(history.left());
     let halted = Halted {
         held,
         last: &last,
         is_cut: history.cut_events() > 0,
     };
-    sketch.waits = waits_of(alloc, &halted, processors)?;
-    sketch.holders = holders_of(alloc, &halted, processors)?;
+    sketch.waits = sketch_waits_of(alloc, &halted, processors)?;
+    sketch.holders = sketch_holders_of(alloc, &halted, processors)?;
     Ok(())
 }
 
@@ -194,7 +194,7 @@ pub fn sketch_run(alloc: Global, history: &History<'_>) -> Result<Sketch, AllocE
     let mut held = HeldNow::new(alloc, history.sizes().processors)?;
     let told = ToldHistory::of_run(history);
     let mut sketch = sketch_history(alloc, &mut held, &told, true)?;
-    add_waits(&mut sketch, alloc, &held, history)?;
+    add_sketch_waits(&mut sketch, alloc, &held, history)?;
     Ok(sketch)
 }
 

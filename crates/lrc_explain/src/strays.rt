@@ -18,14 +18,14 @@ pub struct Stray {
 
 /// Of each address and value the last store so far.
 #[derive(Drop)]
-struct LastStores {
+struct LastStoresForStrays {
     places: BTreeMap<(usize, u32), usize>,
 }
 
-impl LastStores {
+impl LastStoresForStrays {
     /// Before the first event.
-    fn new(alloc: Global) -> LastStores {
-        LastStores {
+    fn new(alloc: Global) -> LastStoresForStrays {
+        LastStoresForStrays {
             places: BTreeMap::new(alloc),
         }
     }
@@ -48,7 +48,13 @@ impl LastStores {
 }
 
 /// Whether the event at `store` happens before the one at `place`, which is this processor's.
-fn is_before(ways: &Ways, events: &[Event], store: usize, place: usize, processor: usize) -> bool
+fn is_stray_before(
+    ways: &Ways,
+    events: &[Event],
+    store: usize,
+    place: usize,
+    processor: usize,
+) -> bool
     requires { ArePathWays events.now ways.now }
 {
     if store >= events.len() || processor >= MOST_PROCESSORS {
@@ -72,13 +78,13 @@ pub fn strays_of(
 ) -> Result<Vec<Option<Stray>>, AllocError>
     requires { ArePathWays events.now ways.now }
 {
-    let mut last = LastStores::new(alloc);
+    let mut last = LastStoresForStrays::new(alloc);
     let mut strays = Vec::with_capacity(alloc, events.len())?;
     for (place, event) in events.iter().enumerate() {
         let stray = match (sources.get(place), last.of(event.kind)) {
             (Some(Some(Source::Unexplained)), Some(store)) => Some(Stray {
                 store,
-                is_ordered: is_before(ways, events, store, place, event.processor),
+                is_ordered: is_stray_before(ways, events, store, place, event.processor),
             }),
             _ => None,
         };

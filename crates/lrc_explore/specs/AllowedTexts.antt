@@ -4,7 +4,7 @@ use Rattle.std.specs.Fmt.{decimal}
 use Rattle.std.specs.Io.KnownBytes.{Appends}
 use Rattle.explore.specs.declared.allowed.AllowedOutcomes.{AllowedOutcomes}
 use Rattle.explore.specs.declared.explored.Explored.{Explored}
-use Rattle.lrc_explore.specs.Texts.{IsExploreText}
+use Rattle.lrc_explore.specs.ExploreTexts.{IsExploreText}
 
 -- whether the rules allow no other outcomes
 abbrev pub allowed_text_end : Bool → List ℕ
@@ -30,5 +30,5 @@ IsAllowedText explored allowed text =
     (front lines : List ℕ) × IsExploreText explored front × (text ≡ front ++ allowed_text_told allowed lines)
 
 -- such a text was appended
-abbrev pub AllowedWritten : Option (List ℕ) → Option (List ℕ) → Explored → AllowedOutcomes → Type 0
-AllowedWritten old new explored allowed = (text : List ℕ) × IsAllowedText explored allowed text × Appends old new text
+abbrev pub AllowedTextWritten : Option (List ℕ) → Option (List ℕ) → Explored → AllowedOutcomes → Type 0
+AllowedTextWritten old new explored allowed = (text : List ℕ) × IsAllowedText explored allowed text × Appends old new text

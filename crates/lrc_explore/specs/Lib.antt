@@ -1,5 +1,6 @@
-pub mod Texts
+pub mod ExploreTexts
 pub mod AllowedTexts
 pub mod Showings
+pub mod AllowedShowings
 pub mod Prelude
 pub mod Schedules

@@ -1,5 +1,6 @@
 -- The words that contracts name, passed on from one place. Declares nothing.
-pub use Rattle.lrc_explore.specs.Texts.{IsExploreText, IsHangEventsText, IsHangText, IsMetText, IsQuietText, IsRacyText}
-pub use Rattle.lrc_explore.specs.Texts.{ExploreUnwritten, ExploreWritten, explore_text_line_at, explore_text_outcomes_end, explore_text_outcomes_line, explore_text_racy_lines, explore_text_states_line}
-pub use Rattle.lrc_explore.specs.Showings.{AreWordsShown, IsShowingText, IsShownText, IsUnshown, ShowingWritten, schedule_line}
-pub use Rattle.lrc_explore.specs.AllowedTexts.{AllowedWritten, IsAllowedText, allowed_text_beginnings, allowed_text_count, allowed_text_end, allowed_text_told}
+pub use Rattle.lrc_explore.specs.ExploreTexts.{IsExploreText, IsExploreTextOfHangEvents, IsExploreTextOfHang, IsExploreTextOfMetHang, IsExploreTextOfQuiet, IsExploreTextOfRacy}
+pub use Rattle.lrc_explore.specs.ExploreTexts.{ExploreTextUnwritten, ExploreTextWritten, explore_text_event_at, explore_text_outcomes_end, explore_text_outcomes, explore_text_racy, explore_text_states}
+pub use Rattle.lrc_explore.specs.Showings.{AreShowingWords, IsShowingText, IsShowingTextOfRun, IsShowingUnshown, ShowingWritten, showing_schedule_line}
+pub use Rattle.lrc_explore.specs.AllowedTexts.{AllowedTextWritten, IsAllowedText, allowed_text_beginnings, allowed_text_count, allowed_text_end, allowed_text_told}
+pub use Rattle.lrc_explore.specs.AllowedShowings.{AllowedShowingWritten, IsAllowedShowingAnswer, IsAllowedShowingOfRun, IsAllowedShowingText}

@@ -2,39 +2,39 @@
 use Rattle.std.specs.Prelude.{ℕ, ◌≡◌, List, ◌++◌, Option, codes}
 use Rattle.std.specs.Io.KnownBytes.{Appends}
 use Rattle.base.specs.InOrderOnce.{Has}
-use Rattle.conformance.specs.Schedules.{schedule_text}
+use Rattle.conformance.specs.ScheduleTexts.{schedule_text}
 use Rattle.explore.specs.declared.showing.ExploredUntil.{ExploredUntil}
 use Rattle.explore.specs.declared.showing.Showing.{Showing}
 use Rattle.explore.specs.declared.showing.Showing.TheVariants.{Shown, Never, Racy, Undecided}
-use Rattle.lrc_explore.specs.Texts.{explore_text_racy_lines, explore_text_states_line}
+use Rattle.lrc_explore.specs.ExploreTexts.{explore_text_racy, explore_text_states}
 
 -- each of these words is at an address that is shown
-abbrev pub AreWordsShown : List ℕ → List (ℕ × ℕ) → Type 0
-AreWordsShown shown words = (address word : ℕ) → Has words (address, word) → Has shown address
+abbrev pub AreShowingWords : List ℕ → List (ℕ × ℕ) → Type 0
+AreShowingWords shown words = (address word : ℕ) → Has words (address, word) → Has shown address
 
 -- one of these words is at this address, which isn't shown
-pub record IsUnshown (shown : List ℕ) (words : List (ℕ × ℕ)) (address : ℕ) : Type 0 where
+pub record IsShowingUnshown (shown : List ℕ) (words : List (ℕ × ℕ)) (address : ℕ) : Type 0 where
   pub word : ℕ
   pub asked : Has words (address, word)
   pub unshown : ¬ Has shown address
 
 -- the line of a schedule
-abbrev pub schedule_line : List ℕ → List ℕ
-schedule_line turns = codes "  schedule " ++ schedule_text turns ++ codes "\n"
+abbrev pub showing_schedule_line : List ℕ → List ℕ
+showing_schedule_line turns = codes "  schedule " ++ schedule_text turns ++ codes "\n"
 
 -- a run that ends with the words: a line of what it shows, and one of a schedule
-abbrev pub IsShownText : ℕ → List ℕ → Type 0
-IsShownText states text =
+abbrev pub IsShowingTextOfRun : ℕ → List ℕ → Type 0
+IsShowingTextOfRun states text =
     (outcome turns : List ℕ)
-    × (text ≡ codes "until shown\n" ++ outcome ++ schedule_line turns ++ explore_text_states_line states)
+    × (text ≡ codes "until shown\n" ++ outcome ++ showing_schedule_line turns ++ explore_text_states states)
 
 -- the text by the answer, if so many states were found
 abbrev pub IsShowingText : Showing → ℕ → List ℕ → Type 0
-IsShowingText (Shown run) states text = IsShownText states text
-IsShowingText Never states text = text ≡ codes "until never\n" ++ explore_text_states_line states
+IsShowingText (Shown run) states text = IsShowingTextOfRun states text
+IsShowingText Never states text = text ≡ codes "until never\n" ++ explore_text_states states
 IsShowingText (Racy racy) states text =
-    text ≡ codes "verdict racy\n" ++ explore_text_racy_lines racy.events.items racy.first ++ explore_text_states_line states
-IsShowingText Undecided states text = text ≡ codes "until undecided\n" ++ explore_text_states_line states
+    text ≡ codes "verdict racy\n" ++ explore_text_racy racy.events.items racy.first ++ explore_text_states states
+IsShowingText Undecided states text = text ≡ codes "until undecided\n" ++ explore_text_states states
 
 -- such a text was appended
 abbrev pub ShowingWritten : Option (List ℕ) → Option (List ℕ) → ExploredUntil → Type 0

@@ -1,10 +1,10 @@
 //! Which words can be asked for: those that the script shows.
 ghost use Rattle.std.specs.Prelude.{◌↔◌, IsTrue, MatchOption};
 ghost use Rattle.base.specs.Prelude.{Has};
-ghost use Rattle.lrc_explore.specs.Prelude.{AreWordsShown, IsUnshown};
+ghost use Rattle.lrc_explore.specs.Prelude.{AreShowingWords, IsShowingUnshown};
 
 /// Whether the address is among these.
-fn is_among(shown: &[usize], address: usize) -> bool
+fn is_among_asked(shown: &[usize], address: usize) -> bool
     ensures { IsTrue result ↔ Has shown.now address }
 {
     for other in shown {
@@ -16,11 +16,11 @@ fn is_among(shown: &[usize], address: usize) -> bool
 }
 
 /// The first address of these words that isn't among the shown ones.
-pub fn unshown_address(shown: &[usize], words: &[(usize, u32)]) -> Option<usize>
-    ensures { MatchOption result (AreWordsShown shown.now words.now) (IsUnshown shown.now words.now) }
+pub fn unshown_asked_address(shown: &[usize], words: &[(usize, u32)]) -> Option<usize>
+    ensures { MatchOption result (AreShowingWords shown.now words.now) (IsShowingUnshown shown.now words.now) }
 {
     for (address, _) in words {
-        if !is_among(shown, *address) {
+        if !is_among_asked(shown, *address) {
             return Some(*address);
         }
     }

@@ -6,7 +6,7 @@ use journal::{Event, Kind};
 use std::alloc::{AllocError, Global};
 
 /// Who holds the lock after these events.
-fn holder_after(events: &[Event], lock: usize) -> Option<usize> {
+fn hanging_holder_after(events: &[Event], lock: usize) -> Option<usize> {
     let mut holder = None;
     for event in events {
         if event.kind == Kind::Acquire(lock) {
@@ -19,7 +19,7 @@ fn holder_after(events: &[Event], lock: usize) -> Option<usize> {
 }
 
 /// How often the processor arrives among these events.
-fn arrivals_of(events: &[Event], processor: usize) -> usize {
+fn hanging_arrivals_of(events: &[Event], processor: usize) -> usize {
     events
         .iter()
         .filter(|event| event.processor == processor && event.kind == Kind::Arrive)
@@ -27,19 +27,23 @@ fn arrivals_of(events: &[Event], processor: usize) -> usize {
 }
 
 /// Adds who holds the lock.
-fn put_holder(text: &mut Vec<u8>, events: &[Event], lock: usize) -> Result<(), AllocError> {
-    match holder_after(events, lock) {
+fn put_hanging_holder(text: &mut Vec<u8>, events: &[Event], lock: usize) -> Result<(), AllocError> {
+    match hanging_holder_after(events, lock) {
         Some(holder) => put_number(text, b", held by processor ", holder as u64),
         None => Ok(()),
     }
 }
 
 /// Adds who hasn't arrived as often as the processor.
-fn put_missing(text: &mut Vec<u8>, hang: &Hang, processor: usize) -> Result<(), AllocError> {
-    let arrivals = arrivals_of(&hang.events, processor);
+fn put_hanging_missing(
+    text: &mut Vec<u8>,
+    hang: &Hang,
+    processor: usize,
+) -> Result<(), AllocError> {
+    let arrivals = hanging_arrivals_of(&hang.events, processor);
     let mut front: &[u8] = b" for processor ";
     for other in 0..hang.waits.len() {
-        if arrivals_of(&hang.events, other) < arrivals {
+        if hanging_arrivals_of(&hang.events, other) < arrivals {
             put_number(text, front, other as u64)?;
             front = b", processor ";
         }
@@ -48,7 +52,7 @@ fn put_missing(text: &mut Vec<u8>, hang: &Hang, processor: usize) -> Result<(), 
 }
 
 /// Adds what this event would end.
-fn put_awaited(
+fn put_hanging_awaited(
     text: &mut Vec<u8>,
     hang: &Hang,
     processor: usize,
@@ -57,7 +61,7 @@ fn put_awaited(
     match awaited {
         Kind::Acquire(lock) => {
             put_number(text, b" waits for lock ", lock as u64)?;
-            put_holder(text, &hang.events, lock)
+            put_hanging_holder(text, &hang.events, lock)
         }
         Kind::Await(flag) => {
             put_number(text, b" waits for flag ", flag as u64)?;
@@ -65,7 +69,7 @@ fn put_awaited(
         }
         _ => {
             text.extend_from_slice(b" waits at the barrier")?;
-            put_missing(text, hang, processor)
+            put_hanging_missing(text, hang, processor)
         }
     }
 }
@@ -75,7 +79,7 @@ fn put_hanging_waits(text: &mut Vec<u8>, hang: &Hang) -> Result<(), AllocError> 
     for (processor, awaited) in hang.waits.iter().enumerate() {
         if let Some(kind) = *awaited {
             put_number(text, b"processor ", processor as u64)?;
-            put_awaited(text, hang, processor, kind)?;
+            put_hanging_awaited(text, hang, processor, kind)?;
             text.extend_from_slice(b"\n")?;
         }
     }

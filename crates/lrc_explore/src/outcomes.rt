@@ -5,7 +5,7 @@ use explore::ScriptOutcome;
 use std::alloc::{AllocError, Global};
 
 /// What the loads of each processor answered, of each outcome: in rising order. The only error is running out of memory.
-pub fn sorted_outcomes(
+pub fn sorted_explored_outcomes(
     alloc: Global,
     outcomes: &[ScriptOutcome],
 ) -> Result<Vec<&[Vec<u32>]>, AllocError> {
@@ -19,7 +19,11 @@ pub fn sorted_outcomes(
 
 /// Of an outcome, the replies of the processor's own loads, and the words at so many shown addresses, which processor 0 loads at
 /// the end.
-pub fn outcome_parts(replies: &[Vec<u32>], processor: usize, shown: usize) -> (&[u32], &[u32]) {
+pub fn explored_outcome_parts(
+    replies: &[Vec<u32>],
+    processor: usize,
+    shown: usize,
+) -> (&[u32], &[u32]) {
     let last = if processor == 0 { shown } else { 0 };
     match replies.get(processor) {
         Some(words) => words.split_at(words.len().saturating_sub(last)),
@@ -28,22 +32,34 @@ pub fn outcome_parts(replies: &[Vec<u32>], processor: usize, shown: usize) -> (&
 }
 
 /// Adds a shown address with its word.
-fn put_outcome_word(text: &mut Vec<u8>, address: usize, word: u32) -> Result<(), AllocError> {
+fn put_explored_outcome_word(
+    text: &mut Vec<u8>,
+    address: usize,
+    word: u32,
+) -> Result<(), AllocError> {
     put_number(text, b" ", address as u64)?;
     put_number(text, b" ", u64::from(word))
 }
 
 /// Adds each shown address with its word.
-fn put_outcome_words(text: &mut Vec<u8>, shown: &[usize], words: &[u32]) -> Result<(), AllocError> {
+fn put_explored_outcome_words(
+    text: &mut Vec<u8>,
+    shown: &[usize],
+    words: &[u32],
+) -> Result<(), AllocError> {
     text.extend_from_slice(b"  words")?;
     for (address, word) in shown.iter().zip(words) {
-        put_outcome_word(text, *address, *word)?;
+        put_explored_outcome_word(text, *address, *word)?;
     }
     Ok(())
 }
 
 /// Adds what the processor's own loads answered.
-fn put_own_outcome(text: &mut Vec<u8>, processor: usize, own: &[u32]) -> Result<(), AllocError> {
+fn put_own_explored_outcome(
+    text: &mut Vec<u8>,
+    processor: usize,
+    own: &[u32],
+) -> Result<(), AllocError> {
     put_number(text, b" p", processor as u64)?;
     for word in own {
         put_number(text, b" ", u64::from(*word))?;
@@ -52,17 +68,17 @@ fn put_own_outcome(text: &mut Vec<u8>, processor: usize, own: &[u32]) -> Result<
 }
 
 /// Adds the replies of each processor that loads.
-fn put_outcome_replies(
+fn put_explored_outcome_replies(
     text: &mut Vec<u8>,
     replies: &[Vec<u32>],
     shown: usize,
 ) -> Result<(), AllocError> {
     let mut front: &[u8] = b" replies";
     for processor in 0..replies.len() {
-        let (own, _) = outcome_parts(replies, processor, shown);
+        let (own, _) = explored_outcome_parts(replies, processor, shown);
         if !own.is_empty() {
             text.extend_from_slice(front)?;
-            put_own_outcome(text, processor, own)?;
+            put_own_explored_outcome(text, processor, own)?;
             front = b"";
         }
     }
@@ -70,38 +86,38 @@ fn put_outcome_replies(
 }
 
 /// Adds the line of an outcome of runs that show these addresses.
-fn put_outcome(
+fn put_explored_outcome(
     text: &mut Vec<u8>,
     shown: &[usize],
     replies: &[Vec<u32>],
 ) -> Result<(), AllocError> {
-    let (_, words) = outcome_parts(replies, 0, shown.len());
-    put_outcome_words(text, shown, words)?;
-    put_outcome_replies(text, replies, shown.len())?;
+    let (_, words) = explored_outcome_parts(replies, 0, shown.len());
+    put_explored_outcome_words(text, shown, words)?;
+    put_explored_outcome_replies(text, replies, shown.len())?;
     text.extend_from_slice(b"\n")
 }
 
 /// The line of an outcome of runs that show these addresses. The only error is running out of memory.
-pub fn outcome_text(
+pub fn explored_outcome_line(
     alloc: Global,
     shown: &[usize],
     outcome: &ScriptOutcome,
 ) -> Result<Vec<u8>, AllocError> {
     let mut text = Vec::new(alloc);
-    put_outcome(&mut text, shown, &outcome.replies)?;
+    put_explored_outcome(&mut text, shown, &outcome.replies)?;
     Ok(text)
 }
 
 /// A line for each outcome, of runs that show these addresses. The only error is running out of memory.
-pub fn outcomes_text(
+pub fn explored_outcome_lines(
     alloc: Global,
     shown: &[usize],
     outcomes: &[ScriptOutcome],
 ) -> Result<Vec<u8>, AllocError> {
-    let rows = sorted_outcomes(alloc, outcomes)?;
+    let rows = sorted_explored_outcomes(alloc, outcomes)?;
     let mut text = Vec::new(alloc);
     for replies in &rows {
-        put_outcome(&mut text, shown, *replies)?;
+        put_explored_outcome(&mut text, shown, *replies)?;
     }
     Ok(text)
 }

@@ -1,12 +1,12 @@
 //! An event as an object: its `place`, `processor` and `kind`, and what the kind names.
 
-use crate::values::Members;
+use crate::members::Members;
 use journal::{Event, Kind};
 use serde_json::Value;
 use std::alloc::{AllocError, Global};
 
 /// Adds an access's address and word.
-fn put_access(
+fn put_access_event_json(
     members: &mut Members,
     kind: &str,
     address: usize,
@@ -18,7 +18,7 @@ fn put_access(
 }
 
 /// Adds what a fetch brought.
-fn put_fetch(
+fn put_fetch_event_json(
     members: &mut Members,
     page: usize,
     writers: u32,
@@ -33,42 +33,42 @@ fn put_fetch(
 }
 
 /// Adds a kind that names a lock.
-fn put_of_lock(members: &mut Members, kind: &str, lock: usize) -> Result<(), AllocError> {
+fn put_lock_event_json(members: &mut Members, kind: &str, lock: usize) -> Result<(), AllocError> {
     members.put_text("kind", kind)?;
     members.put_number("lock", lock)
 }
 
 /// Adds a kind that names a flag.
-fn put_of_flag(members: &mut Members, kind: &str, flag: usize) -> Result<(), AllocError> {
+fn put_flag_event_json(members: &mut Members, kind: &str, flag: usize) -> Result<(), AllocError> {
     members.put_text("kind", kind)?;
     members.put_number("flag", flag)
 }
 
 /// Adds what an event did.
-fn put_kind(members: &mut Members, kind: Kind) -> Result<(), AllocError> {
+fn put_event_kind_json(members: &mut Members, kind: Kind) -> Result<(), AllocError> {
     match kind {
-        Kind::Load(address, word) => put_access(members, "load", address, word),
-        Kind::Store(address, word) => put_access(members, "store", address, word),
+        Kind::Load(address, word) => put_access_event_json(members, "load", address, word),
+        Kind::Store(address, word) => put_access_event_json(members, "store", address, word),
         Kind::Fetch {
             writers,
             page,
             records,
             words,
-        } => put_fetch(members, page, writers, records, words),
-        Kind::Ask(lock) => put_of_lock(members, "ask", lock),
-        Kind::Acquire(lock) => put_of_lock(members, "acquire", lock),
-        Kind::Release(lock) => put_of_lock(members, "release", lock),
+        } => put_fetch_event_json(members, page, writers, records, words),
+        Kind::Ask(lock) => put_lock_event_json(members, "ask", lock),
+        Kind::Acquire(lock) => put_lock_event_json(members, "acquire", lock),
+        Kind::Release(lock) => put_lock_event_json(members, "release", lock),
         Kind::Arrive => members.put_text("kind", "arrive"),
         Kind::Depart => members.put_text("kind", "depart"),
-        Kind::Set(flag) => put_of_flag(members, "set", flag),
-        Kind::Watch(flag) => put_of_flag(members, "watch", flag),
-        Kind::Await(flag) => put_of_flag(members, "await", flag),
+        Kind::Set(flag) => put_flag_event_json(members, "set", flag),
+        Kind::Watch(flag) => put_flag_event_json(members, "watch", flag),
+        Kind::Await(flag) => put_flag_event_json(members, "await", flag),
     }
 }
 
 /// The event at this place, with its label, if it has one. Bytes of the label that are no UTF-8 become U+FFFD. The only error
 /// is running out of memory.
-pub fn event_value(
+pub fn event_json(
     alloc: Global,
     place: usize,
     event: Event,
@@ -77,7 +77,7 @@ pub fn event_value(
     let mut members = Members::new(alloc);
     members.put_number("place", place)?;
     members.put_number("processor", event.processor)?;
-    put_kind(&mut members, event.kind)?;
+    put_event_kind_json(&mut members, event.kind)?;
     if !label.is_empty() {
         let label = String::from_utf8_lossy(alloc, label)?;
         members.put("label", Value::String(label))?;
@@ -86,10 +86,10 @@ pub fn event_value(
 }
 
 /// These events, without labels. The only error is running out of memory.
-pub fn events_value(alloc: Global, events: &[Event]) -> Result<Value, AllocError> {
+pub fn events_json(alloc: Global, events: &[Event]) -> Result<Value, AllocError> {
     let mut values = Vec::new(alloc);
     for (place, event) in events.iter().enumerate() {
-        values.push(event_value(alloc, place, *event, b"")?)?;
+        values.push(event_json(alloc, place, *event, b"")?)?;
     }
     Ok(Value::Array(values))
 }

@@ -8,19 +8,21 @@
 #![tactic(auto)]
 
 mod allowed;
+mod allowed_showing;
 mod checked;
 mod events;
 mod explored;
 mod fault;
+mod members;
 mod outcomes;
+mod output;
 mod sampled;
 mod showing;
-mod values;
-mod writing;
 
-pub use allowed::write_allowed;
-pub use checked::write_checked;
-pub use explored::write_explored;
+pub use allowed::write_allowed_json;
+pub use allowed_showing::write_allowed_showing_json;
+pub use checked::write_checked_json;
+pub use explored::write_explored_json;
 pub use fault::JsonFault;
-pub use sampled::write_sampled;
-pub use showing::write_showing;
+pub use sampled::write_sampled_json;
+pub use showing::write_showing_json;

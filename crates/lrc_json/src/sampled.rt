@@ -4,27 +4,31 @@ ghost use Rattle.std.specs.Io.KnownBytes.{Appends};
 ghost use Rattle.lrc_json.specs.declared.fault.JsonFault.TheVariants.{NoMemory};
 
 use crate::fault::JsonFault;
-use crate::outcomes::{replies_value, word_value};
-use crate::values::Members;
-use crate::writing::{put_line, write_text};
+use crate::members::Members;
+use crate::outcomes::{outcome_replies_json, outcome_word_json};
+use crate::output::{put_json_output_line, write_json_output};
 use lrc_sample::TallyLine;
-use lrc_sample::outcome::{Answers, Reply, SampleOutcome};
+use lrc_sample::outcome::{Reply, SampleOutcome, SampleOutcomeAnswers};
 use lrc_sample::sampling::Sampled;
 use serde_json::Value;
 use std::alloc::{AllocError, Global};
 use std::io::Write;
 
 /// The shown addresses with their words.
-fn words_of(alloc: Global, words: &[(usize, u32)]) -> Result<Value, AllocError> {
+fn sampled_words_json(alloc: Global, words: &[(usize, u32)]) -> Result<Value, AllocError> {
     let mut values = Vec::new(alloc);
     for (address, word) in words {
-        values.push(word_value(alloc, *address, *word)?)?;
+        values.push(outcome_word_json(alloc, *address, *word)?)?;
     }
     Ok(Value::Array(values))
 }
 
 /// The words that the loads of the processor answered.
-fn words_by(alloc: Global, processor: usize, replies: &[Reply]) -> Result<Vec<u32>, AllocError> {
+fn sampled_words_by_json(
+    alloc: Global,
+    processor: usize,
+    replies: &[Reply],
+) -> Result<Vec<u32>, AllocError> {
     let mut words = Vec::new(alloc);
     for reply in replies {
         if reply.processor == processor {
@@ -35,14 +39,14 @@ fn words_by(alloc: Global, processor: usize, replies: &[Reply]) -> Result<Vec<u3
 }
 
 /// What the loads answered, of each processor that loads.
-fn replies_of(alloc: Global, replies: &[Reply]) -> Result<Value, AllocError> {
+fn sampled_replies_json(alloc: Global, replies: &[Reply]) -> Result<Value, AllocError> {
     let mut values = Vec::new(alloc);
     let mut last = None;
     for reply in replies {
         let processor = reply.processor;
         if last != Some(processor) {
-            let words = words_by(alloc, processor, replies)?;
-            values.push(replies_value(alloc, processor, &words)?)?;
+            let words = sampled_words_by_json(alloc, processor, replies)?;
+            values.push(outcome_replies_json(alloc, processor, &words)?)?;
             last = Some(processor);
         }
     }
@@ -50,25 +54,29 @@ fn replies_of(alloc: Global, replies: &[Reply]) -> Result<Value, AllocError> {
 }
 
 /// Adds what a run that ended answered.
-fn put_answers(members: &mut Members, alloc: Global, answers: &Answers) -> Result<(), AllocError> {
+fn put_sampled_answers_json(
+    members: &mut Members,
+    alloc: Global,
+    answers: &SampleOutcomeAnswers,
+) -> Result<(), AllocError> {
     let verdict = if answers.is_racy() {
         "racy"
     } else {
         "race-free"
     };
     members.put_text("verdict", verdict)?;
-    members.put("words", words_of(alloc, answers.words())?)?;
-    members.put("replies", replies_of(alloc, answers.replies())?)
+    members.put("words", sampled_words_json(alloc, answers.words())?)?;
+    members.put("replies", sampled_replies_json(alloc, answers.replies())?)
 }
 
 /// Adds what a run came to.
-fn put_outcome(
+fn put_sampled_outcome_json(
     members: &mut Members,
     alloc: Global,
     outcome: &SampleOutcome,
 ) -> Result<(), AllocError> {
     match outcome {
-        SampleOutcome::Ended(answers) => put_answers(members, alloc, answers),
+        SampleOutcome::Ended(answers) => put_sampled_answers_json(members, alloc, answers),
         SampleOutcome::Stuck(processor) => {
             members.put_text("verdict", "stuck")?;
             members.put_number("processor", *processor)
@@ -77,18 +85,18 @@ fn put_outcome(
 }
 
 /// A result: how often it came, and a schedule that shows it.
-fn result_of(alloc: Global, line: &TallyLine) -> Result<Members, AllocError> {
+fn sampled_result_json(alloc: Global, line: &TallyLine) -> Result<Members, AllocError> {
     let mut schedule = String::new(alloc);
     line.schedule.put(&mut schedule)?;
     let mut members = Members::telling(alloc, "result")?;
     members.put("runs", Value::from(line.times))?;
-    put_outcome(&mut members, alloc, &line.outcome)?;
+    put_sampled_outcome_json(&mut members, alloc, &line.outcome)?;
     members.put("schedule", Value::String(schedule))?;
     Ok(members)
 }
 
 /// How many runs and results there were.
-fn end_of(alloc: Global, lines: &[TallyLine]) -> Result<Members, AllocError> {
+fn sampled_summary_json(alloc: Global, lines: &[TallyLine]) -> Result<Members, AllocError> {
     let mut runs: u64 = 0;
     for line in lines {
         runs = runs.saturating_add(line.times);
@@ -100,12 +108,16 @@ fn end_of(alloc: Global, lines: &[TallyLine]) -> Result<Members, AllocError> {
 }
 
 /// The lines of what the runs came to.
-fn text_of(alloc: Global, sampled: &Sampled) -> Result<String, AllocError> {
+fn sampled_lines_json(alloc: Global, sampled: &Sampled) -> Result<String, AllocError> {
     let mut text = String::new(alloc);
     for line in &sampled.lines {
-        put_line(&mut text, alloc, result_of(alloc, line)?)?;
+        put_json_output_line(&mut text, alloc, sampled_result_json(alloc, line)?)?;
     }
-    put_line(&mut text, alloc, end_of(alloc, &sampled.lines)?)?;
+    put_json_output_line(
+        &mut text,
+        alloc,
+        sampled_summary_json(alloc, &sampled.lines)?,
+    )?;
     Ok(text)
 }
 
@@ -115,7 +127,7 @@ fn text_of(alloc: Global, sampled: &Sampled) -> Result<String, AllocError> {
 /// # Errors
 ///
 /// NoMemory, after which nothing was written. After Output a beginning of the lines may be.
-pub fn write_sampled<W: Write>(
+pub fn write_sampled_json<W: Write>(
     alloc: Global,
     sampled: &Sampled,
     out: &mut W,
@@ -123,6 +135,6 @@ pub fn write_sampled<W: Write>(
     ensures written { OnOk result ((text : List ℕ) × Appends (W.contents out.old) (W.contents out.new) text) }
     ensures unwritten { result ≡ Err NoMemory → W.contents out.new ≡ W.contents out.old }
 {
-    let text = text_of(alloc, sampled)?;
-    write_text(&text, out)
+    let text = sampled_lines_json(alloc, sampled)?;
+    write_json_output(&text, out)
 }

@@ -3,29 +3,32 @@ ghost use Rattle.std.specs.Prelude.{◌≡◌, ℕ, List, OnOk, Err};
 ghost use Rattle.std.specs.Io.KnownBytes.{Appends};
 ghost use Rattle.lrc_json.specs.declared.fault.JsonFault.TheVariants.{NoMemory};
 
-use crate::explored::{put_result, race_of};
+use crate::explored::{explored_race_json, put_explored_result_json};
 use crate::fault::JsonFault;
-use crate::values::Members;
-use crate::writing::{put_line, write_text};
+use crate::members::Members;
+use crate::output::{put_json_output_line, write_json_output};
 use explore::{ExploredUntil, Showing, ShownRun};
-use lrc_explore::schedule_of;
+use lrc_explore::schedule_by_turns;
 use lrc_script::script::Script;
 use serde_json::Value;
 use std::alloc::{AllocError, Global};
 use std::io::Write;
 
 /// A run that ends with the words: what it shows, and a schedule by which the script comes to it.
-fn shown_of(alloc: Global, script: &Script, run: &ShownRun) -> Result<Members, AllocError> {
+fn showing_run_json(alloc: Global, script: &Script, run: &ShownRun) -> Result<Members, AllocError> {
     let mut text = String::new(alloc);
-    schedule_of(alloc, script, &run.events)?.put(&mut text)?;
+    schedule_by_turns(alloc, script, &run.events)?.put(&mut text)?;
     let mut members = Members::telling(alloc, "shown")?;
-    put_result(&mut members, alloc, &script.shown, &run.outcome.replies)?;
+    put_explored_result_json(&mut members, alloc, &script.shown, &run.outcome.replies)?;
     members.put("schedule", Value::String(text))?;
     Ok(members)
 }
 
 /// The answer, and how many states were found.
-fn end_of(alloc: Global, explored: &ExploredUntil) -> Result<Members, AllocError> {
+pub fn showing_summary_json(
+    alloc: Global,
+    explored: &ExploredUntil,
+) -> Result<Members, AllocError> {
     let (key, answer) = match &explored.showing {
         Showing::Shown(_) => ("until", "shown"),
         Showing::Never => ("until", "never"),
@@ -38,15 +41,31 @@ fn end_of(alloc: Global, explored: &ExploredUntil) -> Result<Members, AllocError
     Ok(members)
 }
 
-/// The lines of what was found.
-fn text_of(alloc: Global, script: &Script, explored: &ExploredUntil) -> Result<String, AllocError> {
-    let mut text = String::new(alloc);
+/// Adds the line of a run that ends with the words, or of a schedule that races, if there is one.
+pub fn put_showing_json(
+    text: &mut String,
+    alloc: Global,
+    script: &Script,
+    explored: &ExploredUntil,
+) -> Result<(), AllocError> {
     match &explored.showing {
-        Showing::Shown(run) => put_line(&mut text, alloc, shown_of(alloc, script, run)?)?,
-        Showing::Racy(racy) => put_line(&mut text, alloc, race_of(alloc, racy)?)?,
-        _ => {}
+        Showing::Shown(run) => {
+            put_json_output_line(text, alloc, showing_run_json(alloc, script, run)?)
+        }
+        Showing::Racy(racy) => put_json_output_line(text, alloc, explored_race_json(alloc, racy)?),
+        _ => Ok(()),
     }
-    put_line(&mut text, alloc, end_of(alloc, explored)?)?;
+}
+
+/// The lines of what was found.
+fn showing_lines_json(
+    alloc: Global,
+    script: &Script,
+    explored: &ExploredUntil,
+) -> Result<String, AllocError> {
+    let mut text = String::new(alloc);
+    put_showing_json(&mut text, alloc, script, explored)?;
+    put_json_output_line(&mut text, alloc, showing_summary_json(alloc, explored)?)?;
     Ok(text)
 }
 
@@ -56,7 +75,7 @@ fn text_of(alloc: Global, script: &Script, explored: &ExploredUntil) -> Result<S
 /// # Errors
 ///
 /// NoMemory, after which nothing was written. After Output a beginning of the lines may be.
-pub fn write_showing<W: Write>(
+pub fn write_showing_json<W: Write>(
     alloc: Global,
     script: &Script,
     explored: &ExploredUntil,
@@ -65,6 +84,6 @@ pub fn write_showing<W: Write>(
     ensures written { OnOk result ((text : List ℕ) × Appends (W.contents out.old) (W.contents out.new) text) }
     ensures unwritten { result ≡ Err NoMemory → W.contents out.new ≡ W.contents out.old }
 {
-    let text = text_of(alloc, script, explored)?;
-    write_text(&text, out)
+    let text = showing_lines_json(alloc, script, explored)?;
+    write_json_output(&text, out)
 }

@@ -1,3 +1,3 @@
-pub mod OptionRules
+pub mod MatchedOptions
 pub mod WrittenProcessors
-pub mod FinalWords
+pub mod FinalWordItems

@@ -7,12 +7,12 @@ use Rattle.base.specs.InOrderOnce.{Has}
 use Rattle.base.specs.Limits.{most_processors}
 use Rattle.base.proofs.SlicesAndCounts.{slice_push_cases, slice_get-append_left, slice_get-last}
 use Rattle.base.proofs.SliceSets.{slice_get-replicate_found, slice_get-set_other, slice_get-set_same}
-use Rattle.lrc_script.specs.LineReading.{number_read}
+use Rattle.lrc_script.specs.LineReading.{line_read_number}
 use Rattle.lrc_options.specs.Ranges.{AreProcessorsWritten}
 
 -- no words mark nobody
-pub written_none : AreProcessorsWritten [] (replicate most_processors false)
-written_none = record {
+pub written_processors_none : AreProcessorsWritten [] (replicate most_processors false)
+written_processors_none = record {
   long = length-replicate most_processors false;
   each = λ word h. absurd (none-some word h.1);
   marked = λ p. (
@@ -22,15 +22,15 @@ written_none = record {
 }
 
 -- a word more
-pub written_next : (words : List (List ℕ)) (marks : List Bool) (word : List ℕ) (p : ℕ) → number_read word ≡ Some p
+pub written_processors_next : (words : List (List ℕ)) (marks : List Bool) (word : List ℕ) (p : ℕ) → line_read_number word ≡ Some p
     → p < most_processors → AreProcessorsWritten words marks
     → AreProcessorsWritten (words ++ word ∷ []) (slice_set marks p true)
-written_next words marks word p read low are = record {
+written_processors_next words marks word p read low are = record {
   long = length-set marks p true ∙ are.long;
   each = λ other h. elim (slice_push_cases words word h.0 other h.1) [
     | inl old ↦ are.each other (h.0, old.1)
     | inr now ↦
-        subst (λ (w : List ℕ). (q : ℕ) × (number_read w ≡ Some q) × (q < most_processors)) now.1 (p, read, low)
+        subst (λ (w : List ℕ). (q : ℕ) × (line_read_number w ≡ Some q) × (q < most_processors)) now.1 (p, read, low)
   ];
   marked = λ q. (there q, back q);
 }
@@ -39,7 +39,7 @@ written_next words marks word p read low are = record {
     inside = let long = are.long in omega arith
 
     Names : List (List ℕ) → ℕ → Type 0
-    Names ws q = (other : List ℕ) × Has ws other × (number_read other ≡ Some q)
+    Names ws q = (other : List ℕ) × Has ws other × (line_read_number other ≡ Some q)
 
     old : (q : ℕ) → Names words q → Names (words ++ word ∷ []) q
     old q x = (
@@ -61,14 +61,14 @@ written_next words marks word p read low are = record {
       | inr isnt ↦ slice_get-set_other marks p q true isnt ∙ elim (slice_push_cases words word x.1.0 x.0 x.1.1) [
         | inl was ↦ (are.marked q).1 (x.0, (x.1.0, was.1), x.2)
         | inr now ↦
-            absurd (isnt (same_Some q p (sym x.2 ∙ ap number_read (sym now.1) ∙ read)))
+            absurd (isnt (same_Some q p (sym x.2 ∙ ap line_read_number (sym now.1) ∙ read)))
       ]
     ]
 
 -- where a word names no processor, nothing is marked for all of them
-pub written_not : (words : List (List ℕ)) (marks : List Bool) (word : List ℕ) → Has words word
-    → ((p : ℕ) → number_read word ≡ Some p → most_processors ≤ p) → ¬ AreProcessorsWritten words marks
-written_not words marks word here past are =
+pub written_processors_not : (words : List (List ℕ)) (marks : List Bool) (word : List ℕ) → Has words word
+    → ((p : ℕ) → line_read_number word ≡ Some p → most_processors ≤ p) → ¬ AreProcessorsWritten words marks
+written_processors_not words marks word here past are =
     let x = are.each word here in
     let le = past x.0 x.1 in
     let lt = x.2 in

@@ -12,29 +12,29 @@ is_from_words (Some CommandLine) = true
 is_from_words _ = false
 
 -- where what is found for an option comes from
-abbrev pub option_source : Text → List Row → Option ValueSource
-option_source id rows = option_and_then (λ r. r.source) (find (λ r. bytes_eq r.id id) rows)
+abbrev pub clashing_option_source : Text → List Row → Option ValueSource
+clashing_option_source id rows = option_and_then (λ r. r.source) (find (λ r. bytes_eq r.id id) rows)
 
 -- the words give the option
 abbrev pub is_option_in_words : Text → List Row → Bool
-is_option_in_words id rows = is_from_words (option_source id rows)
+is_option_in_words id rows = is_from_words (clashing_option_source id rows)
 
 -- a seed and a schedule are given
-abbrev pub has_both_options : List Row → Bool
-has_both_options rows = is_some (first_of (codes "seed") rows) && is_some (first_of (codes "schedule") rows)
+abbrev pub do_seed_and_schedule_clash : List Row → Bool
+do_seed_and_schedule_clash rows = is_some (first_of (codes "seed") rows) && is_some (first_of (codes "schedule") rows)
 
 -- something is given that only a script has
-abbrev pub has_script_option : List Row → Bool
-has_script_option rows = is_option_in_words (codes "seed") rows
+abbrev pub has_clashing_script_option : List Row → Bool
+has_clashing_script_option rows = is_option_in_words (codes "seed") rows
     || (is_option_in_words (codes "schedule") rows || is_option_in_words (codes "lock") rows)
 
 -- something is given that only a trace has
-abbrev pub has_trace_option : List Row → Bool
-has_trace_option rows = is_option_in_words (codes "model") rows || is_option_in_words (codes "lax") rows
+abbrev pub has_clashing_trace_option : List Row → Bool
+has_clashing_trace_option rows = is_option_in_words (codes "model") rows || is_option_in_words (codes "lax") rows
 
 -- the state of this memory's pages is asked for
-abbrev pub has_page_option : List Row → Bool
-has_page_option rows = is_option_in_words (codes "state") rows || is_option_in_words (codes "html") rows
+abbrev pub has_clashing_page_option : List Row → Bool
+has_clashing_page_option rows = is_option_in_words (codes "state") rows || is_option_in_words (codes "html") rows
 
 -- a trace is to be judged by this memory's own model
 abbrev pub is_own_model : List Row → Bool
@@ -42,10 +42,10 @@ is_own_model rows = option_map_or (λ t. bytes_eq t (codes "lazy-release")) (fir
 
 -- beside `--trace` something is given that only a script has, or pages are asked for without this memory's model
 abbrev pub does_trace_clash : List Row → Bool
-does_trace_clash rows = has_script_option rows || (not (is_own_model rows) && has_page_option rows)
+does_trace_clash rows = has_clashing_script_option rows || (not (is_own_model rows) && has_clashing_page_option rows)
 
 -- a seed and a schedule are given, or to `explain` what doesn't go with `--trace`, or what wants it
-abbrev pub do_options_clash : Text → List Row → Bool
-do_options_clash name rows = has_both_options rows
+abbrev pub do_options_clash_together : Text → List Row → Bool
+do_options_clash_together name rows = do_seed_and_schedule_clash rows
     || (bytes_eq name (codes "explain")
-    && (if is_option_in_words (codes "trace") rows then does_trace_clash rows else has_trace_option rows))
+    && (if is_option_in_words (codes "trace") rows then does_trace_clash rows else has_clashing_trace_option rows))

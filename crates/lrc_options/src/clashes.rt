@@ -1,8 +1,8 @@
 //! Which options exclude each other.
 ghost use Rattle.std.specs.Prelude.{◌≡◌, codes, is_some};
 ghost use Rattle.clap.specs.Words.{first_of, found_of, rows_of};
-ghost use Rattle.lrc_options.specs.Clashes.{do_options_clash, does_trace_clash, has_both_options, has_page_option};
-ghost use Rattle.lrc_options.specs.Clashes.{has_script_option, has_trace_option, is_from_words, is_option_in_words, is_own_model};
+ghost use Rattle.lrc_options.specs.Clashes.{do_options_clash_together, does_trace_clash, do_seed_and_schedule_clash, has_clashing_page_option};
+ghost use Rattle.lrc_options.specs.Clashes.{has_clashing_script_option, has_clashing_trace_option, is_from_words, is_option_in_words, is_own_model};
 
 use clap::ArgMatches;
 use clap::parser::ValueSource;
@@ -15,8 +15,8 @@ fn is_given(matches: &ArgMatches<'_>, id: &str) -> bool
 }
 
 /// Whether a seed and a schedule are given.
-fn has_both(matches: &ArgMatches<'_>) -> bool
-    ensures { result ≡ has_both_options (rows_of (found_of matches.now)) }
+fn seed_clashes_with_schedule(matches: &ArgMatches<'_>) -> bool
+    ensures { result ≡ do_seed_and_schedule_clash (rows_of (found_of matches.now)) }
 {
     is_given(matches, "seed") && is_given(matches, "schedule")
 }
@@ -42,8 +42,8 @@ pub(crate) fn is_in_words(matches: &ArgMatches<'_>, id: &str) -> bool
 }
 
 /// What is said if an option is given that only a script has, beside `--trace`.
-fn script_option_of(matches: &ArgMatches<'_>) -> Option<&'static str>
-    ensures { is_some result ≡ has_script_option (rows_of (found_of matches.now)) }
+fn script_option_clash(matches: &ArgMatches<'_>) -> Option<&'static str>
+    ensures { is_some result ≡ has_clashing_script_option (rows_of (found_of matches.now)) }
 {
     if is_in_words(matches, "seed") {
         Some("the argument '--trace' cannot be used with '--seed <N>'")
@@ -57,8 +57,8 @@ fn script_option_of(matches: &ArgMatches<'_>) -> Option<&'static str>
 }
 
 /// What is said if an option is given that only a trace has, without `--trace`.
-fn trace_option_of(matches: &ArgMatches<'_>) -> Option<&'static str>
-    ensures { is_some result ≡ has_trace_option (rows_of (found_of matches.now)) }
+fn trace_option_clash(matches: &ArgMatches<'_>) -> Option<&'static str>
+    ensures { is_some result ≡ has_clashing_trace_option (rows_of (found_of matches.now)) }
 {
     if is_in_words(matches, "model") {
         Some("the argument '--model <NAME>' cannot be used without '--trace'")
@@ -80,8 +80,8 @@ fn is_lazy_release(matches: &ArgMatches<'_>) -> bool
 }
 
 /// What is said if the state of pages is asked for.
-fn page_option_of(matches: &ArgMatches<'_>) -> Option<&'static str>
-    ensures { is_some result ≡ has_page_option (rows_of (found_of matches.now)) }
+fn page_option_clash(matches: &ArgMatches<'_>) -> Option<&'static str>
+    ensures { is_some result ≡ has_clashing_page_option (rows_of (found_of matches.now)) }
 {
     if is_in_words(matches, "state") {
         Some("the argument '--state' beside '--trace' wants '--model lazy-release'")
@@ -93,29 +93,29 @@ fn page_option_of(matches: &ArgMatches<'_>) -> Option<&'static str>
 }
 
 /// What is said if something is given beside `--trace` that can't be told of the trace.
-fn beside_trace(matches: &ArgMatches<'_>) -> Option<&'static str>
+fn clash_beside_trace(matches: &ArgMatches<'_>) -> Option<&'static str>
     ensures { is_some result ≡ does_trace_clash (rows_of (found_of matches.now)) }
 {
-    let clash = script_option_of(matches);
+    let clash = script_option_clash(matches);
     if clash.is_some() || is_lazy_release(matches) {
         return clash;
     }
-    page_option_of(matches)
+    page_option_clash(matches)
 }
 
 /// What is said if the command of this name is given options that exclude each other.
-pub(crate) fn clash_of(name: &str, matches: &ArgMatches<'_>) -> Option<&'static str>
-    ensures { is_some result ≡ do_options_clash name.now (rows_of (found_of matches.now)) }
+pub(crate) fn option_clash_of(name: &str, matches: &ArgMatches<'_>) -> Option<&'static str>
+    ensures { is_some result ≡ do_options_clash_together name.now (rows_of (found_of matches.now)) }
 {
-    if has_both(matches) {
+    if seed_clashes_with_schedule(matches) {
         return Some("the argument '--seed <N>' cannot be used with '--schedule <S>'");
     }
     if name != "explain" {
         return None;
     }
     if is_in_words(matches, "trace") {
-        beside_trace(matches)
+        clash_beside_trace(matches)
     } else {
-        trace_option_of(matches)
+        trace_option_clash(matches)
     }
 }

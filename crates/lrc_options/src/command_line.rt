@@ -3,80 +3,80 @@ ghost use Rattle.std.specs.Prelude.{◌≡◌, ℕ, Bool, List, IfOk, IfErr, Mat
 ghost use Rattle.std.specs.Option.{option_map_or};
 ghost use Rattle.std.specs.Str.{bytes_eq};
 ghost use Rattle.clap.specs.Words.{first_of, one_of, rows_of, found_of};
-ghost use Rattle.lrc_options.specs.OptionRules.{IsOptionNumberRead, IsNumberOption, IsSeedOption, IsFlagOption, IsOneOfFlags, AreAskedOptionsOf, AreOptionsOf};
+ghost use Rattle.lrc_options.specs.OptionRules.{IsNumberReadByOptionRule, IsNumberByOptionRule, IsSeedByOptionRule, IsFlagByOptionRule, IsOneOfFlagsByOptionRule, AreOptionsAskedByRules, AreOptionsByRulesOfScript};
 ghost use Rattle.lrc_options.specs.declared.ranges.EventRange.{EventRange};
-ghost use Rattle.lrc_options.specs.OptionRules.{AreEventsGiven, AreExplainOptionsOf, AreExploreOptionsOf, AreFinalWordsGiven, AreProcessorsGiven, AreSampleOptionsOf};
-ghost use Rattle.lrc_options.specs.OptionRules.{AreShowOptionsGiven, AreTellOptionsOf, IsExplanationAsked, IsShowingUnread};
-ghost use Rattle.lrc_options.specs.OptionRules.{AreTraceOptionsOf, default_most_option, option_detail_given, option_model_given, option_named_detail, option_named_model, ticket_option};
-ghost use Rattle.lrc_options.specs.Clashes.{do_options_clash};
-ghost use Rattle.lrc_options.specs.OptionRules.{AreGivenOptions, IsRefusedCommandLine, IsOptionUnanswered, most_tries_option, most_seed_option, default_tries_option, default_seeds_option};
+ghost use Rattle.lrc_options.specs.OptionRules.{AreEventsByOptionRule, AreOptionsByRulesOfExplain, AreOptionsByRulesOfExplore, AreUntilWordsByOptionRule, AreProcessorsByOptionRule, AreOptionsByRulesOfSample};
+ghost use Rattle.lrc_options.specs.OptionRules.{AreOptionsByRulesOfShowing, AreOptionsByRulesOfTell, IsExplanationAskedByOptionRules, IsShowingUnreadByOptionRules};
+ghost use Rattle.lrc_options.specs.OptionRules.{AreOptionsByRulesOfTrace, option_rule_default_most, option_rule_detail_given, option_rule_model_given, option_rule_named_detail, option_rule_named_model, option_rule_ticket};
+ghost use Rattle.lrc_options.specs.Clashes.{do_options_clash_together};
+ghost use Rattle.lrc_options.specs.OptionRules.{AreOptionsGivenByRules, AreOptionsRefusedByRules, IsOptionUnanswered, option_rule_most_tries, option_rule_most_seed, option_rule_default_tries, option_rule_default_seeds};
 
-use crate::clashes::{clash_of, is_in_words};
-use crate::command::{DETAILS, LOCKS, MODELS, MOST_SEED, MOST_TRIES, lrc_command};
+use crate::clap_commands::{DETAILS, LOCKS, MODELS, MOST_SEED, MOST_TRIES, clap_lrc_command};
+use crate::clashes::{is_in_words, option_clash_of};
 use crate::final_words::final_words;
+use crate::misuse::{misuse_by_exclusion, misuse_by_unread_value, with_misuse_tip};
 use crate::options::{
     Asked, Commands, DEFAULT_MOST, DEFAULT_SEEDS, DEFAULT_TRIES, ExplainOptions, ExploreOptions,
     Options, OutcomeDetail, SampleOptions, ShowOptions, TellOptions, TraceModel, TraceOptions,
 };
-use crate::ranges::{ALL_EVENTS, EventRange, event_range, processors};
-use crate::tips::{excluded, not_read, with_tip};
+use crate::ranges::{ALL_EVENTS, EventRange, option_range_of_events, processors};
 use base::MOST_PROCESSORS;
 use clap::{ArgMatches, Error};
 use std::alloc::{AllocError, Global};
 
 /// The number that an option gives.
-fn number_of(matches: &ArgMatches<'_>, id: &str) -> Option<u64>
-    ensures { IsOptionNumberRead (one_of id.now (rows_of (found_of matches.now))) result }
+fn command_line_number(matches: &ArgMatches<'_>, id: &str) -> Option<u64>
+    ensures { IsNumberReadByOptionRule (one_of id.now (rows_of (found_of matches.now))) result }
 {
     matches.get_one::<u64>(id)
 }
 
 /// The number given for `--tries`, or the default.
-fn tries_of(matches: &ArgMatches<'_>) -> u64
-    ensures { IsNumberOption 1 most_tries_option default_tries_option
+fn command_line_tries(matches: &ArgMatches<'_>) -> u64
+    ensures { IsNumberByOptionRule 1 option_rule_most_tries option_rule_default_tries
         (one_of (codes "tries") (rows_of (found_of matches.now))) result }
 {
-    match number_of(matches, "tries") {
+    match command_line_number(matches, "tries") {
         Some(tries) if 1 <= tries && tries <= MOST_TRIES => tries,
         _ => DEFAULT_TRIES,
     }
 }
 
 /// The number given for `--seed`.
-fn seed_of(matches: &ArgMatches<'_>) -> Option<u64>
-    ensures { IsSeedOption (one_of (codes "seed") (rows_of (found_of matches.now))) result }
+fn command_line_seed(matches: &ArgMatches<'_>) -> Option<u64>
+    ensures { IsSeedByOptionRule (one_of (codes "seed") (rows_of (found_of matches.now))) result }
 {
-    match number_of(matches, "seed") {
+    match command_line_number(matches, "seed") {
         Some(seed) if seed <= MOST_SEED => Some(seed),
         _ => None,
     }
 }
 
 /// The number given for `--seeds`, or the default.
-fn seeds_of(matches: &ArgMatches<'_>) -> u32
-    ensures { IsNumberOption 1 most_seed_option default_seeds_option
+fn command_line_seeds(matches: &ArgMatches<'_>) -> u32
+    ensures { IsNumberByOptionRule 1 option_rule_most_seed option_rule_default_seeds
         (one_of (codes "seeds") (rows_of (found_of matches.now))) result }
 {
-    match number_of(matches, "seeds") {
+    match command_line_number(matches, "seeds") {
         Some(seeds) if 1 <= seeds && seeds <= MOST_SEED => seeds as u32,
         _ => DEFAULT_SEEDS,
     }
 }
 
 /// The number given for `--most`, or the default.
-fn most_of(matches: &ArgMatches<'_>) -> u32
-    ensures { IsNumberOption 0 most_seed_option default_most_option
+fn command_line_most(matches: &ArgMatches<'_>) -> u32
+    ensures { IsNumberByOptionRule 0 option_rule_most_seed option_rule_default_most
         (one_of (codes "most") (rows_of (found_of matches.now))) result }
 {
-    match number_of(matches, "most") {
+    match command_line_number(matches, "most") {
         Some(most) if most <= MOST_SEED => most as u32,
         _ => DEFAULT_MOST,
     }
 }
 
 /// Whether the ticket lock is asked for.
-fn is_ticket(matches: &ArgMatches<'_>) -> bool
-    ensures { result ≡ ticket_option (rows_of (found_of matches.now)) }
+fn command_line_wants_ticket(matches: &ArgMatches<'_>) -> bool
+    ensures { result ≡ option_rule_ticket (rows_of (found_of matches.now)) }
 {
     match matches.get_str("lock") {
         Some(lock) => lock == "ticket",
@@ -85,59 +85,59 @@ fn is_ticket(matches: &ArgMatches<'_>) -> bool
 }
 
 /// Whether the journal is asked for.
-fn wants_journal(matches: &ArgMatches<'_>) -> bool
-    ensures { IsFlagOption (one_of (codes "journal") (rows_of (found_of matches.now))) result }
+fn command_line_wants_journal(matches: &ArgMatches<'_>) -> bool
+    ensures { IsFlagByOptionRule (one_of (codes "journal") (rows_of (found_of matches.now))) result }
 {
     matches.get_flag("journal")
 }
 
 /// Whether a picture alone is asked for.
-fn wants_svg(matches: &ArgMatches<'_>) -> bool
-    ensures { IsFlagOption (one_of (codes "svg") (rows_of (found_of matches.now))) result }
+fn command_line_wants_svg(matches: &ArgMatches<'_>) -> bool
+    ensures { IsFlagByOptionRule (one_of (codes "svg") (rows_of (found_of matches.now))) result }
 {
     matches.get_flag("svg")
 }
 
 /// Whether a page with a picture is asked for.
-fn wants_page(matches: &ArgMatches<'_>) -> bool
-    ensures { IsFlagOption (one_of (codes "html") (rows_of (found_of matches.now))) result }
+fn command_line_wants_page(matches: &ArgMatches<'_>) -> bool
+    ensures { IsFlagByOptionRule (one_of (codes "html") (rows_of (found_of matches.now))) result }
 {
     matches.get_flag("html")
 }
 
 /// Whether a picture is asked for, alone or in a page.
-fn wants_picture(matches: &ArgMatches<'_>) -> bool
-    ensures { IsOneOfFlags (one_of (codes "svg") (rows_of (found_of matches.now)))
+fn command_line_wants_picture(matches: &ArgMatches<'_>) -> bool
+    ensures { IsOneOfFlagsByOptionRule (one_of (codes "svg") (rows_of (found_of matches.now)))
         (one_of (codes "html") (rows_of (found_of matches.now))) result }
 {
-    let svg = wants_svg(matches);
-    let page = wants_page(matches);
+    let svg = command_line_wants_svg(matches);
+    let page = command_line_wants_page(matches);
     svg || page
 }
 
 /// Whether the protocol's state is asked for.
-fn wants_state(matches: &ArgMatches<'_>) -> bool
-    ensures { IsFlagOption (one_of (codes "state") (rows_of (found_of matches.now))) result }
+fn command_line_wants_state(matches: &ArgMatches<'_>) -> bool
+    ensures { IsFlagByOptionRule (one_of (codes "state") (rows_of (found_of matches.now))) result }
 {
     matches.get_flag("state")
 }
 
 /// The range given for `--events`, or all events; None where what is given is no range.
-fn events_of(matches: &ArgMatches<'_>) -> Option<EventRange>
-    ensures { MatchOption result ((x : EventRange) → ¬ AreEventsGiven (first_of (codes "events") (rows_of (found_of matches.now))) x)
-        (AreEventsGiven (first_of (codes "events") (rows_of (found_of matches.now)))) }
+fn command_line_events(matches: &ArgMatches<'_>) -> Option<EventRange>
+    ensures { MatchOption result ((x : EventRange) → ¬ AreEventsByOptionRule (first_of (codes "events") (rows_of (found_of matches.now))) x)
+        (AreEventsByOptionRule (first_of (codes "events") (rows_of (found_of matches.now)))) }
 {
     match matches.get_str("events") {
-        Some(text) => event_range(text),
+        Some(text) => option_range_of_events(text),
         None => Some(ALL_EVENTS),
     }
 }
 
 /// The processors given for `--processors`, or all; None where what is given are none.
-fn processors_of(matches: &ArgMatches<'_>) -> Option<[bool; MOST_PROCESSORS]>
+fn command_line_processors(matches: &ArgMatches<'_>) -> Option<[bool; MOST_PROCESSORS]>
     ensures { MatchOption result
-        ((marks : List Bool) → ¬ AreProcessorsGiven (first_of (codes "processors") (rows_of (found_of matches.now))) marks)
-        (AreProcessorsGiven (first_of (codes "processors") (rows_of (found_of matches.now)))) }
+        ((marks : List Bool) → ¬ AreProcessorsByOptionRule (first_of (codes "processors") (rows_of (found_of matches.now))) marks)
+        (AreProcessorsByOptionRule (first_of (codes "processors") (rows_of (found_of matches.now)))) }
 {
     match matches.get_str("processors") {
         Some(text) => processors(text),
@@ -146,13 +146,13 @@ fn processors_of(matches: &ArgMatches<'_>) -> Option<[bool; MOST_PROCESSORS]>
 }
 
 /// The words given for `--until`, or none; None where what is given are no words. The only error is running out of memory.
-fn until_of(
+fn command_line_until(
     alloc: Global,
     matches: &ArgMatches<'_>,
 ) -> Result<Option<Vec<(usize, u32)>>, AllocError>
     ensures { IfOk result (λ o. MatchOption o
-        ((words : List (ℕ × ℕ)) → ¬ AreFinalWordsGiven (first_of (codes "until") (rows_of (found_of matches.now))) words)
-        (λ v. AreFinalWordsGiven (first_of (codes "until") (rows_of (found_of matches.now))) v.items)) }
+        ((words : List (ℕ × ℕ)) → ¬ AreUntilWordsByOptionRule (first_of (codes "until") (rows_of (found_of matches.now))) words)
+        (λ v. AreUntilWordsByOptionRule (first_of (codes "until") (rows_of (found_of matches.now))) v.items)) }
 {
     match matches.get_str("until") {
         Some(text) => final_words(alloc, text),
@@ -161,36 +161,36 @@ fn until_of(
 }
 
 /// Whether what only this memory asks is to be left out.
-fn is_lax(matches: &ArgMatches<'_>) -> bool
-    ensures { IsFlagOption (one_of (codes "lax") (rows_of (found_of matches.now))) result }
+fn command_line_is_lax(matches: &ArgMatches<'_>) -> bool
+    ensures { IsFlagByOptionRule (one_of (codes "lax") (rows_of (found_of matches.now))) result }
 {
     matches.get_flag("lax")
 }
 
 /// Whether a race is to end the judging.
-fn ends_at_race(matches: &ArgMatches<'_>) -> bool
-    ensures { IsFlagOption (one_of (codes "race-is-error") (rows_of (found_of matches.now))) result }
+fn command_line_ends_at_race(matches: &ArgMatches<'_>) -> bool
+    ensures { IsFlagByOptionRule (one_of (codes "race-is-error") (rows_of (found_of matches.now))) result }
 {
     matches.get_flag("race-is-error")
 }
 
 /// Whether the words are to be told of which somebody forgot the lock.
-fn wants_locksets(matches: &ArgMatches<'_>) -> bool
-    ensures { IsFlagOption (one_of (codes "locksets") (rows_of (found_of matches.now))) result }
+fn command_line_wants_locksets(matches: &ArgMatches<'_>) -> bool
+    ensures { IsFlagByOptionRule (one_of (codes "locksets") (rows_of (found_of matches.now))) result }
 {
     matches.get_flag("locksets")
 }
 
 /// Whether the answer is to be JSON.
-fn wants_json(matches: &ArgMatches<'_>) -> bool
-    ensures { IsFlagOption (one_of (codes "json") (rows_of (found_of matches.now))) result }
+fn command_line_wants_json(matches: &ArgMatches<'_>) -> bool
+    ensures { IsFlagByOptionRule (one_of (codes "json") (rows_of (found_of matches.now))) result }
 {
     matches.get_flag("json")
 }
 
 /// The model of this name; the first one, if none has it.
-fn model_named(name: &str) -> TraceModel
-    ensures { result ≡ option_named_model name.now }
+fn command_line_model_named(name: &str) -> TraceModel
+    ensures { result ≡ option_rule_named_model name.now }
 {
     if name == "happens-before" {
         TraceModel::HappensBefore
@@ -204,18 +204,18 @@ fn model_named(name: &str) -> TraceModel
 }
 
 /// The model that is asked for.
-fn model_of(matches: &ArgMatches<'_>) -> TraceModel
-    ensures { result ≡ option_model_given (rows_of (found_of matches.now)) }
+fn command_line_model(matches: &ArgMatches<'_>) -> TraceModel
+    ensures { result ≡ option_rule_model_given (rows_of (found_of matches.now)) }
 {
     match matches.get_str("model") {
-        Some(name) => model_named(name),
+        Some(name) => command_line_model_named(name),
         None => TraceModel::RaceFree,
     }
 }
 
 /// What is told by this name; the words alone, if nothing is.
-fn detail_named(name: &str) -> OutcomeDetail
-    ensures { result ≡ option_named_detail name.now }
+fn command_line_detail_named(name: &str) -> OutcomeDetail
+    ensures { result ≡ option_rule_named_detail name.now }
 {
     if name == "loads" {
         OutcomeDetail::Loads
@@ -227,17 +227,21 @@ fn detail_named(name: &str) -> OutcomeDetail
 }
 
 /// How much of a run is to be told.
-fn detail_of(matches: &ArgMatches<'_>) -> OutcomeDetail
-    ensures { result ≡ option_detail_given (rows_of (found_of matches.now)) }
+fn command_line_detail(matches: &ArgMatches<'_>) -> OutcomeDetail
+    ensures { result ≡ option_rule_detail_given (rows_of (found_of matches.now)) }
 {
     match matches.get_str("outcomes") {
-        Some(name) => detail_named(name),
+        Some(name) => command_line_detail_named(name),
         None => OutcomeDetail::Words,
     }
 }
 
 /// The text that is given for this.
-fn text_of(alloc: Global, matches: &ArgMatches<'_>, id: &str) -> Result<Option<String>, AllocError>
+fn command_line_text(
+    alloc: Global,
+    matches: &ArgMatches<'_>,
+    id: &str,
+) -> Result<Option<String>, AllocError>
     ensures { IfOk result (λ f. option_map (λ s. string_bytes s) f
         ≡ first_of id.now (rows_of (found_of matches.now))) }
 {
@@ -248,166 +252,180 @@ fn text_of(alloc: Global, matches: &ArgMatches<'_>, id: &str) -> Result<Option<S
 }
 
 /// The options that the name of a command on a script, and its matches, give.
-fn options_of(alloc: Global, name: &str, matches: &ArgMatches<'_>) -> Result<Options, AllocError>
-    ensures { IfOk result (AreOptionsOf name.now (rows_of (found_of matches.now))) }
+fn command_line_script_options(
+    alloc: Global,
+    name: &str,
+    matches: &ArgMatches<'_>,
+) -> Result<Options, AllocError>
+    ensures { IfOk result (AreOptionsByRulesOfScript name.now (rows_of (found_of matches.now))) }
 {
-    let file = text_of(alloc, matches, "FILE")?;
-    let schedule = text_of(alloc, matches, "schedule")?;
+    let file = command_line_text(alloc, matches, "FILE")?;
+    let schedule = command_line_text(alloc, matches, "schedule")?;
     Ok(Options {
         step: name == "step",
         file,
-        tries: tries_of(matches),
-        seed: seed_of(matches),
+        tries: command_line_tries(matches),
+        seed: command_line_seed(matches),
         schedule,
-        ticket: is_ticket(matches),
-        journal: wants_journal(matches),
+        ticket: command_line_wants_ticket(matches),
+        journal: command_line_wants_journal(matches),
     })
 }
 
 /// The options that the matches of `explain` give, of which this is shown.
-fn explain_options_of(
+fn command_line_explain_options(
     alloc: Global,
     matches: &ArgMatches<'_>,
     showing: ShowOptions,
 ) -> Result<ExplainOptions, AllocError>
-    requires { AreShowOptionsGiven (rows_of (found_of matches.now)) showing }
-    ensures { IfOk result (AreExplainOptionsOf (rows_of (found_of matches.now))) }
+    requires { AreOptionsByRulesOfShowing (rows_of (found_of matches.now)) showing }
+    ensures { IfOk result (AreOptionsByRulesOfExplain (rows_of (found_of matches.now))) }
 {
-    let file = text_of(alloc, matches, "FILE")?;
-    let schedule = text_of(alloc, matches, "schedule")?;
+    let file = command_line_text(alloc, matches, "FILE")?;
+    let schedule = command_line_text(alloc, matches, "schedule")?;
     Ok(ExplainOptions {
         file,
-        seed: seed_of(matches),
+        seed: command_line_seed(matches),
         schedule,
-        ticket: is_ticket(matches),
+        ticket: command_line_wants_ticket(matches),
         showing,
     })
 }
 
 /// The options that the matches of `explain --trace` give, of which this is shown.
-fn tell_options_of(
+fn command_line_tell_options(
     alloc: Global,
     matches: &ArgMatches<'_>,
     showing: ShowOptions,
 ) -> Result<TellOptions, AllocError>
-    requires { AreShowOptionsGiven (rows_of (found_of matches.now)) showing }
-    ensures { IfOk result (AreTellOptionsOf (rows_of (found_of matches.now))) }
+    requires { AreOptionsByRulesOfShowing (rows_of (found_of matches.now)) showing }
+    ensures { IfOk result (AreOptionsByRulesOfTell (rows_of (found_of matches.now))) }
 {
-    let file = text_of(alloc, matches, "FILE")?;
+    let file = command_line_text(alloc, matches, "FILE")?;
     Ok(TellOptions {
         file,
-        model: model_of(matches),
-        lax: is_lax(matches),
+        model: command_line_model(matches),
+        lax: command_line_is_lax(matches),
         showing,
     })
 }
 
 /// The options that the matches of `sample` give.
-fn sample_options_of(alloc: Global, matches: &ArgMatches<'_>) -> Result<SampleOptions, AllocError>
-    ensures { IfOk result (AreSampleOptionsOf (rows_of (found_of matches.now))) }
+fn command_line_sample_options(
+    alloc: Global,
+    matches: &ArgMatches<'_>,
+) -> Result<SampleOptions, AllocError>
+    ensures { IfOk result (AreOptionsByRulesOfSample (rows_of (found_of matches.now))) }
 {
-    let file = text_of(alloc, matches, "FILE")?;
+    let file = command_line_text(alloc, matches, "FILE")?;
     Ok(SampleOptions {
         file,
-        seeds: seeds_of(matches),
-        ticket: is_ticket(matches),
-        json: wants_json(matches),
+        seeds: command_line_seeds(matches),
+        ticket: command_line_wants_ticket(matches),
+        json: command_line_wants_json(matches),
     })
 }
 
 /// The options that the matches of `explore` give, with these words.
-fn explore_options_of(
+fn command_line_explore_options(
     alloc: Global,
     matches: &ArgMatches<'_>,
     until: Vec<(usize, u32)>,
 ) -> Result<ExploreOptions, AllocError>
-    requires { AreFinalWordsGiven (first_of (codes "until") (rows_of (found_of matches.now))) until.items }
-    ensures { IfOk result (AreExploreOptionsOf (rows_of (found_of matches.now))) }
+    requires { AreUntilWordsByOptionRule (first_of (codes "until") (rows_of (found_of matches.now))) until.items }
+    ensures { IfOk result (AreOptionsByRulesOfExplore (rows_of (found_of matches.now))) }
 {
-    let file = text_of(alloc, matches, "FILE")?;
+    let file = command_line_text(alloc, matches, "FILE")?;
     Ok(ExploreOptions {
         file,
-        most: most_of(matches),
+        most: command_line_most(matches),
         until,
-        outcomes: detail_of(matches),
-        json: wants_json(matches),
+        outcomes: command_line_detail(matches),
+        json: command_line_wants_json(matches),
     })
 }
 
 /// The options that the matches of `check` give.
-fn trace_options_of(alloc: Global, matches: &ArgMatches<'_>) -> Result<TraceOptions, AllocError>
-    ensures { IfOk result (AreTraceOptionsOf (rows_of (found_of matches.now))) }
+fn command_line_trace_options(
+    alloc: Global,
+    matches: &ArgMatches<'_>,
+) -> Result<TraceOptions, AllocError>
+    ensures { IfOk result (AreOptionsByRulesOfTrace (rows_of (found_of matches.now))) }
 {
-    let file = text_of(alloc, matches, "FILE")?;
+    let file = command_line_text(alloc, matches, "FILE")?;
     Ok(TraceOptions {
         file,
-        model: model_of(matches),
-        lax: is_lax(matches),
-        race_is_error: ends_at_race(matches),
-        locksets: wants_locksets(matches),
-        json: wants_json(matches),
+        model: command_line_model(matches),
+        lax: command_line_is_lax(matches),
+        race_is_error: command_line_ends_at_race(matches),
+        locksets: command_line_wants_locksets(matches),
+        json: command_line_wants_json(matches),
     })
 }
 
 /// What the matches of `explain` ask for, of which this is shown.
-fn explanation_of(
+fn command_line_explanation(
     alloc: Global,
     matches: &ArgMatches<'_>,
     showing: ShowOptions,
 ) -> Result<Asked, AllocError>
-    requires { AreShowOptionsGiven (rows_of (found_of matches.now)) showing }
-    ensures { IfOk result (IsExplanationAsked (rows_of (found_of matches.now))) }
+    requires { AreOptionsByRulesOfShowing (rows_of (found_of matches.now)) showing }
+    ensures { IfOk result (IsExplanationAskedByOptionRules (rows_of (found_of matches.now))) }
 {
     if is_in_words(matches, "trace") {
-        tell_options_of(alloc, matches, showing).map(Asked::Tell)
+        command_line_tell_options(alloc, matches, showing).map(Asked::Tell)
     } else {
-        explain_options_of(alloc, matches, showing).map(Asked::Explain)
+        command_line_explain_options(alloc, matches, showing).map(Asked::Explain)
     }
 }
 
 /// What a command's name and its matches ask for, of which this is shown if it is `explain`, with these words if it is
 /// `explore`.
-fn asked_of(
+fn command_line_asks(
     alloc: Global,
     name: &str,
     matches: &ArgMatches<'_>,
     showing: ShowOptions,
     until: Vec<(usize, u32)>,
 ) -> Result<Asked, AllocError>
-    requires showing { AreShowOptionsGiven (rows_of (found_of matches.now)) showing }
-    requires until { AreFinalWordsGiven (first_of (codes "until") (rows_of (found_of matches.now))) until.items }
-    ensures { IfOk result (AreAskedOptionsOf name.now (rows_of (found_of matches.now))) }
+    requires showing { AreOptionsByRulesOfShowing (rows_of (found_of matches.now)) showing }
+    requires until { AreUntilWordsByOptionRule (first_of (codes "until") (rows_of (found_of matches.now))) until.items }
+    ensures { IfOk result (AreOptionsAskedByRules name.now (rows_of (found_of matches.now))) }
 {
     if name == "explain" {
-        explanation_of(alloc, matches, showing)
+        command_line_explanation(alloc, matches, showing)
     } else if name == "sample" {
-        sample_options_of(alloc, matches).map(Asked::Sample)
+        command_line_sample_options(alloc, matches).map(Asked::Sample)
     } else if name == "explore" {
-        explore_options_of(alloc, matches, until).map(Asked::Explore)
+        command_line_explore_options(alloc, matches, until).map(Asked::Explore)
     } else if name == "check" {
-        trace_options_of(alloc, matches).map(Asked::Trace)
+        command_line_trace_options(alloc, matches).map(Asked::Trace)
     } else {
-        options_of(alloc, name, matches).map(Asked::Script)
+        command_line_script_options(alloc, name, matches).map(Asked::Script)
     }
 }
 
 /// What of a history is shown, and how; or that events or processors are given that can't be read.
-fn show_options(alloc: Global, name: &str, matches: &ArgMatches<'_>) -> Result<ShowOptions, Error>
-    ensures showing { IfOk result (AreShowOptionsGiven (rows_of (found_of matches.now))) }
-    ensures unread { IfErr result (IsShowingUnread (rows_of (found_of matches.now))) }
+fn command_line_show_options(
+    alloc: Global,
+    name: &str,
+    matches: &ArgMatches<'_>,
+) -> Result<ShowOptions, Error>
+    ensures showing { IfOk result (AreOptionsByRulesOfShowing (rows_of (found_of matches.now))) }
+    ensures unread { IfErr result (IsShowingUnreadByOptionRules (rows_of (found_of matches.now))) }
 {
-    let Some(events) = events_of(matches) else {
+    let Some(events) = command_line_events(matches) else {
         let want = "a range of numbers, as 3..8, 3.. or ..8";
-        return Err(not_read(alloc, name, matches, "events", "A..B", want)?);
+        return Err(misuse_by_unread_value(alloc, name, matches, "events", "A..B", want)?);
     };
-    let Some(processors) = processors_of(matches) else {
+    let Some(processors) = command_line_processors(matches) else {
         let want = "numbers from 0 to 15, as 2 or 0,2";
-        return Err(not_read(alloc, name, matches, "processors", "P,..", want)?);
+        return Err(misuse_by_unread_value(alloc, name, matches, "processors", "P,..", want)?);
     };
     Ok(ShowOptions {
-        picture: wants_picture(matches),
-        page: wants_page(matches),
-        state: wants_state(matches),
+        picture: command_line_wants_picture(matches),
+        page: command_line_wants_page(matches),
+        state: command_line_wants_state(matches),
         events,
         processors,
     })
@@ -415,20 +433,20 @@ fn show_options(alloc: Global, name: &str, matches: &ArgMatches<'_>) -> Result<S
 
 /// What a command's name and its matches ask for; or that options exclude each other, or that events, processors or words
 /// can't be read.
-fn answer_of(alloc: Global, name: &str, matches: &ArgMatches<'_>) -> Result<Asked, Error>
-    ensures apart { OnOk result (do_options_clash name.now (rows_of (found_of matches.now)) ≡ false) }
-    ensures asked { IfOk result (AreAskedOptionsOf name.now (rows_of (found_of matches.now))) }
+fn command_line_answer(alloc: Global, name: &str, matches: &ArgMatches<'_>) -> Result<Asked, Error>
+    ensures apart { OnOk result (do_options_clash_together name.now (rows_of (found_of matches.now)) ≡ false) }
+    ensures asked { IfOk result (AreOptionsAskedByRules name.now (rows_of (found_of matches.now))) }
     ensures unanswered { IfErr result (IsOptionUnanswered name.now (rows_of (found_of matches.now))) }
 {
-    if let Some(clash) = clash_of(name, matches) {
-        return Err(excluded(alloc, name, clash)?);
+    if let Some(clash) = option_clash_of(name, matches) {
+        return Err(misuse_by_exclusion(alloc, name, clash)?);
     }
-    let showing = show_options(alloc, name, matches)?;
-    let Some(until) = until_of(alloc, matches)? else {
+    let showing = command_line_show_options(alloc, name, matches)?;
+    let Some(until) = command_line_until(alloc, matches)? else {
         let want = "words at addresses, each address once, as 0=1 or 0=1,4=2";
-        return Err(not_read(alloc, name, matches, "until", "A=V,..", want)?);
+        return Err(misuse_by_unread_value(alloc, name, matches, "until", "A=V,..", want)?);
     };
-    Ok(asked_of(alloc, name, matches, showing, until)?)
+    Ok(command_line_asks(alloc, name, matches, showing, until)?)
 }
 
 /// Reads the words, the program's name first: `lrc run [FILE] [--tries N] [--lock KIND] [--journal]`,
@@ -445,10 +463,10 @@ fn answer_of(alloc: Global, name: &str, matches: &ArgMatches<'_>) -> Result<Aske
 /// a question for help; a conflict, if they give options that exclude each other; a bad value, if they give events, processors
 /// or words that can't be read; or running out of memory.
 pub fn options<'a>(alloc: Global, words: &'a [String], commands: Commands) -> Result<Asked, Error>
-    ensures given { IfOk result (AreGivenOptions (map (λ w. string_bytes w) words.entry.now)) }
-    ensures refused { IfErr result (IsRefusedCommandLine (map (λ w. string_bytes w) words.entry.now)) }
+    ensures given { IfOk result (AreOptionsGivenByRules (map (λ w. string_bytes w) words.entry.now)) }
+    ensures refused { IfErr result (AreOptionsRefusedByRules (map (λ w. string_bytes w) words.entry.now)) }
 {
-    match lrc_command(
+    match clap_lrc_command(
         alloc,
         LOCKS.as_slice(),
         MODELS.as_slice(),
@@ -458,9 +476,9 @@ pub fn options<'a>(alloc: Global, words: &'a [String], commands: Commands) -> Re
     .try_get_matches_from(words)
     {
         Ok(matches) => match matches.subcommand() {
-            Some((name, given)) => answer_of(alloc, name, given),
+            Some((name, given)) => command_line_answer(alloc, name, given),
             None => unreachable!("a command is required"),
         },
-        Err(fault) => Err(with_tip(alloc, words, fault)?),
+        Err(fault) => Err(with_misuse_tip(alloc, words, fault)?),
     }
 }

@@ -112,6 +112,10 @@ With --until, in place of the verdict race-free and what stands below it:
     schedule S             `lrc step --schedule S` shows it
   until never              no run ends with them, and none races
   until undecided          the search was given up, and no run that it met ends with them
+and of a racy script, in place of the results by the rules:
+  until by the rules       they allow a run that ends with these words; then what it shows, and its events
+  until never by the rules
+                           they allow none; or `until undecided by the rules`: that search was given up
 
 Statuses: 0 done, whatever the verdict; 2 the script is refused; 4 running out of memory, or a failed
 write; 5 usage, or the file can't be read; 7 the search was given up.";
@@ -157,7 +161,8 @@ pub(crate) const SCHEDULE: &str =
 pub(crate) const SEEDS: &str =
     "runs it in rounds, and by the turns that the seeds 0 to N - 1 draw; N is up to 4294967295";
 
-pub(crate) const MOST: &str = "gives up after N states; N is up to 4294967295";
+pub(crate) const MOST: &str =
+    "gives up after N states, or N beginnings of histories if the script races; N is up to 4294967295";
 
 pub(crate) const UNTIL: &str =
     "looks for a run that ends with word V at address A, and so on; the script has to show them";

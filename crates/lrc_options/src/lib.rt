@@ -1,6 +1,6 @@
 //! The options of the program `lrc`, by the words of its command line: which script is to be run, and how.
 //!
-//! **What contracts see.** `Options` as they are; `AreGivenOptions` says what options the words give, by the matches
+//! **What contracts see.** `Options` as they are; `AreOptionsGivenByRules` says what options the words give, by the matches
 //! that clap states for a simple command.
 //!
 //! **What is proved.** If `options` answers options, the words give them. If it answers a fault, the words have one
@@ -10,11 +10,11 @@
 //! fault names.
 #![tactic(auto)]
 
+mod clap_commands;
 mod clashes;
-mod command;
 pub mod command_line;
 mod final_words;
 mod help;
+mod misuse;
 pub mod options;
 pub mod ranges;
-mod tips;

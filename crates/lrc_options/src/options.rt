@@ -90,7 +90,7 @@ pub struct SampleOptions {
 pub struct ExploreOptions {
     /// The file to read the script from, or None for standard input.
     pub file: Option<String>,
-    /// How many states are looked at before the search is given up.
+    /// How many states, or beginnings of histories, are looked at before the search is given up.
     pub most: u32,
     /// The words that a run is to end with, each with its address before it; none if all runs are to be looked at.
     pub until: Vec<(usize, u32)>,

@@ -1,12 +1,12 @@
 //! Which events are told, and of which processors: what the texts of `--events` and `--processors` give.
 ghost use Rattle.std.specs.Prelude.{ℕ, ◌≡◌, ◌≢◌, ◌<◌, ◌≤◌, ◌↔◌, [], ◌∷◌, Bool, IfSome, IsTrue, List, MatchOption, Option};
 ghost use Rattle.base.specs.Prelude.{most_processors};
-ghost use Rattle.lrc_script.specs.Prelude.{number_read, parts_of_line};
+ghost use Rattle.lrc_script.specs.Prelude.{line_read_number, parts_of_read_line};
 ghost use Rattle.lrc_options.specs.declared.ranges.EventRange.{EventRange};
-ghost use Rattle.lrc_options.specs.Ranges.{AreProcessorsWritten, IsRangeEnd, IsRangeStart, IsRangeWritten};
+ghost use Rattle.lrc_options.specs.Ranges.{AreProcessorsWritten, IsOptionRangeEnd, IsOptionRangeStart, IsOptionRangeWritten};
 
 use base::MOST_PROCESSORS;
-use lrc_script::line::{number, split_at_byte};
+use lrc_script::line::{number, split_script_line_at};
 
 /// Events by their numbers, which follow each other.
 #[derive(Clone, Copy)]
@@ -24,8 +24,8 @@ pub(crate) const ALL_EVENTS: EventRange = EventRange {
 };
 
 /// Where a range starts whose text begins so: at 0 where nothing is written.
-fn start_of(text: &[u8]) -> Option<usize>
-    ensures { MatchOption result ((n : ℕ) → ¬ IsRangeStart text.now n) (IsRangeStart text.now) }
+fn option_range_start(text: &[u8]) -> Option<usize>
+    ensures { MatchOption result ((n : ℕ) → ¬ IsOptionRangeStart text.now n) (IsOptionRangeStart text.now) }
 {
     if text.is_empty() {
         return Some(0);
@@ -35,8 +35,8 @@ fn start_of(text: &[u8]) -> Option<usize>
 }
 
 /// The number behind the last one of a range whose text ends so; None where nothing is written.
-fn end_of(text: &[u8]) -> Option<Option<usize>>
-    ensures { MatchOption result ((o : Option ℕ) → ¬ IsRangeEnd text.now o) (IsRangeEnd text.now) }
+fn option_range_end(text: &[u8]) -> Option<Option<usize>>
+    ensures { MatchOption result ((o : Option ℕ) → ¬ IsOptionRangeEnd text.now o) (IsOptionRangeEnd text.now) }
 {
     if text.is_empty() {
         return Some(None);
@@ -46,13 +46,13 @@ fn end_of(text: &[u8]) -> Option<Option<usize>>
 }
 
 /// What stands before the two dots of a text, and what stands behind them; None where it has no two dots, or others.
-fn around_dots(text: &str) -> Option<(&[u8], &[u8])>
-    ensures { MatchOption result ((from to : List ℕ) → parts_of_line 46 text.now ≢ from ∷ [] ∷ to ∷ [])
-        (λ x. parts_of_line 46 text.now ≡ x.0.now ∷ [] ∷ x.1.now ∷ []) }
+fn option_range_around_dots(text: &str) -> Option<(&[u8], &[u8])>
+    ensures { MatchOption result ((from to : List ℕ) → parts_of_read_line 46 text.now ≢ from ∷ [] ∷ to ∷ [])
+        (λ x. parts_of_read_line 46 text.now ≡ x.0.now ∷ [] ∷ x.1.now ∷ []) }
 {
-    let (from, rest) = split_at_byte(text.as_bytes(), b'.');
-    let (between, rest) = split_at_byte(rest?, b'.');
-    let (to, rest) = split_at_byte(rest?, b'.');
+    let (from, rest) = split_script_line_at(text.as_bytes(), b'.');
+    let (between, rest) = split_script_line_at(rest?, b'.');
+    let (to, rest) = split_script_line_at(rest?, b'.');
     if !between.is_empty() || rest.is_some() {
         return None;
     }
@@ -60,7 +60,7 @@ fn around_dots(text: &str) -> Option<(&[u8], &[u8])>
 }
 
 /// Whether events of these numbers are some.
-fn are_some(first: usize, end: Option<usize>) -> bool
+fn is_option_range_nonempty(first: usize, end: Option<usize>) -> bool
     ensures { IsTrue result ↔ IfSome end (λ n. first < n) }
 {
     match end {
@@ -71,13 +71,13 @@ fn are_some(first: usize, end: Option<usize>) -> bool
 
 /// The range that a text gives: `A..B` for the events from A to B, both of them with it, `A..` for those from A on, and `..B` for
 /// those up to B. None where it gives none.
-pub(crate) fn event_range(text: &str) -> Option<EventRange>
-    ensures { MatchOption result ((x : EventRange) → ¬ IsRangeWritten text.now x) (IsRangeWritten text.now) }
+pub(crate) fn option_range_of_events(text: &str) -> Option<EventRange>
+    ensures { MatchOption result ((x : EventRange) → ¬ IsOptionRangeWritten text.now x) (IsOptionRangeWritten text.now) }
 {
-    let (from, to) = around_dots(text)?;
-    let first = start_of(from)?;
-    let end = end_of(to)?;
-    if !are_some(first, end) {
+    let (from, to) = option_range_around_dots(text)?;
+    let first = option_range_start(from)?;
+    let end = option_range_end(to)?;
+    if !is_option_range_nonempty(first, end) {
         return None;
     }
     Some(EventRange { first, end })
@@ -85,8 +85,8 @@ pub(crate) fn event_range(text: &str) -> Option<EventRange>
 
 /// The processor that is written so, if there may be one of that number.
 fn processor(text: &[u8]) -> Option<usize>
-    ensures { MatchOption result ((p : ℕ) → number_read text.now ≡ Some p → most_processors ≤ p)
-        (λ p. (number_read text.now ≡ Some p) × (p < most_processors)) }
+    ensures { MatchOption result ((p : ℕ) → line_read_number text.now ≡ Some p → most_processors ≤ p)
+        (λ p. (line_read_number text.now ≡ Some p) × (p < most_processors)) }
 {
     let processor = number(text)? as usize;
     if processor < MOST_PROCESSORS {
@@ -98,13 +98,13 @@ fn processor(text: &[u8]) -> Option<usize>
 
 /// Of each processor whether the text names it: numbers with commas between. None where one of them is no processor's.
 pub(crate) fn processors(text: &str) -> Option<[bool; MOST_PROCESSORS]>
-    ensures { MatchOption result ((marks : List Bool) → ¬ AreProcessorsWritten (parts_of_line 44 text.now) marks)
-        (AreProcessorsWritten (parts_of_line 44 text.now)) }
+    ensures { MatchOption result ((marks : List Bool) → ¬ AreProcessorsWritten (parts_of_read_line 44 text.now) marks)
+        (AreProcessorsWritten (parts_of_read_line 44 text.now)) }
 {
     let mut marks = [false; MOST_PROCESSORS];
     let mut rest = Some(text.as_bytes());
     while let Some(bytes) = rest {
-        let (item, after) = split_at_byte(bytes, b',');
+        let (item, after) = split_script_line_at(bytes, b',');
         marks[processor(item)?] = true;
         rest = after;
     }

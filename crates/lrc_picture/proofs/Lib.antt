@@ -1,4 +1,4 @@
 pub mod Lanes
-pub mod Marking
-pub mod Cutouts
-pub mod Timestamps
+pub mod DrawnMarks
+pub mod DrawnCutouts
+pub mod DrawnTimestamps

@@ -1,9 +1,9 @@
-pub mod Grid
+pub mod PictureGrid
 pub mod Label
 pub mod Marks
 pub mod Arrows
 pub mod Bars
-pub mod Layout
+pub mod PictureLayout
 pub mod Cutout
 pub mod Timestamps
 pub mod Changes

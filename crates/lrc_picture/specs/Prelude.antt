@@ -1,10 +1,10 @@
 -- The words that contracts name, passed on from one place. Declares nothing.
-pub use Rattle.lrc_picture.specs.Label.{label_text}
-pub use Rattle.lrc_picture.specs.Marks.{shape_for, mark_for, AreMarks}
-pub use Rattle.lrc_picture.specs.Arrows.{way_for, arrow_for, ArePlaces}
+pub use Rattle.lrc_picture.specs.Label.{picture_label_text}
+pub use Rattle.lrc_picture.specs.Marks.{picture_mark_shape_for, picture_mark_for, ArePictureMarks}
+pub use Rattle.lrc_picture.specs.Arrows.{arrow_way_for, arrow_for, AreArrowPlaces}
 pub use Rattle.lrc_picture.specs.Bars.{bar_for}
-pub use Rattle.lrc_picture.specs.Layout.{CanBeDrawn, IsGridOf, IsLayoutOf}
-pub use Rattle.lrc_picture.specs.Cutout.{AreDrawn, AreLanes, ArePlacesDrawn, AreRowsOf, IsCutout}
-pub use Rattle.lrc_picture.specs.Timestamps.{AreTimesAfter}
+pub use Rattle.lrc_picture.specs.PictureLayout.{HasPictureLayout, IsPictureLayoutGrid, IsPictureLayoutOf}
+pub use Rattle.lrc_picture.specs.Cutout.{AreCutoutEvents, AreCutoutLanes, AreCutoutPlaces, AreCutoutRowsOf, IsCutout}
+pub use Rattle.lrc_picture.specs.Timestamps.{ArePictureTimestampsAfter}
 pub use Rattle.lrc_picture.specs.Changes.{AreRunChanges}
-pub use Rattle.lrc_picture.specs.Laws.{ApartLaw, InsideLaw}
+pub use Rattle.lrc_picture.specs.Laws.{PictureSpacingLaw, PictureInsideLaw}

@@ -1,9 +1,9 @@
 //! The arrows of a picture: by what events that waited were let through.
 ghost use Rattle.std.specs.Prelude.{◌≡◌, ◌≤◌, ◌<◌, All, length};
-ghost use Rattle.journal.specs.Prelude.{ProcessorsInRange};
-ghost use Rattle.lrc_picture.specs.Prelude.{ArePlaces, arrow_for, way_for};
+ghost use Rattle.journal.specs.Prelude.{EventProcessorsInRange};
+ghost use Rattle.lrc_picture.specs.Prelude.{AreArrowPlaces, arrow_for, arrow_way_for};
 
-use crate::grid::{Grid, Point};
+use crate::picture_grid::{PictureGrid, Point};
 use journal::{Event, Kind};
 use std::alloc::{AllocError, Global};
 
@@ -28,8 +28,8 @@ pub struct Arrow {
 }
 
 /// How the arrows to such an event look. A departure has none, since a bar stands for them.
-fn way_of(kind: Kind) -> Option<Way>
-    ensures { result ≡ way_for kind }
+fn arrow_way_of(kind: Kind) -> Option<Way>
+    ensures { result ≡ arrow_way_for kind }
 {
     match kind {
         Kind::Acquire(_) => Some(Way::Lock),
@@ -39,7 +39,7 @@ fn way_of(kind: Kind) -> Option<Way>
 }
 
 /// The arrow to the second event, in the second row, from the first one.
-fn arrow_of(grid: Grid, row: usize, from: Event, to_row: usize, to: Event, way: Way) -> Arrow
+fn arrow_of(grid: PictureGrid, row: usize, from: Event, to_row: usize, to: Event, way: Way) -> Arrow
     requires from { from.processor ≤ grid.lanes }
     requires row { row ≤ grid.rows }
     requires to { to.processor ≤ grid.lanes }
@@ -56,13 +56,13 @@ fn arrow_of(grid: Grid, row: usize, from: Event, to_row: usize, to: Event, way: 
 /// Adds an arrow to the event in this row from each of these places. The only error is running out of memory.
 fn add_arrows(
     arrows: &mut Vec<Arrow>,
-    grid: Grid,
+    grid: PictureGrid,
     events: &[Event],
     places: &[usize],
     row: usize,
     way: Way,
 ) -> Result<(), AllocError>
-    requires lanes { ProcessorsInRange grid.lanes events.now }
+    requires lanes { EventProcessorsInRange grid.lanes events.now }
     requires rows { length events.now ≤ grid.rows }
     requires row { row < length events.now }
     requires places { All (λ i. i < length events.now) places.now }
@@ -79,17 +79,17 @@ fn add_arrows(
 /// running out of memory.
 pub fn arrows(
     alloc: Global,
-    grid: Grid,
+    grid: PictureGrid,
     events: &[Event],
     incoming: &[Vec<usize>],
 ) -> Result<Vec<Arrow>, AllocError>
-    requires lanes { ProcessorsInRange grid.lanes events.now }
+    requires lanes { EventProcessorsInRange grid.lanes events.now }
     requires rows { length events.now ≤ grid.rows }
-    requires places { ArePlaces (length events.now) incoming.now }
+    requires places { AreArrowPlaces (length events.now) incoming.now }
 {
     let mut arrows = Vec::new(alloc);
     for row in 0..events.len() {
-        if let Some(way) = way_of(events[row].kind) {
+        if let Some(way) = arrow_way_of(events[row].kind) {
             add_arrows(&mut arrows, grid, events, &incoming[row], row, way)?;
         }
     }

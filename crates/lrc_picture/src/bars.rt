@@ -2,7 +2,7 @@
 ghost use Rattle.std.specs.Prelude.{◌≡◌, ◌<◌, ◌≤◌, All, IfOk, map};
 ghost use Rattle.lrc_picture.specs.Prelude.{bar_for};
 
-use crate::grid::{Grid, Point};
+use crate::picture_grid::{PictureGrid, Point};
 use std::alloc::{AllocError, Global};
 
 /// A line from one point to another.
@@ -13,7 +13,7 @@ pub struct Bar {
 }
 
 /// The bar in this row, from the first lane to the last one.
-fn bar_across(grid: Grid, row: usize) -> Bar
+fn bar_across(grid: PictureGrid, row: usize) -> Bar
     requires { row ≤ grid.rows }
     ensures { result ≡ bar_for grid row }
 {
@@ -24,7 +24,7 @@ fn bar_across(grid: Grid, row: usize) -> Bar
 }
 
 /// A bar in each of these rows: it is drawn below that row. The only error is running out of memory.
-pub fn bars(alloc: Global, grid: Grid, rows: &[usize]) -> Result<Vec<Bar>, AllocError>
+pub fn bars(alloc: Global, grid: PictureGrid, rows: &[usize]) -> Result<Vec<Bar>, AllocError>
     requires { All (λ r. r < grid.rows) rows.now }
     ensures { IfOk result (λ v. v.items ≡ map (bar_for grid) rows.now) }
 {

@@ -1,10 +1,10 @@
 //! What each event of a run changes: timestamps, copies and their words, locks, flags, and who waits for what.
 ghost use Rattle.std.specs.Prelude.{IfOk};
-ghost use Rattle.judge.specs.Prelude.{sizes_of};
+ghost use Rattle.judge.specs.Prelude.{judged_sizes_of};
 ghost use Rattle.lrc_picture.specs.Prelude.{AreRunChanges};
 
-use crate::run_front::others_of;
-use crate::times::times;
+use crate::run_front::run_front_changes_of;
+use crate::times::picture_times;
 use causes::{Due, WrittenWord, dues, written_words};
 use journal::{Awaited, Clock};
 use judge::History;
@@ -72,12 +72,12 @@ pub struct RunChanges {
 ///
 /// It takes time and memory as `causes::written_words` and `causes::dues` do.
 pub fn changes(alloc: Global, history: &History<'_>) -> Result<RunChanges, AllocError>
-    ensures { IfOk result (AreRunChanges (sizes_of history.now.sizes) history.now.events) }
+    ensures { IfOk result (AreRunChanges (judged_sizes_of history.now.sizes) history.now.events) }
 {
-    let times = times(alloc, history)?;
+    let times = picture_times(alloc, history)?;
     let written = written_words(alloc, history)?;
     let dues = dues(alloc, history)?;
-    let others = others_of(alloc, history, &dues)?;
+    let others = run_front_changes_of(alloc, history, &dues)?;
     Ok(RunChanges {
         times,
         written,

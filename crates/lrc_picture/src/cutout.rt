@@ -5,11 +5,11 @@ ghost use Rattle.base.specs.Prelude.{most_processors};
 ghost use Rattle.causes.specs.declared.part.Part.{Part};
 ghost use Rattle.causes.specs.Prelude.{IsInPart};
 ghost use Rattle.journal.specs.declared.event.Event.{Event};
-ghost use Rattle.journal.specs.Events.{At};
-ghost use Rattle.lrc_picture.specs.Prelude.{AreDrawn, AreLanes, AreRowsOf, ArePlaces, ArePlacesDrawn, CanBeDrawn, IsCutout, IsLayoutOf};
+ghost use Rattle.journal.specs.Events.{EventAt};
+ghost use Rattle.lrc_picture.specs.Prelude.{AreCutoutEvents, AreCutoutLanes, AreCutoutRowsOf, AreArrowPlaces, AreCutoutPlaces, HasPictureLayout, IsCutout, IsPictureLayoutOf};
 
-use crate::layout::{DiagramLayout, lay_out};
-use crate::story::Story;
+use crate::picture_layout::{DiagramLayout, picture_layout_of};
+use crate::story::PictureStory;
 use causes::Part;
 use journal::{Event, Kind};
 use std::alloc::{AllocError, Global};
@@ -34,7 +34,7 @@ pub struct Cutout {
 }
 
 /// The part, with places counted from this one.
-pub fn part_from(part: &Part, first: usize) -> Part
+pub fn cutout_part_from(part: &Part, first: usize) -> Part
     ensures { (k p : ℕ) → IsInPart result k p ↔ IsInPart part.now (first + k) p }
 {
     Part {
@@ -48,9 +48,9 @@ pub fn part_from(part: &Part, first: usize) -> Part
 }
 
 /// The part's processors among so many. The only error is running out of memory.
-fn lanes_of(alloc: Global, part: &Part, processors: usize) -> Result<Vec<usize>, AllocError>
+fn cutout_lanes_of(alloc: Global, part: &Part, processors: usize) -> Result<Vec<usize>, AllocError>
     requires { processors ≤ most_processors }
-    ensures lanes { IfOk result (λ v. AreLanes part.now processors v.items) }
+    ensures lanes { IfOk result (λ v. AreCutoutLanes part.now processors v.items) }
     ensures few { IfOk result (λ v. vec_len v ≤ processors) }
 {
     let mut lanes = Vec::new(alloc);
@@ -63,8 +63,8 @@ fn lanes_of(alloc: Global, part: &Part, processors: usize) -> Result<Vec<usize>,
 }
 
 /// The places of the part's events. The only error is running out of memory.
-fn places_of(alloc: Global, part: &Part, events: &[Event]) -> Result<Vec<usize>, AllocError>
-    ensures places { IfOk result (λ v. ArePlacesDrawn part.now events.now v.items) }
+fn cutout_places_of(alloc: Global, part: &Part, events: &[Event]) -> Result<Vec<usize>, AllocError>
+    ensures places { IfOk result (λ v. AreCutoutPlaces part.now events.now v.items) }
     ensures few { IfOk result (λ v. vec_len v ≤ length events.now) }
 {
     let mut places = Vec::new(alloc);
@@ -77,7 +77,7 @@ fn places_of(alloc: Global, part: &Part, events: &[Event]) -> Result<Vec<usize>,
 }
 
 /// The lane of the processor.
-fn lane_of(lanes: &[usize], processor: usize) -> usize
+fn cutout_lane_of(lanes: &[usize], processor: usize) -> usize
     requires { Has lanes.now processor }
     ensures { slice_get lanes.now result ≡ Some processor }
 {
@@ -90,21 +90,21 @@ fn lane_of(lanes: &[usize], processor: usize) -> usize
 }
 
 /// The events at these places, each with its lane. The only error is running out of memory.
-fn drawn_of(
+fn cutout_events_of(
     alloc: Global,
     lanes: &[usize],
     events: &[Event],
     places: &[usize],
 ) -> Result<Vec<Event>, AllocError>
     requires places { All (λ k. k < length events.now) places.now }
-    requires lanes { (k : ℕ) (e : Event) → Has places.now k → At events.now k e → Has lanes.now e.processor }
-    ensures { IfOk result (λ v. AreDrawn lanes.now events.now places.now v.items) }
+    requires lanes { (k : ℕ) (e : Event) → Has places.now k → EventAt events.now k e → Has lanes.now e.processor }
+    ensures { IfOk result (λ v. AreCutoutEvents lanes.now events.now places.now v.items) }
 {
     let mut drawn = Vec::with_capacity(alloc, places.len())?;
     for row in 0..places.len() {
         let event = events[places[row]];
         drawn.push(Event {
-            processor: lane_of(lanes, event.processor),
+            processor: cutout_lane_of(lanes, event.processor),
             kind: event.kind,
         })?;
     }
@@ -112,9 +112,13 @@ fn drawn_of(
 }
 
 /// Of each of so many places its row among these. The only error is running out of memory.
-fn rows_of(alloc: Global, count: usize, places: &[usize]) -> Result<Vec<Option<usize>>, AllocError>
+fn cutout_rows_of(
+    alloc: Global,
+    count: usize,
+    places: &[usize],
+) -> Result<Vec<Option<usize>>, AllocError>
     requires { All (λ k. k < count) places.now }
-    ensures { IfOk result (λ v. AreRowsOf count places.now v.items) }
+    ensures { IfOk result (λ v. AreCutoutRowsOf count places.now v.items) }
 {
     let mut rows = vec![in alloc; None; count]?;
     for row in 0..places.len() {
@@ -124,7 +128,7 @@ fn rows_of(alloc: Global, count: usize, places: &[usize]) -> Result<Vec<Option<u
 }
 
 /// The rows of those of these places that are drawn, of so many rows. The only error is running out of memory.
-fn rows_among(
+fn cutout_rows_among(
     alloc: Global,
     rows: &[Option<usize>],
     places: &[usize],
@@ -144,24 +148,24 @@ fn rows_among(
 }
 
 /// Of each row the rows of the events that let it through. The only error is running out of memory.
-fn incoming_of(
+fn cutout_incoming_of(
     alloc: Global,
     rows: &[Option<usize>],
     places: &[usize],
     incoming: &[Vec<usize>],
 ) -> Result<Vec<Vec<usize>>, AllocError>
     requires { All (λ k. k < length incoming.now) places.now }
-    ensures { IfOk result (λ v. ArePlaces (length places.now) v.items) }
+    ensures { IfOk result (λ v. AreArrowPlaces (length places.now) v.items) }
 {
     let mut drawn = Vec::with_capacity(alloc, places.len())?;
     for row in 0..places.len() {
-        drawn.push(rows_among(alloc, rows, &incoming[places[row]], places.len())?)?;
+        drawn.push(cutout_rows_among(alloc, rows, &incoming[places[row]], places.len())?)?;
     }
     Ok(drawn)
 }
 
 /// Whether it is an arrival.
-fn arrives(kind: Kind) -> bool {
+fn arrives_in_cutout(kind: Kind) -> bool {
     match kind {
         Kind::Arrive => true,
         _ => false,
@@ -169,7 +173,7 @@ fn arrives(kind: Kind) -> bool {
 }
 
 /// Whether the part has this place, whosever event stands there.
-fn has_place(part: &Part, place: usize) -> bool {
+fn cutout_has_place(part: &Part, place: usize) -> bool {
     part.first <= place
         && match part.end {
             Some(end) => place < end,
@@ -179,7 +183,7 @@ fn has_place(part: &Part, place: usize) -> bool {
 
 /// Adds the last row up to this place, where an episode is complete, if the part has the place. The only error is running
 /// out of memory.
-fn add_episode(
+fn add_cutout_episode(
     episodes: &mut Vec<usize>,
     part: &Part,
     place: usize,
@@ -190,7 +194,7 @@ fn add_episode(
 {
     if let Some(row) = last
         && row < count
-        && has_place(part, place)
+        && cutout_has_place(part, place)
     {
         episodes.push(row)?;
     }
@@ -199,7 +203,7 @@ fn add_episode(
 
 /// Of each episode of the barrier that so many processors complete within the part the last row up to that, of so many
 /// rows. The only error is running out of memory.
-fn episodes_of(
+fn cutout_episodes_of(
     alloc: Global,
     part: &Part,
     processors: usize,
@@ -216,11 +220,11 @@ fn episodes_of(
         if let Some(Some(row)) = rows.get(place) {
             last = Some(*row);
         }
-        if arrives(event.kind) {
+        if arrives_in_cutout(event.kind) {
             missing = missing.saturating_sub(1);
             if missing == 0 {
                 missing = processors;
-                add_episode(&mut episodes, part, place, last, count)?;
+                add_cutout_episode(&mut episodes, part, place, last, count)?;
             }
         }
     }
@@ -230,17 +234,17 @@ fn episodes_of(
 /// What is drawn of the story's run: the events of this part, whose places are counted from the story's first event. An
 /// arrow or an edge from an event that isn't drawn is left out. The only error is running out of memory. It takes time in
 /// the order of the events and of the places that let them through.
-pub fn cut_out(alloc: Global, story: &Story<'_>, part: &Part) -> Result<Cutout, AllocError>
-    requires { CanBeDrawn story.now.processors story.now.events.now story.now.incoming.now }
+pub fn cutout_of(alloc: Global, story: &PictureStory<'_>, part: &Part) -> Result<Cutout, AllocError>
+    requires { HasPictureLayout story.now.processors story.now.events.now story.now.incoming.now }
     ensures { IfOk result (IsCutout part.now story.now.processors story.now.events.now) }
 {
-    let lanes = lanes_of(alloc, part, story.processors)?;
-    let places = places_of(alloc, part, story.events)?;
-    let events = drawn_of(alloc, &lanes, story.events, &places)?;
-    let rows = rows_of(alloc, story.events.len(), &places)?;
-    let incoming = incoming_of(alloc, &rows, &places, story.incoming)?;
+    let lanes = cutout_lanes_of(alloc, part, story.processors)?;
+    let places = cutout_places_of(alloc, part, story.events)?;
+    let events = cutout_events_of(alloc, &lanes, story.events, &places)?;
+    let rows = cutout_rows_of(alloc, story.events.len(), &places)?;
+    let incoming = cutout_incoming_of(alloc, &rows, &places, story.incoming)?;
     let count = events.len();
-    let episodes = episodes_of(alloc, part, story.processors, story.events, &rows, count)?;
+    let episodes = cutout_episodes_of(alloc, part, story.processors, story.events, &rows, count)?;
     Ok(Cutout {
         lanes,
         places,
@@ -257,11 +261,11 @@ pub fn cut_out(alloc: Global, story: &Story<'_>, part: &Part) -> Result<Cutout, 
 
 impl Cutout {
     /// The layout of what is drawn. The only error is running out of memory.
-    pub fn lay_out(&self, alloc: Global) -> Result<DiagramLayout, AllocError>
+    pub fn picture_layout_of(&self, alloc: Global) -> Result<DiagramLayout, AllocError>
         requires { (part : Part) × (n : ℕ) × (j : List Event) × IsCutout part n j self.now }
-        ensures { IfOk result (IsLayoutOf (vec_len self.now.lanes) self.now.events.items) }
+        ensures { IfOk result (IsPictureLayoutOf (vec_len self.now.lanes) self.now.events.items) }
     {
-        lay_out(
+        picture_layout_of(
             alloc,
             self.lanes.len(),
             &self.events,
@@ -281,13 +285,13 @@ impl Cutout {
     }
 
     /// The rows of the first race, where both of its accesses are drawn.
-    pub fn race(&self, story: &Story<'_>) -> Option<(usize, usize)> {
+    pub fn race(&self, story: &PictureStory<'_>) -> Option<(usize, usize)> {
         let (first, second) = story.race?;
         Some((self.row(first)?, self.row(second)?))
     }
 
     /// The lane of the one who could let the processor of this lane go on, where both are drawn.
-    pub fn holder(&self, story: &Story<'_>, lane: usize) -> Option<usize>
+    pub fn holder(&self, story: &PictureStory<'_>, lane: usize) -> Option<usize>
         requires { lane < vec_len self.now.lanes }
         ensures { IfSome result (λ lane. lane < vec_len self.now.lanes) }
     {

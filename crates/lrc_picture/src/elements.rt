@@ -1,6 +1,6 @@
 //! The elements that a picture's file consists of.
 
-use crate::grid::Point;
+use crate::picture_grid::Point;
 use crate::svg::Svg;
 
 /// Half of what is from a row to the next, in pixels: nothing stands there between two rows but bars.
@@ -22,7 +22,7 @@ pub enum WordStyle {
 }
 
 /// What words of this style begin with, up to how far to the right they are.
-fn opening(style: WordStyle) -> &'static str {
+fn element_opening(style: WordStyle) -> &'static str {
     match style {
         WordStyle::Title => "<text class=\"title\" x=\"",
         WordStyle::Head => "<text class=\"head\" dx=\"-8\" x=\"",
@@ -33,26 +33,26 @@ fn opening(style: WordStyle) -> &'static str {
 }
 
 /// Begins words at this point.
-pub fn begin_words(text: &mut Svg, style: WordStyle, at: Point) {
-    text.put_number(opening(style), at.x);
+pub fn open_words_element(text: &mut Svg, style: WordStyle, at: Point) {
+    text.put_number(element_opening(style), at.x);
     text.put_number("\" y=\"", at.y);
     text.put("\">");
 }
 
 /// Ends words.
-pub fn end_words(text: &mut Svg) {
+pub fn close_words_element(text: &mut Svg) {
     text.put("</text>\n");
 }
 
 /// Puts words at this point.
-pub fn put_words(text: &mut Svg, style: WordStyle, at: Point, words: &str) {
-    begin_words(text, style, at);
+pub fn put_words_element(text: &mut Svg, style: WordStyle, at: Point, words: &str) {
+    open_words_element(text, style, at);
     text.put(words);
-    end_words(text);
+    close_words_element(text);
 }
 
 /// Puts a line of this class.
-pub fn put_line(text: &mut Svg, class: &str, from: Point, to: Point) {
+pub fn put_line_element(text: &mut Svg, class: &str, from: Point, to: Point) {
     text.put("<line class=\"");
     text.put(class);
     text.put_number("\" x1=\"", from.x);
@@ -63,7 +63,7 @@ pub fn put_line(text: &mut Svg, class: &str, from: Point, to: Point) {
 }
 
 /// Puts the mark of this name, of this class.
-pub fn put_mark(text: &mut Svg, class: &str, name: &str, at: Point) {
+pub fn put_mark_element(text: &mut Svg, class: &str, name: &str, at: Point) {
     text.put("<use class=\"");
     text.put(class);
     text.put("\" href=\"#");
@@ -74,7 +74,7 @@ pub fn put_mark(text: &mut Svg, class: &str, name: &str, at: Point) {
 }
 
 /// Begins a path of this class at this point. What follows is how it goes on.
-pub fn begin_path(text: &mut Svg, class: &str, from: Point) {
+pub fn open_path_element(text: &mut Svg, class: &str, from: Point) {
     text.put("<path class=\"");
     text.put(class);
     text.put_number("\" d=\"M", from.x);
@@ -82,6 +82,6 @@ pub fn begin_path(text: &mut Svg, class: &str, from: Point) {
 }
 
 /// Ends a path.
-pub fn end_path(text: &mut Svg) {
+pub fn close_path_element(text: &mut Svg) {
     text.put("\"/>\n");
 }

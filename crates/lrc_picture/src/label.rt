@@ -2,15 +2,15 @@
 ghost use Rattle.std.specs.Prelude.{ℕ, ◌≡◌, ◌≤◌, ◌+◌, ◌++◌, IfOk, IsOk, OnOk, codes, length, string_bytes};
 ghost use Rattle.std.specs.Fmt.{decimal};
 ghost use Rattle.journal.specs.declared.event.Event.{Event};
-ghost use Rattle.journal.specs.Events.{At};
-ghost use Rattle.lrc_picture.specs.Prelude.{label_text};
+ghost use Rattle.journal.specs.Events.{EventAt};
+ghost use Rattle.lrc_picture.specs.Prelude.{picture_label_text};
 
 use crate::svg::Svg;
 use journal::{Event, Kind};
 use std::alloc::{AllocError, Global};
 
 /// Puts what is said of a load or a store.
-fn put_access(text: &mut Svg, name: &str, address: usize, arrow: &str, word: u32)
+fn put_access_in_picture_label(text: &mut Svg, name: &str, address: usize, arrow: &str, word: u32)
     ensures stays { OnOk text.new.granted (IsOk text.old.granted) }
     ensures grown { OnOk text.new.granted (string_bytes text.new.text
         ≡ string_bytes text.old.text ++ (name.now ++ (decimal address ++ (arrow.now ++ decimal word)))) }
@@ -22,7 +22,7 @@ fn put_access(text: &mut Svg, name: &str, address: usize, arrow: &str, word: u32
 }
 
 /// Puts what is said of a fetch.
-fn put_fetch(text: &mut Svg, page: usize, writers: u32, records: u32, words: u32)
+fn put_fetch_in_picture_label(text: &mut Svg, page: usize, writers: u32, records: u32, words: u32)
     ensures stays { OnOk text.new.granted (IsOk text.old.granted) }
     ensures grown { OnOk text.new.granted (string_bytes text.new.text ≡ string_bytes text.old.text
         ++ (codes "fetch " ++ (decimal page ++ (codes " (" ++ (decimal writers ++ (codes ", "
@@ -37,20 +37,24 @@ fn put_fetch(text: &mut Svg, page: usize, writers: u32, records: u32, words: u32
 }
 
 /// Puts what is said of an event beside its mark.
-pub fn put_label(text: &mut Svg, kind: Kind)
+pub fn put_picture_label(text: &mut Svg, kind: Kind)
     ensures stays { OnOk text.new.granted (IsOk text.old.granted) }
-    ensures grown { OnOk text.new.granted (string_bytes text.new.text ≡ string_bytes text.old.text ++ label_text kind) }
+    ensures grown { OnOk text.new.granted (string_bytes text.new.text ≡ string_bytes text.old.text ++ picture_label_text kind) }
     ensures short { length (string_bytes text.new.text) ≤ length (string_bytes text.old.text) + 96 }
 {
     match kind {
-        Kind::Load(address, word) => put_access(text, "load ", address, " -> ", word),
-        Kind::Store(address, word) => put_access(text, "store ", address, " &lt;- ", word),
+        Kind::Load(address, word) => put_access_in_picture_label(
+            text, "load ", address, " -> ", word,
+        ),
+        Kind::Store(address, word) => put_access_in_picture_label(
+            text, "store ", address, " &lt;- ", word,
+        ),
         Kind::Fetch {
             writers,
             page,
             records,
             words,
-        } => put_fetch(text, page, writers, records, words),
+        } => put_fetch_in_picture_label(text, page, writers, records, words),
         Kind::Ask(lock) => text.put_number("ask ", lock),
         Kind::Acquire(lock) => text.put_number("acquire ", lock),
         Kind::Release(lock) => text.put_number("release ", lock),
@@ -64,12 +68,12 @@ pub fn put_label(text: &mut Svg, kind: Kind)
 
 /// What is said of an event beside its mark, as it stands in the picture's file, in at most 96 bytes. The only error is
 /// running out of memory.
-pub fn label(alloc: Global, kind: Kind) -> Result<String, AllocError>
-    ensures text { IfOk result (λ s. string_bytes s ≡ label_text kind) }
+pub fn picture_label(alloc: Global, kind: Kind) -> Result<String, AllocError>
+    ensures text { IfOk result (λ s. string_bytes s ≡ picture_label_text kind) }
     ensures short { IfOk result (λ s. length (string_bytes s) ≤ 96) }
 {
     let mut text = Svg::new(alloc);
-    put_label(&mut text, kind);
+    put_picture_label(&mut text, kind);
     text.finish()
 }
 
@@ -83,14 +87,14 @@ fn greater(a: usize, b: usize) -> usize
 }
 
 /// How many bytes the longest label of these events has; 0 where there is none. The only error is running out of memory.
-pub fn widest(alloc: Global, events: &[Event]) -> Result<usize, AllocError>
-    ensures fits { IfOk result (λ most. (k : ℕ) (e : Event) → At events.now k e
-        → length (label_text e.kind) ≤ most) }
+pub fn widest_picture_label(alloc: Global, events: &[Event]) -> Result<usize, AllocError>
+    ensures fits { IfOk result (λ most. (k : ℕ) (e : Event) → EventAt events.now k e
+        → length (picture_label_text e.kind) ≤ most) }
     ensures short { IfOk result (λ most. most ≤ 96) }
 {
     let mut most = 0;
     for event in events {
-        let text = label(alloc, event.kind)?;
+        let text = picture_label(alloc, event.kind)?;
         most = greater(most, text.as_bytes().len());
     }
     Ok(most)

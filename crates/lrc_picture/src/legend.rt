@@ -2,13 +2,13 @@
 
 use crate::arrows::Way;
 use crate::cutout::Cutout;
-use crate::elements::{WordStyle, put_line, put_mark, put_words};
-use crate::grid::Point;
-use crate::layout::DiagramLayout;
+use crate::elements::{WordStyle, put_line_element, put_mark_element, put_words_element};
 use crate::marks::MarkShape;
-use crate::story::Story;
+use crate::picture_grid::Point;
+use crate::picture_layout::DiagramLayout;
+use crate::story::PictureStory;
 use crate::svg::Svg;
-use crate::waiters::count_holders;
+use crate::waiter_cross::waiter_cross_holder_count;
 
 /// From a row of the legend to the next, in pixels.
 const ROW: usize = 24;
@@ -59,7 +59,7 @@ const SIGNS: [Sign; 15] = [
 ];
 
 /// What the legend says of a sign.
-fn meaning(sign: Sign) -> &'static str {
+fn legend_meaning(sign: Sign) -> &'static str {
     match sign {
         Sign::Store => "store ADDRESS &lt;- WORD",
         Sign::Load => "load ADDRESS -> WORD",
@@ -80,7 +80,7 @@ fn meaning(sign: Sign) -> &'static str {
 }
 
 /// Whether a mark of this shape occurs.
-fn has_mark(layout: &DiagramLayout, shape: MarkShape) -> bool {
+fn legend_has_mark(layout: &DiagramLayout, shape: MarkShape) -> bool {
     for mark in &layout.marks {
         if mark.shape == shape {
             return true;
@@ -90,7 +90,7 @@ fn has_mark(layout: &DiagramLayout, shape: MarkShape) -> bool {
 }
 
 /// Whether an arrow that looks so occurs.
-fn has_arrow(layout: &DiagramLayout, way: Way) -> bool {
+fn legend_has_arrow(layout: &DiagramLayout, way: Way) -> bool {
     for arrow in &layout.arrows {
         if arrow.way == way {
             return true;
@@ -100,7 +100,7 @@ fn has_arrow(layout: &DiagramLayout, way: Way) -> bool {
 }
 
 /// Whether some load that is drawn is stale.
-fn has_stale(story: &Story<'_>, cutout: &Cutout) -> bool {
+fn legend_has_stale(story: &PictureStory<'_>, cutout: &Cutout) -> bool {
     for place in &cutout.places {
         if story.is_stale(*place) {
             return true;
@@ -110,7 +110,7 @@ fn has_stale(story: &Story<'_>, cutout: &Cutout) -> bool {
 }
 
 /// Whether the trace's lie is drawn.
-fn has_lie(story: &Story<'_>, cutout: &Cutout) -> bool {
+fn legend_has_lie(story: &PictureStory<'_>, cutout: &Cutout) -> bool {
     match cutout.places.last() {
         Some(place) => story.is_lie(*place),
         None => false,
@@ -118,7 +118,7 @@ fn has_lie(story: &Story<'_>, cutout: &Cutout) -> bool {
 }
 
 /// Whether some load that is drawn answers a store that is.
-fn has_reads(story: &Story<'_>, cutout: &Cutout) -> bool {
+fn legend_has_reads(story: &PictureStory<'_>, cutout: &Cutout) -> bool {
     for place in &cutout.places {
         if let Some(store) = story.read(*place)
             && cutout.row(store).is_some()
@@ -130,65 +130,70 @@ fn has_reads(story: &Story<'_>, cutout: &Cutout) -> bool {
 }
 
 /// Whether the sign occurs.
-fn occurs(sign: Sign, layout: &DiagramLayout, story: &Story<'_>, cutout: &Cutout) -> bool {
+fn occurs_in_legend(
+    sign: Sign,
+    layout: &DiagramLayout,
+    story: &PictureStory<'_>,
+    cutout: &Cutout,
+) -> bool {
     match sign {
-        Sign::Store => has_mark(layout, MarkShape::Disc),
-        Sign::Load => has_mark(layout, MarkShape::Ring),
-        Sign::Stale => has_stale(story, cutout),
-        Sign::Fetch => has_mark(layout, MarkShape::Dash),
-        Sign::LetsOn => has_mark(layout, MarkShape::Block),
-        Sign::BeginsToWait => has_mark(layout, MarkShape::Frame),
-        Sign::GoesOn => has_mark(layout, MarkShape::Wedge),
-        Sign::Reads => has_reads(story, cutout),
-        Sign::Lock => has_arrow(layout, Way::Lock),
-        Sign::Flag => has_arrow(layout, Way::Flag),
+        Sign::Store => legend_has_mark(layout, MarkShape::Disc),
+        Sign::Load => legend_has_mark(layout, MarkShape::Ring),
+        Sign::Stale => legend_has_stale(story, cutout),
+        Sign::Fetch => legend_has_mark(layout, MarkShape::Dash),
+        Sign::LetsOn => legend_has_mark(layout, MarkShape::Block),
+        Sign::BeginsToWait => legend_has_mark(layout, MarkShape::Frame),
+        Sign::GoesOn => legend_has_mark(layout, MarkShape::Wedge),
+        Sign::Reads => legend_has_reads(story, cutout),
+        Sign::Lock => legend_has_arrow(layout, Way::Lock),
+        Sign::Flag => legend_has_arrow(layout, Way::Flag),
         Sign::Barrier => !layout.bars.is_empty(),
         Sign::Race => cutout.race(story).is_some(),
-        Sign::Lie => has_lie(story, cutout),
+        Sign::Lie => legend_has_lie(story, cutout),
         Sign::Waits => story.halted && cutout.has_end,
-        Sign::Holder => count_holders(story, cutout) > 0,
+        Sign::Holder => waiter_cross_holder_count(story, cutout) > 0,
     }
 }
 
 /// Puts a sign that is a mark.
-fn put_sign_mark(text: &mut Svg, name: &str, y: usize) {
-    put_mark(text, "sign", name, Point { x: LEFT, y });
+fn put_legend_sign_mark(text: &mut Svg, name: &str, y: usize) {
+    put_mark_element(text, "sign", name, Point { x: LEFT, y });
 }
 
 /// Puts a sign that is a line of this class.
-fn put_sign_line(text: &mut Svg, class: &str, y: usize) {
+fn put_legend_sign_line(text: &mut Svg, class: &str, y: usize) {
     let from = Point { x: LEFT - REACH, y };
-    put_line(text, class, from, Point { x: LEFT + REACH, y });
+    put_line_element(text, class, from, Point { x: LEFT + REACH, y });
 }
 
 /// Puts a sign at this height.
-fn put_sign(text: &mut Svg, sign: Sign, y: usize) {
+fn put_legend_sign(text: &mut Svg, sign: Sign, y: usize) {
     match sign {
-        Sign::Store => put_sign_mark(text, "disc", y),
-        Sign::Load => put_sign_mark(text, "ring", y),
+        Sign::Store => put_legend_sign_mark(text, "disc", y),
+        Sign::Load => put_legend_sign_mark(text, "ring", y),
         Sign::Stale => {
-            put_sign_mark(text, "ring", y);
-            put_sign_mark(text, "slash", y);
+            put_legend_sign_mark(text, "ring", y);
+            put_legend_sign_mark(text, "slash", y);
         }
-        Sign::Fetch => put_sign_mark(text, "dash", y),
-        Sign::LetsOn => put_sign_mark(text, "block", y),
-        Sign::BeginsToWait => put_sign_mark(text, "frame", y),
-        Sign::GoesOn => put_sign_mark(text, "wedge", y),
-        Sign::Reads => put_sign_line(text, "edge", y),
-        Sign::Lock => put_sign_line(text, "lock", y),
-        Sign::Flag => put_sign_line(text, "flag", y),
-        Sign::Barrier => put_sign_line(text, "barrier", y),
-        Sign::Race => put_sign_line(text, "race", y),
-        Sign::Lie | Sign::Waits => put_sign_mark(text, "stop", y),
-        Sign::Holder => put_sign_line(text, "holder", y),
+        Sign::Fetch => put_legend_sign_mark(text, "dash", y),
+        Sign::LetsOn => put_legend_sign_mark(text, "block", y),
+        Sign::BeginsToWait => put_legend_sign_mark(text, "frame", y),
+        Sign::GoesOn => put_legend_sign_mark(text, "wedge", y),
+        Sign::Reads => put_legend_sign_line(text, "edge", y),
+        Sign::Lock => put_legend_sign_line(text, "lock", y),
+        Sign::Flag => put_legend_sign_line(text, "flag", y),
+        Sign::Barrier => put_legend_sign_line(text, "barrier", y),
+        Sign::Race => put_legend_sign_line(text, "race", y),
+        Sign::Lie | Sign::Waits => put_legend_sign_mark(text, "stop", y),
+        Sign::Holder => put_legend_sign_line(text, "holder", y),
     }
 }
 
 /// How high the legend is.
-pub fn legend_height(layout: &DiagramLayout, story: &Story<'_>, cutout: &Cutout) -> usize {
+pub fn legend_height(layout: &DiagramLayout, story: &PictureStory<'_>, cutout: &Cutout) -> usize {
     let mut height: usize = 0;
     for sign in &SIGNS {
-        if occurs(*sign, layout, story, cutout) {
+        if occurs_in_legend(*sign, layout, story, cutout) {
             height = height.saturating_add(ROW);
         }
     }
@@ -199,21 +204,21 @@ pub fn legend_height(layout: &DiagramLayout, story: &Story<'_>, cutout: &Cutout)
 pub fn put_legend(
     text: &mut Svg,
     layout: &DiagramLayout,
-    story: &Story<'_>,
+    story: &PictureStory<'_>,
     cutout: &Cutout,
     top: usize,
 ) {
     let mut y = top;
     text.put("<g class=\"legend\">\n");
     for sign in &SIGNS {
-        if occurs(*sign, layout, story, cutout) {
+        if occurs_in_legend(*sign, layout, story, cutout) {
             y = y.saturating_add(ROW);
-            put_sign(text, *sign, y);
-            put_words(
+            put_legend_sign(text, *sign, y);
+            put_words_element(
                 text,
                 WordStyle::Label,
                 Point { x: LEFT + REACH, y },
-                meaning(*sign),
+                legend_meaning(*sign),
             );
         }
     }

@@ -16,7 +16,7 @@
 //! (`changes`, `steps`), and a short script (`page_looks`) that applies one event's changes after the other, or takes them back.
 //!
 //! **What contracts see.** Which events a part's picture has (specs/Cutout), which point a processor's line and a row meet at
-//! (specs/Grid), the mark of an event, its label, the arrow between two events, the bar of a row. A writer by the bytes that it
+//! (specs/PictureGrid), the mark of an event, its label, the arrow between two events, the bar of a row. A writer by the bytes that it
 //! was given (`contents`).
 //!
 //! **What is proved.** Exactly the part's events are drawn, in order, on the lanes of its processors. The layout has a mark
@@ -32,26 +32,26 @@
 
 pub mod arrows;
 pub mod bars;
+mod canvas;
 pub mod changes;
 pub mod cutout;
 mod edges;
 mod elements;
-pub mod grid;
-mod head;
+mod headline;
 pub mod label;
 pub mod laws;
-pub mod layout;
 mod legend;
 mod looks;
 pub mod marks;
-pub mod page;
 mod page_looks;
 mod panel;
 pub mod picture;
+pub mod picture_grid;
+pub mod picture_layout;
+pub mod picture_page;
 mod run_front;
-mod steps;
+mod step_entries;
 pub mod story;
 mod svg;
-mod text;
 pub mod times;
-mod waiters;
+mod waiter_cross;

@@ -1,9 +1,9 @@
 //! The marks of a picture.
 ghost use Rattle.std.specs.Prelude.{◌≡◌, ◌<◌, ◌≤◌, IfOk, length};
-ghost use Rattle.journal.specs.Prelude.{ProcessorsInRange};
-ghost use Rattle.lrc_picture.specs.Prelude.{AreMarks, mark_for, shape_for};
+ghost use Rattle.journal.specs.Prelude.{EventProcessorsInRange};
+ghost use Rattle.lrc_picture.specs.Prelude.{ArePictureMarks, picture_mark_for, picture_mark_shape_for};
 
-use crate::grid::{Grid, Point};
+use crate::picture_grid::{PictureGrid, Point};
 use journal::{Event, Kind};
 use std::alloc::{AllocError, Global};
 
@@ -32,8 +32,8 @@ pub struct Mark {
 }
 
 /// How the mark of such an event looks.
-fn shape_of(kind: Kind) -> MarkShape
-    ensures { result ≡ shape_for kind }
+fn picture_mark_shape_of(kind: Kind) -> MarkShape
+    ensures { result ≡ picture_mark_shape_for kind }
 {
     match kind {
         Kind::Store(_, _) => MarkShape::Disc,
@@ -46,27 +46,31 @@ fn shape_of(kind: Kind) -> MarkShape
 }
 
 /// The mark of the event in this row.
-fn mark_of(grid: Grid, row: usize, event: Event) -> Mark
+fn picture_mark_of(grid: PictureGrid, row: usize, event: Event) -> Mark
     requires lane { event.processor ≤ grid.lanes }
     requires row { row ≤ grid.rows }
-    ensures { result ≡ mark_for grid row event }
+    ensures { result ≡ picture_mark_for grid row event }
 {
     Mark {
         at: grid.point(event.processor, row),
-        shape: shape_of(event.kind),
+        shape: picture_mark_shape_of(event.kind),
     }
 }
 
 /// The marks of the events in order, each in a row of its own on its processor's line. The only error is running out of
 /// memory.
-pub fn marks(alloc: Global, grid: Grid, events: &[Event]) -> Result<Vec<Mark>, AllocError>
-    requires lanes { ProcessorsInRange grid.lanes events.now }
+pub fn picture_marks(
+    alloc: Global,
+    grid: PictureGrid,
+    events: &[Event],
+) -> Result<Vec<Mark>, AllocError>
+    requires lanes { EventProcessorsInRange grid.lanes events.now }
     requires rows { length events.now ≤ grid.rows }
-    ensures { IfOk result (λ v. AreMarks grid events.now v.items) }
+    ensures { IfOk result (λ v. ArePictureMarks grid events.now v.items) }
 {
     let mut marks = Vec::with_capacity(alloc, events.len())?;
     for row in 0..events.len() {
-        marks.push(mark_of(grid, row, events[row]))?;
+        marks.push(picture_mark_of(grid, row, events[row]))?;
     }
     Ok(marks)
 }

@@ -30,7 +30,7 @@ struct MemoryPage<'a> {
 }
 
 /// Puts a cell of this name, with these words in it.
-fn put_cell(text: &mut Svg, letter: &str, number: usize, words: &str) {
+fn put_panel_cell(text: &mut Svg, letter: &str, number: usize, words: &str) {
     text.put("<td class=\"text\" id=\"");
     text.put_number(letter, number);
     text.put("\">");
@@ -39,73 +39,73 @@ fn put_cell(text: &mut Svg, letter: &str, number: usize, words: &str) {
 }
 
 /// Begins a row of this name.
-fn begin_row(text: &mut Svg, name: &str, number: usize) {
+fn begin_panel_row(text: &mut Svg, name: &str, number: usize) {
     text.put("<tr><th class=\"text\">");
     text.put_number(name, number);
     text.put("</th>");
 }
 
 /// Begins a table with this caption.
-fn begin_table(text: &mut Svg, caption: &str) {
+fn begin_panel_table(text: &mut Svg, caption: &str) {
     text.put("<table>\n<caption>");
     text.put(caption);
     text.put("</caption>\n");
 }
 
 /// Puts the timestamp of a processor that has heard of nothing.
-fn put_zeros(text: &mut Svg, processors: usize) {
+fn put_panel_zeros(text: &mut Svg, processors: usize) {
     for processor in 0..processors {
         text.put(if processor == 0 { "0" } else { " 0" });
     }
 }
 
 /// Puts the processors that are drawn: their timestamps, and for what they wait.
-fn put_processors(text: &mut Svg, sizes: Sizes, cutout: &Cutout) {
-    begin_table(text, "processors");
+fn put_panel_processors(text: &mut Svg, sizes: Sizes, cutout: &Cutout) {
+    begin_panel_table(text, "processors");
     text.put("<tr><th></th><th class=\"text\">timestamp</th>");
     text.put("<th class=\"text\">waits, or may take</th></tr>\n");
     for processor in &cutout.lanes {
-        begin_row(text, "p", *processor);
+        begin_panel_row(text, "p", *processor);
         text.put_number("<td class=\"text\" id=\"t", *processor);
         text.put("\">");
-        put_zeros(text, sizes.processors);
+        put_panel_zeros(text, sizes.processors);
         text.put("</td>");
-        put_cell(text, "s", *processor, "");
+        put_panel_cell(text, "s", *processor, "");
         text.put("</tr>\n");
     }
     text.put("</table>\n");
 }
 
 /// Puts the locks.
-fn put_locks(text: &mut Svg, start: StartMemory<'_>) {
+fn put_panel_locks(text: &mut Svg, start: StartMemory<'_>) {
     if start.sizes.locks == 0 {
         return;
     }
-    begin_table(text, "locks");
+    begin_panel_table(text, "locks");
     for lock in 0..start.sizes.locks {
-        begin_row(text, "lock ", lock);
-        put_cell(text, "l", lock, if start.is_cut { UNKNOWN } else { "free" });
+        begin_panel_row(text, "lock ", lock);
+        put_panel_cell(text, "l", lock, if start.is_cut { UNKNOWN } else { "free" });
         text.put("</tr>\n");
     }
     text.put("</table>\n");
 }
 
 /// Puts the flags.
-fn put_flags(text: &mut Svg, start: StartMemory<'_>) {
+fn put_panel_flags(text: &mut Svg, start: StartMemory<'_>) {
     if start.sizes.flags == 0 {
         return;
     }
-    begin_table(text, "flags");
+    begin_panel_table(text, "flags");
     for flag in 0..start.sizes.flags {
-        begin_row(text, "flag ", flag);
-        put_cell(text, "f", flag, if start.is_cut { UNKNOWN } else { "" });
+        begin_panel_row(text, "flag ", flag);
+        put_panel_cell(text, "f", flag, if start.is_cut { UNKNOWN } else { "" });
         text.put("</tr>\n");
     }
     text.put("</table>\n");
 }
 
 /// Puts the addresses of the page, above its copies.
-fn put_addresses(text: &mut Svg, page: MemoryPage<'_>) {
+fn put_panel_addresses(text: &mut Svg, page: MemoryPage<'_>) {
     text.put_number("<table>\n<caption>page ", page.page);
     text.put("</caption>\n<tr><th></th><th class=\"text\">copy</th>");
     for offset in 0..page.words.len() {
@@ -116,8 +116,8 @@ fn put_addresses(text: &mut Svg, page: MemoryPage<'_>) {
 }
 
 /// Puts a processor's copy of the page: valid, or where something was cut off of unknown state.
-fn put_copy(text: &mut Svg, page: MemoryPage<'_>, processor: usize, is_cut: bool) {
-    begin_row(text, "p", processor);
+fn put_panel_copy(text: &mut Svg, page: MemoryPage<'_>, processor: usize, is_cut: bool) {
+    begin_panel_row(text, "p", processor);
     text.put(if is_cut {
         "<td class=\"text\""
     } else {
@@ -138,16 +138,16 @@ fn put_copy(text: &mut Svg, page: MemoryPage<'_>, processor: usize, is_cut: bool
 }
 
 /// Puts the copies of the page.
-fn put_page(text: &mut Svg, is_cut: bool, cutout: &Cutout, page: MemoryPage<'_>) {
-    put_addresses(text, page);
+fn put_panel_page(text: &mut Svg, is_cut: bool, cutout: &Cutout, page: MemoryPage<'_>) {
+    put_panel_addresses(text, page);
     for processor in &cutout.lanes {
-        put_copy(text, page, *processor, is_cut);
+        put_panel_copy(text, page, *processor, is_cut);
     }
     text.put("</table>\n");
 }
 
 /// The page that an event of this kind is of, where a page has so many words.
-fn page_of(kind: Kind, words: usize) -> Option<usize> {
+fn panel_page_of(kind: Kind, words: usize) -> Option<usize> {
     match kind {
         Kind::Load(address, _) | Kind::Store(address, _) => address.checked_div(words),
         Kind::Fetch { page, .. } => Some(page),
@@ -156,10 +156,14 @@ fn page_of(kind: Kind, words: usize) -> Option<usize> {
 }
 
 /// Whether each page is accessed or fetched by some event. The only error is running out of memory.
-fn touched(alloc: Global, sizes: Sizes, events: &[Event]) -> Result<Vec<bool>, AllocError> {
+fn pages_touched_in_panel(
+    alloc: Global,
+    sizes: Sizes,
+    events: &[Event],
+) -> Result<Vec<bool>, AllocError> {
     let mut touched = vec![in alloc; false; sizes.pages]?;
     for event in events {
-        if let Some(page) = page_of(event.kind, sizes.words)
+        if let Some(page) = panel_page_of(event.kind, sizes.words)
             && let Some(is_touched) = touched.get_mut(page)
         {
             *is_touched = true;
@@ -169,7 +173,7 @@ fn touched(alloc: Global, sizes: Sizes, events: &[Event]) -> Result<Vec<bool>, A
 }
 
 /// Puts the copies of the pages that some event accesses or fetches. The only error is running out of memory.
-fn put_pages(
+fn put_panel_pages(
     text: &mut Svg,
     alloc: Global,
     start: StartMemory<'_>,
@@ -181,10 +185,13 @@ fn put_pages(
         words,
         is_cut,
     } = start;
-    for (page, is_touched) in touched(alloc, sizes, events)?.iter().enumerate() {
+    for (page, is_touched) in pages_touched_in_panel(alloc, sizes, events)?
+        .iter()
+        .enumerate()
+    {
         let first = page.saturating_mul(sizes.words);
         if *is_touched && let Some(words) = words.get(first..first.saturating_add(sizes.words)) {
-            put_page(text, is_cut, cutout, MemoryPage { page, first, words });
+            put_panel_page(text, is_cut, cutout, MemoryPage { page, first, words });
         }
     }
     Ok(())
@@ -198,8 +205,8 @@ pub fn put_panel(
     cutout: &Cutout,
     events: &[Event],
 ) -> Result<(), AllocError> {
-    put_processors(text, start.sizes, cutout);
-    put_locks(text, start);
-    put_flags(text, start);
-    put_pages(text, alloc, start, cutout, events)
+    put_panel_processors(text, start.sizes, cutout);
+    put_panel_locks(text, start);
+    put_panel_flags(text, start);
+    put_panel_pages(text, alloc, start, cutout, events)
 }

@@ -1,10 +1,10 @@
 //! Writes a run's picture.
 ghost use Rattle.std.specs.Prelude.{◌≡◌, ◌≢◌, Err};
-ghost use Rattle.lrc_picture.specs.Prelude.{CanBeDrawn};
+ghost use Rattle.lrc_picture.specs.Prelude.{HasPictureLayout};
 
-use crate::cutout::{cut_out, part_from};
-use crate::story::Story;
-use crate::text::text_of;
+use crate::canvas::canvas_text_of;
+use crate::cutout::{cutout_of, cutout_part_from};
+use crate::story::PictureStory;
 use causes::Part;
 use std::alloc::{AllocError, Global};
 use std::io::Write;
@@ -22,17 +22,17 @@ pub enum PictureFault {
 }
 
 /// The text of the picture of this part of the story. The only error is running out of memory.
-fn drawn(alloc: Global, story: &Story<'_>, part: &Part) -> Result<String, AllocError>
-    requires drawn { CanBeDrawn story.now.processors story.now.events.now story.now.incoming.now }
+fn picture_of(alloc: Global, story: &PictureStory<'_>, part: &Part) -> Result<String, AllocError>
+    requires drawn { HasPictureLayout story.now.processors story.now.events.now story.now.incoming.now }
 {
-    let part = part_from(part, story.number(0));
-    let cutout = cut_out(alloc, story, &part)?;
-    let layout = cutout.lay_out(alloc)?;
-    text_of(alloc, &layout, story, &cutout)
+    let part = cutout_part_from(part, story.number(0));
+    let cutout = cutout_of(alloc, story, &part)?;
+    let layout = cutout.picture_layout_of(alloc)?;
+    canvas_text_of(alloc, &layout, story, &cutout)
 }
 
 /// Writes the text, and flushes the writer.
-pub(crate) fn write<W: Write>(text: &str, out: &mut W) -> Result<(), PictureFault>
+pub(crate) fn write_picture<W: Write>(text: &str, out: &mut W) -> Result<(), PictureFault>
     ensures { result ≢ Err PictureFault.NoMemory }
 {
     match out.write_all(text.as_bytes()) {
@@ -52,15 +52,15 @@ pub(crate) fn write<W: Write>(text: &str, out: &mut W) -> Result<(), PictureFaul
 /// It takes time and memory in the order of the events and of the places that let them through.
 pub fn render<W: Write>(
     alloc: Global,
-    story: &Story<'_>,
+    story: &PictureStory<'_>,
     part: &Part,
     out: &mut W,
 ) -> Result<(), PictureFault>
-    requires drawn { CanBeDrawn story.now.processors story.now.events.now story.now.incoming.now }
+    requires drawn { HasPictureLayout story.now.processors story.now.events.now story.now.incoming.now }
     ensures no_memory { result ≡ Err PictureFault.NoMemory → W.contents out.new ≡ W.contents out.old }
 {
-    let Ok(text) = drawn(alloc, story, part) else {
+    let Ok(text) = picture_of(alloc, story, part) else {
         return Err(PictureFault::NoMemory);
     };
-    write(text.as_str(), out)
+    write_picture(text.as_str(), out)
 }

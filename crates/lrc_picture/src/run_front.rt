@@ -9,7 +9,7 @@ use std::alloc::{AllocError, Global};
 
 /// What a lock's front is.
 #[derive(Drop)]
-struct LockFront {
+struct RunFrontLock {
     holder: Option<usize>,
     /// Who asked for it, in order.
     queue: Vec<usize>,
@@ -23,7 +23,7 @@ struct RunFront {
     alloc: Global,
     /// How many words a page has.
     words: usize,
-    locks: Vec<LockFront>,
+    locks: Vec<RunFrontLock>,
     flags: Vec<bool>,
     /// Of each processor for what it waits.
     standings: Vec<Standing>,
@@ -39,7 +39,7 @@ struct RunFront {
 }
 
 /// Whether an event of this kind closes its processor's interval.
-fn closes(kind: Kind) -> bool {
+fn run_front_closes(kind: Kind) -> bool {
     match kind {
         Kind::Ask(_) | Kind::Release(_) | Kind::Arrive | Kind::Set(_) | Kind::Watch(_) => true,
         _ => false,
@@ -47,10 +47,14 @@ fn closes(kind: Kind) -> bool {
 }
 
 /// So many locks that nobody holds, as far as is known. The only error is running out of memory.
-fn free_locks(alloc: Global, count: usize, is_known: bool) -> Result<Vec<LockFront>, AllocError> {
+fn run_front_of_free_locks(
+    alloc: Global,
+    count: usize,
+    is_known: bool,
+) -> Result<Vec<RunFrontLock>, AllocError> {
     let mut locks = Vec::new(alloc);
     for _ in 0..count {
-        locks.push(LockFront {
+        locks.push(RunFrontLock {
             holder: None,
             queue: Vec::new(alloc),
             is_known,
@@ -60,7 +64,7 @@ fn free_locks(alloc: Global, count: usize, is_known: bool) -> Result<Vec<LockFro
 }
 
 /// So many lists with nothing in them. The only error is running out of memory.
-fn empty_lists(alloc: Global, count: usize) -> Result<Vec<Vec<usize>>, AllocError> {
+fn empty_run_front_lists(alloc: Global, count: usize) -> Result<Vec<Vec<usize>>, AllocError> {
     let mut lists = Vec::new(alloc);
     for _ in 0..count {
         lists.push(Vec::new(alloc))?;
@@ -68,7 +72,7 @@ fn empty_lists(alloc: Global, count: usize) -> Result<Vec<Vec<usize>>, AllocErro
     Ok(lists)
 }
 
-impl LockFront {
+impl RunFrontLock {
     /// The one of those who asked first, where nobody holds the lock.
     fn next(&self) -> Option<usize> {
         if self.is_known && self.holder.is_none() {
@@ -98,11 +102,11 @@ impl RunFront {
         Ok(RunFront {
             alloc,
             words: sizes.words,
-            locks: free_locks(alloc, sizes.locks, !is_cut)?,
+            locks: run_front_of_free_locks(alloc, sizes.locks, !is_cut)?,
             flags: vec![in alloc; false; sizes.flags]?,
             standings: vec![in alloc; Standing::Runs; sizes.processors]?,
             missing: sizes.processors,
-            dirty: empty_lists(alloc, sizes.processors)?,
+            dirty: empty_run_front_lists(alloc, sizes.processors)?,
             marks: vec![in alloc; false; copies.saturating_mul(sizes.words)]?,
             known: vec![in alloc; !is_cut; copies]?,
         })
@@ -340,7 +344,7 @@ impl RunFront {
 }
 
 /// What the event at this place changes besides, which tells of these records.
-fn others_at(
+fn run_front_changes_at(
     front: &mut RunFront,
     event: Event,
     dues: &[Due],
@@ -348,7 +352,7 @@ fn others_at(
     let mut changes = Vec::new(front.alloc);
     match event.kind {
         Kind::Store(address, _) => front.soil(event.processor, address)?,
-        _ if closes(event.kind) => front.clean(&mut changes, event.processor)?,
+        _ if run_front_closes(event.kind) => front.clean(&mut changes, event.processor)?,
         _ => {}
     }
     front.note_copies(&mut changes, event, dues)?;
@@ -357,7 +361,7 @@ fn others_at(
 }
 
 /// What each event of the history changes besides. The only error is running out of memory.
-pub fn others_of(
+pub fn run_front_changes_of(
     alloc: Global,
     history: &History<'_>,
     dues: &[Vec<Due>],
@@ -366,7 +370,7 @@ pub fn others_of(
     let mut front = RunFront::new(alloc, history.sizes(), history.cut_events() > 0)?;
     let mut others = Vec::with_capacity(alloc, events.len())?;
     for (event, records) in events.iter().zip(dues.iter()) {
-        others.push(others_at(&mut front, *event, records)?)?;
+        others.push(run_front_changes_at(&mut front, *event, records)?)?;
     }
     Ok(others)
 }

@@ -32,7 +32,7 @@ pub enum Subject {
 
 /// What a picture tells of a run or a trace.
 #[derive(Clone, Copy)]
-pub struct Story<'a> {
+pub struct PictureStory<'a> {
     /// Of what it is.
     pub subject: Subject,
     /// The name of the file, where there is one; of a path only what stands behind its last `/` is shown.
@@ -53,7 +53,7 @@ pub struct Story<'a> {
     pub details: Details<'a>,
 }
 
-impl Story<'_> {
+impl PictureStory<'_> {
     /// The number of the event at this place.
     pub fn number(&self, place: usize) -> usize {
         match usize::try_from(self.first) {

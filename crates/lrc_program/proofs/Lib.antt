@@ -1,3 +1,3 @@
-pub mod Reading
-pub mod Serving
-pub mod Statuses
+pub mod WholeSource
+pub mod PrintedScripts
+pub mod StatusMeanings

@@ -1,4 +1,4 @@
 pub mod Served
-pub mod Statuses
+pub mod ExitStatus
 pub mod Prelude
 pub mod Hints

@@ -1,3 +1,3 @@
 -- The words that contracts name, passed on from one place. Declares nothing.
-pub use Rattle.lrc_program.specs.Served.{IsServedAsAsked, IsByTurns, IsNoScript, IsScriptPrinted, IsScriptRead, IsServed, lock_chosen}
-pub use Rattle.lrc_program.specs.Statuses.{IsStatusBeforeOutput, IsScriptsStatus, IsStatusOf, status_of}
+pub use Rattle.lrc_program.specs.Served.{IsServedAsAsked, IsServedByTurns, IsServedWithoutScript, IsServedReportPrinted, IsServedScriptRead, IsServed, served_lock_chosen}
+pub use Rattle.lrc_program.specs.ExitStatus.{IsProgramExitStatusBeforeOutput, IsProgramExitStatusOfScript, IsProgramExitStatusOf, program_exit_status_of}

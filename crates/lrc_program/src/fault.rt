@@ -1,7 +1,7 @@
 //! Why the program ends without a report.
 ghost use Rattle.std.specs.Prelude.{◌≡◌, ◌≢◌};
 ghost use Rattle.lrc_script.specs.declared.fault.ScriptFault.TheVariants.{NoMemory};
-ghost use Rattle.lrc_program.specs.Prelude.{IsScriptsStatus, status_of};
+ghost use Rattle.lrc_program.specs.Prelude.{IsProgramExitStatusOfScript, program_exit_status_of};
 ghost use Rattle.lrc_program.specs.declared.fault.ProgramFault.TheVariants as program;
 
 use crate::hints::hint::hint;
@@ -76,7 +76,7 @@ impl ProgramFault {
     /// The exit status: 5 for words or a script that can't be read and for a schedule that doesn't fit, 2 for a script that is refused, 3 for a run
     /// without progress, else 4.
     pub fn status(self) -> u8
-        ensures { result ≡ status_of self }
+        ensures { result ≡ program_exit_status_of self }
     {
         match self {
             ProgramFault::Words(_) | ProgramFault::Unreadable(_) | ProgramFault::Schedule(..) => 5,
@@ -93,7 +93,7 @@ impl ProgramFault {
 }
 
 impl From<io::Error> for ProgramFault {
-    ghost from_gives = { λ _ fault. IsScriptsStatus fault → ⊥ };
+    ghost from_gives = { λ _ fault. IsProgramExitStatusOfScript fault → ⊥ };
 
     fn from(error: io::Error) -> ProgramFault {
         if error.kind() == ErrorKind::OutOfMemory {
@@ -113,7 +113,7 @@ impl From<AllocError> for ProgramFault {
 }
 
 impl From<(usize, ScriptFault)> for ProgramFault {
-    ghost from_gives = { λ given fault. IsScriptsStatus fault → given.1 ≢ NoMemory };
+    ghost from_gives = { λ given fault. IsProgramExitStatusOfScript fault → given.1 ≢ NoMemory };
 
     fn from((line, fault): (usize, ScriptFault)) -> ProgramFault {
         match fault {
@@ -124,7 +124,7 @@ impl From<(usize, ScriptFault)> for ProgramFault {
 }
 
 impl From<RunFault> for ProgramFault {
-    ghost from_gives = { λ _ fault. IsScriptsStatus fault → ⊥ };
+    ghost from_gives = { λ _ fault. IsProgramExitStatusOfScript fault → ⊥ };
 
     fn from(fault: RunFault) -> ProgramFault {
         match fault.cause {
@@ -135,7 +135,7 @@ impl From<RunFault> for ProgramFault {
 }
 
 impl From<ScheduleFault> for ProgramFault {
-    ghost from_gives = { λ _ fault. IsScriptsStatus fault → ⊥ };
+    ghost from_gives = { λ _ fault. IsProgramExitStatusOfScript fault → ⊥ };
 
     fn from(fault: ScheduleFault) -> ProgramFault {
         match fault {

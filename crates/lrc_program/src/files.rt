@@ -2,16 +2,16 @@
 ghost use Rattle.std.specs.Prelude.{◌<◌};
 
 use crate::fault::ProgramFault;
-use crate::program::{program, say};
+use crate::program::{program, program_says};
 use crate::reasons::{KeepsReason, say_reason};
-use conformance::Runs;
+use conformance::ScriptRunner;
 use lrc_options::options::Options;
 use std::fs::File;
 use std::sync::Wait;
 use std::thread::Threads;
 
 /// The file to open, or None for standard input: no file is given, or `-`.
-pub fn file_named(file: &Option<String>) -> Option<&str> {
+pub fn program_file_named(file: &Option<String>) -> Option<&str> {
     match file.as_deref() {
         Some("-") | None => None,
         Some(path) => Some(path),
@@ -20,7 +20,7 @@ pub fn file_named(file: &Option<String>) -> Option<&str> {
 
 /// Runs the script of the file, or of standard input if no file or `-` is given, and answers the status. The handle is what
 /// threads are started by.
-pub fn run_file<T: Runs, R: Threads + Wait + Sync>(
+pub fn run_program_file<T: ScriptRunner, R: Threads + Wait + Sync>(
     rt: &HostRuntime,
     handle: &R,
     runs: &T,
@@ -30,7 +30,7 @@ pub fn run_file<T: Runs, R: Threads + Wait + Sync>(
 {
     let alloc = rt.alloc();
     let (mut out, mut err) = (KeepsReason::new(rt.stdout()), rt.stderr());
-    let status = match file_named(&options.file) {
+    let status = match program_file_named(&options.file) {
         None => program(
             runs,
             handle,
@@ -50,7 +50,7 @@ pub fn run_file<T: Runs, R: Threads + Wait + Sync>(
                 &mut out,
                 &mut err,
             ),
-            Err(error) => say(alloc, Some(path), ProgramFault::from(error), &mut err),
+            Err(error) => program_says(alloc, Some(path), ProgramFault::from(error), &mut err),
         },
     };
     say_reason(alloc, out.reason(), &mut err);

@@ -3,14 +3,14 @@
 //!
 //! **What contracts see.** The script's bytes and the text as plain lists.
 //!
-//! **What is proved.** `hint` answers the place, then the line of the script that has this number (`line_at`), as far as it is
-//! shown, with a caret under one of its bytes (`excerpt_text`), and then what it says of that (`IsHint`).
+//! **What is proved.** `hint` answers the place, then the line of the script that has this number (`excerpt_line_at`), as far as it is
+//! shown, with a caret under one of its bytes (`excerpt_text`), and then what it says of that (`IsHintExcerpt`).
 //!
 //! **What is only tested**, by whole runs of the program: which word the caret is under, and all other lines. They are guesses
 //! for a reader: what is told of the fault itself, the script's reader has answered.
 
 mod advice;
+mod amiss;
 mod excerpt;
 mod forms;
 pub mod hint;
-mod word;

@@ -2,13 +2,13 @@
 ghost use Rattle.std.specs.Prelude.{ℕ, ◌≡◌, ◌≢◌, ◌<◌, ◌⊎◌, IfErr, IfOk, List, Ok, OnOk};
 ghost use Rattle.std.specs.Io.KnownBytes.{Keeps};
 ghost use Rattle.lrc_script.specs.Prelude.{IsLawful, plan_of};
-ghost use Rattle.conformance.specs.Prelude.{IsReportOf, IsScheduleText};
+ghost use Rattle.conformance.specs.Prelude.{IsScriptReport, IsScheduleText};
 ghost use Rattle.conformance.specs.declared.ended.Ended.TheVariants.{Whole};
-ghost use Rattle.lrc_program.specs.Prelude.{IsServedAsAsked, IsByTurns, IsNoScript, IsScriptPrinted, IsScriptRead, IsServed, IsStatusBeforeOutput};
-ghost use Rattle.lrc_program.specs.Prelude.{IsScriptsStatus, IsStatusOf, lock_chosen};
+ghost use Rattle.lrc_program.specs.Prelude.{IsServedAsAsked, IsServedByTurns, IsServedWithoutScript, IsServedReportPrinted, IsServedScriptRead, IsServed, IsProgramExitStatusBeforeOutput};
+ghost use Rattle.lrc_program.specs.Prelude.{IsProgramExitStatusOfScript, IsProgramExitStatusOf, served_lock_chosen};
 
 use crate::fault::ProgramFault;
-use conformance::{Cause, Ended, LockChoice, RunFault, Runs, Schedule};
+use conformance::{Cause, Ended, LockChoice, RunFault, Schedule, ScriptRunner};
 use lrc_options::options::Options;
 use lrc_report::Report;
 use lrc_report::render::render;
@@ -22,8 +22,8 @@ use std::thread::Threads;
 const MOST_READ: u64 = MOST_BYTES as u64 + 1;
 
 /// The lock that the options ask for.
-fn lock_of(options: &Options) -> LockChoice
-    ensures { result ≡ lock_chosen options.now }
+fn program_lock(options: &Options) -> LockChoice
+    ensures { result ≡ served_lock_chosen options.now }
 {
     if options.ticket {
         LockChoice::Ticket
@@ -33,7 +33,7 @@ fn lock_of(options: &Options) -> LockChoice
 }
 
 /// Has the script run by the turns of the schedule that this text gives.
-fn scheduled_report<T: Runs, R: Wait>(
+fn program_scheduled_report<T: ScriptRunner, R: Wait>(
     runs: &T,
     rt: &R,
     alloc: Global,
@@ -42,10 +42,10 @@ fn scheduled_report<T: Runs, R: Wait>(
     text: &str,
 ) -> Result<Report, ProgramFault>
     requires { IsLawful (plan_of script.now) }
-    ensures report { IfOk result (IsReportOf (plan_of script.now)) }
+    ensures report { IfOk result (IsScriptReport (plan_of script.now)) }
     ensures followed { IfOk result (λ report. (turns : List ℕ) × IsScheduleText text.now turns
         × T.followed (plan_of script.now) lock turns (Ok (Whole report))) }
-    ensures runs { IfErr result (λ fault. IsScriptsStatus fault → ⊥) }
+    ensures runs { IfErr result (λ fault. IsProgramExitStatusOfScript fault → ⊥) }
 {
     let schedule = Schedule::parse(alloc, text)?;
     let ended = runs.step_by(rt, alloc, script, lock, &schedule)?;
@@ -59,7 +59,7 @@ fn scheduled_report<T: Runs, R: Wait>(
 }
 
 /// Has the script run by turns as the options say.
-fn stepped_report<T: Runs, R: Wait>(
+fn program_stepped_report<T: ScriptRunner, R: Wait>(
     runs: &T,
     rt: &R,
     alloc: Global,
@@ -67,19 +67,19 @@ fn stepped_report<T: Runs, R: Wait>(
     script: &Script,
 ) -> Result<Report, ProgramFault>
     requires { IsLawful (plan_of script.now) }
-    ensures report { IfOk result (IsReportOf (plan_of script.now)) }
-    ensures asked { IfOk result (IsByTurns T.stepped T.followed options.now (plan_of script.now)) }
-    ensures runs { IfErr result (λ fault. IsScriptsStatus fault → ⊥) }
+    ensures report { IfOk result (IsScriptReport (plan_of script.now)) }
+    ensures asked { IfOk result (IsServedByTurns T.stepped T.followed options.now (plan_of script.now)) }
+    ensures runs { IfErr result (λ fault. IsProgramExitStatusOfScript fault → ⊥) }
 {
-    let lock = lock_of(options);
+    let lock = program_lock(options);
     match options.schedule.as_deref() {
-        Some(text) => scheduled_report(runs, rt, alloc, script, lock, text),
+        Some(text) => program_scheduled_report(runs, rt, alloc, script, lock, text),
         None => Ok(runs.step(rt, alloc, script, lock, options.seed)?),
     }
 }
 
 /// Has the script run as the options say.
-fn report_of<T: Runs, R: Threads + Wait + Sync>(
+fn program_report<T: ScriptRunner, R: Threads + Wait + Sync>(
     runs: &T,
     rt: &R,
     alloc: Global,
@@ -88,24 +88,24 @@ fn report_of<T: Runs, R: Threads + Wait + Sync>(
 ) -> Result<Report, ProgramFault>
     requires tries { 0 < options.now.tries }
     requires lawful { IsLawful (plan_of script.now) }
-    ensures report { IfOk result (IsReportOf (plan_of script.now)) }
+    ensures report { IfOk result (IsScriptReport (plan_of script.now)) }
     ensures asked { IfOk result (IsServedAsAsked T.ran T.stepped T.followed options.now (plan_of script.now)) }
-    ensures runs { IfErr result (λ fault. IsScriptsStatus fault → ⊥) }
+    ensures runs { IfErr result (λ fault. IsProgramExitStatusOfScript fault → ⊥) }
 {
     if options.step {
-        return stepped_report(runs, rt, alloc, options, script);
+        return program_stepped_report(runs, rt, alloc, options, script);
     }
-    Ok(runs.run(rt, alloc, script, lock_of(options), options.tries)?)
+    Ok(runs.run(rt, alloc, script, program_lock(options), options.tries)?)
 }
 
 /// Reads a script: all that the source has. If that is no script's text, it is handed out as `refused`, so far as it was read.
-pub fn read_script<S: Read>(
+pub fn program_reads_script<S: Read>(
     alloc: Global,
     source: &mut S,
     refused: &mut Vec<u8>,
 ) -> Result<Script, ProgramFault>
-    ensures read { IfOk result (λ s. IsScriptRead (S.remaining source.old) (plan_of s)) }
-    ensures refused { IfErr result (λ fault. IsScriptsStatus fault → IsNoScript (S.remaining source.old)) }
+    ensures read { IfOk result (λ s. IsServedScriptRead (S.remaining source.old) (plan_of s)) }
+    ensures refused { IfErr result (λ fault. IsProgramExitStatusOfScript fault → IsServedWithoutScript (S.remaining source.old)) }
 {
     let mut bytes = Vec::new(alloc);
     source.take(MOST_READ).read_to_end(&mut bytes)?;
@@ -120,7 +120,7 @@ pub fn read_script<S: Read>(
 
 /// Runs a script and writes its report. It stands apart from the reading since nothing is to be dropped if the run
 /// ends with a fault.
-fn print_report<T: Runs, R: Threads + Wait + Sync, W: Write>(
+fn program_prints_report<T: ScriptRunner, R: Threads + Wait + Sync, W: Write>(
     runs: &T,
     rt: &R,
     alloc: Global,
@@ -130,19 +130,19 @@ fn print_report<T: Runs, R: Threads + Wait + Sync, W: Write>(
 ) -> Result<(), ProgramFault>
     requires tries { 0 < options.now.tries }
     requires lawful { IsLawful (plan_of script.now) }
-    ensures printed { OnOk result (IsScriptPrinted (IsServedAsAsked T.ran T.stepped T.followed options.now) options.now.journal (plan_of script.now)
+    ensures printed { OnOk result (IsServedReportPrinted (IsServedAsAsked T.ran T.stepped T.followed options.now) options.now.journal (plan_of script.now)
         (W.contents out.old) (W.contents out.new)) }
     ensures early { IfErr result
-        (λ fault. IsStatusBeforeOutput fault → Keeps (W.contents out.old) (W.contents out.new)) }
-    ensures runs { IfErr result (λ fault. IsScriptsStatus fault → ⊥) }
+        (λ fault. IsProgramExitStatusBeforeOutput fault → Keeps (W.contents out.old) (W.contents out.new)) }
+    ensures runs { IfErr result (λ fault. IsProgramExitStatusOfScript fault → ⊥) }
 {
-    let report = report_of(runs, rt, alloc, options, script)?;
+    let report = program_report(runs, rt, alloc, options, script)?;
     render(&report, options.journal, out)?;
     Ok(())
 }
 
 /// Reads a script, runs it and writes its report.
-fn run_script<T: Runs, R: Threads + Wait + Sync, S: Read, W: Write>(
+fn program_runs_script<T: ScriptRunner, R: Threads + Wait + Sync, S: Read, W: Write>(
     runs: &T,
     rt: &R,
     alloc: Global,
@@ -154,17 +154,17 @@ fn run_script<T: Runs, R: Threads + Wait + Sync, S: Read, W: Write>(
     requires { 0 < options.now.tries }
     ensures served { OnOk result (IsServed (IsServedAsAsked T.ran T.stepped T.followed options.now) options.now.journal
         (S.remaining source.old) (W.contents out.old) (W.contents out.new)) }
-    ensures refused { IfErr result (λ fault. IsScriptsStatus fault → IsNoScript (S.remaining source.old)) }
+    ensures refused { IfErr result (λ fault. IsProgramExitStatusOfScript fault → IsServedWithoutScript (S.remaining source.old)) }
     ensures early { IfErr result
-        (λ fault. IsStatusBeforeOutput fault → Keeps (W.contents out.old) (W.contents out.new)) }
+        (λ fault. IsProgramExitStatusBeforeOutput fault → Keeps (W.contents out.old) (W.contents out.new)) }
 {
-    let script = read_script(alloc, source, refused)?;
-    print_report(runs, rt, alloc, options, &script, out)
+    let script = program_reads_script(alloc, source, refused)?;
+    program_prints_report(runs, rt, alloc, options, &script, out)
 }
 
 /// Says the line on `err` in one write, and answers the status. If there was no memory for the line, it says that,
 /// with the status of that.
-pub fn say_line<E: Write>(line: Result<String, AllocError>, status: u8, err: &mut E) -> u8
+pub fn program_says_line<E: Write>(line: Result<String, AllocError>, status: u8, err: &mut E) -> u8
     ensures { (result ≡ status) ⊎ (result ≡ 4) }
 {
     // If standard error takes nothing, the status still tells.
@@ -182,28 +182,33 @@ pub fn say_line<E: Write>(line: Result<String, AllocError>, status: u8, err: &mu
 
 /// Says on `err` in one write why the program ends without a report on the file's script, and answers the fault's
 /// exit status. If there is no memory for the line, it says that, with the status of that.
-pub fn say<E: Write>(alloc: Global, file: Option<&str>, fault: ProgramFault, err: &mut E) -> u8
-    ensures { IsStatusOf fault result }
+pub fn program_says<E: Write>(
+    alloc: Global,
+    file: Option<&str>,
+    fault: ProgramFault,
+    err: &mut E,
+) -> u8
+    ensures { IsProgramExitStatusOf fault result }
 {
-    say_line(fault.line(alloc, file), fault.status(), err)
+    program_says_line(fault.line(alloc, file), fault.status(), err)
 }
 
 /// The same of a script that has these bytes: if the fault is its own, the lines about that follow.
-pub fn say_of_script<E: Write>(
+pub fn program_says_of_script<E: Write>(
     alloc: Global,
     file: Option<&str>,
     script: &[u8],
     fault: ProgramFault,
     err: &mut E,
 ) -> u8
-    ensures { IsStatusOf fault result }
+    ensures { IsProgramExitStatusOf fault result }
 {
-    say_line(fault.lines(alloc, file, script), fault.status(), err)
+    program_says_line(fault.lines(alloc, file, script), fault.status(), err)
 }
 
 /// Runs the script of `source` as the options say: writes its report to `out`, or why there is none to `err`, and
 /// answers the exit status. The file that the options name isn't opened here.
-pub fn program<T: Runs, R: Threads + Wait + Sync, S: Read, W: Write, E: Write>(
+pub fn program<T: ScriptRunner, R: Threads + Wait + Sync, S: Read, W: Write, E: Write>(
     runs: &T,
     rt: &R,
     alloc: Global,
@@ -217,15 +222,15 @@ pub fn program<T: Runs, R: Threads + Wait + Sync, S: Read, W: Write, E: Write>(
     ensures served { result ≡ 0 → IsServed (IsServedAsAsked T.ran T.stepped T.followed options.now) options.now.journal
         (S.remaining source.old) (W.contents out.old) (W.contents out.new) }
     // What is refused as a script is none.
-    ensures refused { result ≡ 2 → IsNoScript (S.remaining source.old) }
+    ensures refused { result ≡ 2 → IsServedWithoutScript (S.remaining source.old) }
     // At any status but 4, a report is written whole or not at all.
     ensures early { result ≢ 0 → result ≢ 4 → Keeps (W.contents out.old) (W.contents out.new) }
     // If it was written, no line goes to the error output.
     ensures quiet { result ≡ 0 → Keeps (E.contents err.old) (E.contents err.new) }
 {
     let mut refused = Vec::new(alloc);
-    match run_script(runs, rt, alloc, options, source, &mut refused, out) {
+    match program_runs_script(runs, rt, alloc, options, source, &mut refused, out) {
         Ok(()) => 0,
-        Err(fault) => say_of_script(alloc, options.file.as_deref(), &refused, fault, err),
+        Err(fault) => program_says_of_script(alloc, options.file.as_deref(), &refused, fault, err),
     }
 }

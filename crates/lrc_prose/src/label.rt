@@ -1,13 +1,13 @@
 //! What an event did, in a reader's words.
 
-use crate::text::Text;
+use crate::text::ProseText;
 use journal::Kind;
 
 /// Puts what an event did, as it stands in its lane.
-pub fn put_label(text: &mut Text, kind: Kind) {
+pub fn put_prose_label(text: &mut ProseText, kind: Kind) {
     match kind {
-        Kind::Load(address, word) => put_access(text, "load ", address, " -> ", word),
-        Kind::Store(address, word) => put_access(text, "store ", address, " <- ", word),
+        Kind::Load(address, word) => put_access_prose_label(text, "load ", address, " -> ", word),
+        Kind::Store(address, word) => put_access_prose_label(text, "store ", address, " <- ", word),
         Kind::Fetch { page, .. } => text.put_number("fetch page ", page),
         Kind::Ask(lock) => text.put_number("ask ", lock),
         Kind::Acquire(lock) => text.put_number("acquire ", lock),
@@ -21,7 +21,13 @@ pub fn put_label(text: &mut Text, kind: Kind) {
 }
 
 /// Puts an access with this name.
-fn put_access(text: &mut Text, name: &str, address: usize, arrow: &str, word: u32) {
+fn put_access_prose_label(
+    text: &mut ProseText,
+    name: &str,
+    address: usize,
+    arrow: &str,
+    word: u32,
+) {
     text.put_number(name, address);
     text.put_number(arrow, word);
 }

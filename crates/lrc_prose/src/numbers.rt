@@ -2,17 +2,17 @@
 
 /// How the events of a history are numbered: on from those that were cut off.
 #[derive(Clone, Copy)]
-pub struct EventNumbers {
+pub struct ProseNumbers {
     /// How many events were cut off.
     pub cut: u64,
     /// How many arrivals in front stand for them.
     pub opening: usize,
 }
 
-impl EventNumbers {
+impl ProseNumbers {
     /// Those of a history of which nothing was cut off: each event's place.
-    pub fn whole() -> EventNumbers {
-        EventNumbers { cut: 0, opening: 0 }
+    pub fn whole() -> ProseNumbers {
+        ProseNumbers { cut: 0, opening: 0 }
     }
 
     /// The number of the event at this place of the history.

@@ -1,49 +1,49 @@
 //! A race, in sentences: its accesses, what keeps them apart, and what would have ordered them.
 
-use crate::label::put_label;
-use crate::numbers::EventNumbers;
-use crate::text::Text;
+use crate::label::put_prose_label;
+use crate::numbers::ProseNumbers;
+use crate::text::ProseText;
 use causes::RaceApart;
 use journal::{Event, Kind};
 
 /// A race of a history with these events, and what keeps its accesses apart.
 #[derive(Clone, Copy)]
-pub struct RaceStory<'a> {
-    pub numbers: EventNumbers,
+pub struct RaceProse<'a> {
+    pub numbers: ProseNumbers,
     pub events: &'a [Event],
     pub apart: &'a RaceApart,
 }
 
 /// An event with its number.
 #[derive(Clone, Copy)]
-struct Numbered {
+struct RaceProseEvent {
     number: u64,
     event: Event,
 }
 
-impl Numbered {
+impl RaceProseEvent {
     /// Puts its number, who made it, and what it did.
-    fn put(self, text: &mut Text) {
+    fn put(self, text: &mut ProseText) {
         text.put_number("event ", self.number);
         text.put_number(" (p", self.event.processor);
         text.put(": ");
-        put_label(text, self.event.kind);
+        put_prose_label(text, self.event.kind);
         text.put(")");
     }
 }
 
-impl RaceStory<'_> {
+impl RaceProse<'_> {
     /// The event at this place.
-    fn numbered(&self, place: usize) -> Option<Numbered> {
+    fn numbered(&self, place: usize) -> Option<RaceProseEvent> {
         let event = self.events.get(place)?;
-        Some(Numbered {
+        Some(RaceProseEvent {
             number: self.numbers.of(place),
             event: *event,
         })
     }
 
     /// The last event of the first processor that the second one had heard of; None where it is none that is told.
-    fn heard(&self) -> Option<Numbered> {
+    fn heard(&self) -> Option<RaceProseEvent> {
         let place = self.apart.heard?;
         if self.numbers.is_cut(place) {
             return None;
@@ -52,7 +52,7 @@ impl RaceStory<'_> {
     }
 
     /// Puts what the second processor had heard of the first one's.
-    fn put_heard(&self, text: &mut Text, first: usize, second: usize) {
+    fn put_heard(&self, text: &mut ProseText, first: usize, second: usize) {
         text.put_number("p", second);
         if self.apart.heard.is_none() {
             text.put_number(" had heard nothing of p", first);
@@ -64,7 +64,7 @@ impl RaceStory<'_> {
             Some(heard) => {
                 text.put_number("'s event ", heard.number);
                 text.put(" (");
-                put_label(text, heard.event.kind);
+                put_prose_label(text, heard.event.kind);
                 text.put(").");
             }
             None => text.put(" before the cut."),
@@ -72,7 +72,13 @@ impl RaceStory<'_> {
     }
 
     /// Puts the value that the second access missed, where it is a load of another word than the first one stored before it.
-    fn put_missed(&self, text: &mut Text, indent: usize, first: Numbered, second: Numbered) {
+    fn put_missed(
+        &self,
+        text: &mut ProseText,
+        indent: usize,
+        first: RaceProseEvent,
+        second: RaceProseEvent,
+    ) {
         let (Kind::Store(_, stored), Kind::Load(_, answered)) = (
             first.event.kind,
             second.event.kind,
@@ -80,9 +86,9 @@ impl RaceStory<'_> {
             return;
         };
         if stored != answered {
-            begin_line(text, indent);
+            begin_race_prose_line(text, indent);
             text.put("Stale: ");
-            put_label(text, second.event.kind);
+            put_prose_label(text, second.event.kind);
             text.put_number(", though event ", first.number);
             text.put_number(" had stored ", stored);
             text.put(".");
@@ -91,20 +97,20 @@ impl RaceStory<'_> {
     }
 
     /// Puts that the two hold no lock in common, and which ones each holds.
-    fn put_no_lock(&self, text: &mut Text, first: usize, second: usize) {
+    fn put_no_lock(&self, text: &mut ProseText, first: usize, second: usize) {
         text.put("No lock in common");
         if self.numbers.has_cut() {
             text.put(" since the cut");
         }
         text.put_number(": p", first);
-        put_locks(text, &self.apart.first_locks);
+        put_race_prose_locks(text, &self.apart.first_locks);
         text.put_number(", p", second);
-        put_locks(text, &self.apart.second_locks);
+        put_race_prose_locks(text, &self.apart.second_locks);
         text.put(".");
     }
 
     /// Puts what would have ordered the two.
-    fn put_remedy(&self, text: &mut Text, first: Numbered, second: Numbered) {
+    fn put_remedy(&self, text: &mut ProseText, first: RaceProseEvent, second: RaceProseEvent) {
         text.put("What would order them: one lock round both, a barrier between them,");
         text.put_number(" or a flag that p", first.event.processor);
         text.put_number(" sets behind event ", first.number);
@@ -114,7 +120,7 @@ impl RaceStory<'_> {
     }
 
     /// The two accesses; None where the history doesn't have them.
-    fn accesses(&self) -> Option<(Numbered, Numbered)> {
+    fn accesses(&self) -> Option<(RaceProseEvent, RaceProseEvent)> {
         let first = self.numbered(self.apart.first)?;
         let second = self.numbered(self.apart.second)?;
         Some((first, second))
@@ -122,36 +128,36 @@ impl RaceStory<'_> {
 
     /// Puts what keeps the two apart and what would have ordered them: sentences, each in lines of its own behind so many
     /// spaces.
-    pub fn put_reasons(&self, text: &mut Text, indent: usize) {
+    pub fn put_reasons(&self, text: &mut ProseText, indent: usize) {
         let Some((first, second)) = self.accesses() else {
             return;
         };
-        begin_line(text, indent);
+        begin_race_prose_line(text, indent);
         text.put("Neither happens before the other.");
         text.end_line();
-        begin_line(text, indent);
+        begin_race_prose_line(text, indent);
         self.put_heard(text, first.event.processor, second.event.processor);
         text.end_line();
         self.put_missed(text, indent, first, second);
-        begin_line(text, indent);
+        begin_race_prose_line(text, indent);
         self.put_no_lock(text, first.event.processor, second.event.processor);
         text.end_line();
-        begin_line(text, indent);
+        begin_race_prose_line(text, indent);
         self.put_remedy(text, first, second);
         text.end_line();
     }
 
     /// Puts which two accesses race, and the sentences of `put_reasons`.
-    pub fn put(&self, text: &mut Text) {
+    pub fn put(&self, text: &mut ProseText) {
         if let Some((first, second)) = self.accesses() {
-            put_accesses(text, first, second);
+            put_race_prose_accesses(text, first, second);
         }
         self.put_reasons(text, 0);
     }
 }
 
 /// Puts which two accesses race.
-fn put_accesses(text: &mut Text, first: Numbered, second: Numbered) {
+fn put_race_prose_accesses(text: &mut ProseText, first: RaceProseEvent, second: RaceProseEvent) {
     if let Kind::Load(address, _) | Kind::Store(address, _) = first.event.kind {
         first.put(text);
         text.put(" and ");
@@ -163,13 +169,13 @@ fn put_accesses(text: &mut Text, first: Numbered, second: Numbered) {
 }
 
 /// Begins a line behind so many spaces. What doesn't fit goes on in the next line, behind as many.
-fn begin_line(text: &mut Text, indent: usize) {
+fn begin_race_prose_line(text: &mut ProseText, indent: usize) {
     text.leave(indent);
     text.break_from_here();
 }
 
 /// Puts which locks a processor held.
-fn put_locks(text: &mut Text, locks: &[usize]) {
+fn put_race_prose_locks(text: &mut ProseText, locks: &[usize]) {
     let mut front = " held ";
     for lock in locks {
         text.put_number(front, *lock);

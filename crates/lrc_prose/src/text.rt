@@ -13,16 +13,16 @@ const MOST_INDENT: usize = 60;
 /// What was put so far. Who puts something needn't ask whether there was memory for it: where a growth is refused, nothing
 /// more is put, and `finish` answers the refusal.
 #[derive(Drop)]
-struct Sink {
+struct ProseTextSink {
     bytes: Vec<u8>,
     /// Whether each growth was granted so far.
     granted: Result<(), AllocError>,
 }
 
-impl Sink {
+impl ProseTextSink {
     /// An empty one.
-    fn new(alloc: Global) -> Sink {
-        Sink {
+    fn new(alloc: Global) -> ProseTextSink {
+        ProseTextSink {
             bytes: Vec::new(alloc),
             granted: Ok(()),
         }
@@ -45,7 +45,7 @@ impl Sink {
 
     /// The bytes. The only error is running out of memory: a growth was refused.
     fn finish(self) -> Result<Vec<u8>, AllocError> {
-        let Sink { bytes, granted } = self;
+        let ProseTextSink { bytes, granted } = self;
         granted?;
         Ok(bytes)
     }
@@ -75,22 +75,22 @@ impl Sink {
 
 /// A text that grows line by line.
 #[derive(Drop)]
-pub struct Text {
-    lines: Sink,
+pub struct ProseText {
+    lines: ProseTextSink,
     /// The line that isn't ended yet.
-    line: Sink,
+    line: ProseTextSink,
     /// How many spaces come before what is put next on this line.
     gap: usize,
     /// From which column on the line may be broken.
     unbroken: usize,
 }
 
-impl Text {
+impl ProseText {
     /// An empty one.
-    pub fn new(alloc: Global) -> Text {
-        Text {
-            lines: Sink::new(alloc),
-            line: Sink::new(alloc),
+    pub fn new(alloc: Global) -> ProseText {
+        ProseText {
+            lines: ProseTextSink::new(alloc),
+            line: ProseTextSink::new(alloc),
             gap: 0,
             unbroken: 0,
         }
@@ -165,13 +165,13 @@ impl Text {
 
     /// The line that isn't ended yet, in one piece. The only error is running out of memory: a growth was refused.
     pub fn into_line(self) -> Result<Vec<u8>, AllocError> {
-        let Text { line, .. } = self;
+        let ProseText { line, .. } = self;
         line.finish()
     }
 
     /// The bytes of the lines. The only error is running out of memory: a growth was refused.
     pub fn finish(self) -> Result<Vec<u8>, AllocError> {
-        let Text { lines, line, .. } = self;
+        let ProseText { lines, line, .. } = self;
         line.finish()?;
         lines.finish()
     }

@@ -6,7 +6,7 @@
 
 use lrc_options::command_line::options;
 use lrc_options::options::{Asked, Commands};
-use lrc_program::{answer_words, refuse, run_file, words_of};
+use lrc_program::{answer_program_words, program_words_of, refuse_program_words, run_program_file};
 use lrc_run::OnCluster;
 use std::process::ExitCode;
 use std::sync::Wait;
@@ -16,7 +16,7 @@ use std::thread::Threads;
 const NOT_HERE: u8 = 5;
 
 /// Says that this program has no such command.
-fn say_not_here(rt: &HostRuntime) -> u8 {
+fn say_not_in_lrc_quick(rt: &HostRuntime) -> u8 {
     let _ = eprintln!(rt;
         "lrc: this program has run and step alone\n  ./lrc prove builds the one that has the other commands"
     );
@@ -24,18 +24,18 @@ fn say_not_here(rt: &HostRuntime) -> u8 {
 }
 
 /// Does what the words ask for.
-fn start<R: Threads + Wait + Sync>(rt: &HostRuntime, handle: &R, words: &[String]) -> u8 {
+fn start_lrc_quick<R: Threads + Wait + Sync>(rt: &HostRuntime, handle: &R, words: &[String]) -> u8 {
     match options(rt.alloc(), words, Commands::RunAndStep) {
-        Ok(Asked::Script(options)) => run_file(rt, handle, &OnCluster, &options),
-        Ok(_) => say_not_here(rt),
-        Err(error) => answer_words(rt, &error),
+        Ok(Asked::Script(options)) => run_program_file(rt, handle, &OnCluster, &options),
+        Ok(_) => say_not_in_lrc_quick(rt),
+        Err(error) => answer_program_words(rt, &error),
     }
 }
 
 fn main(rt: HostRuntime) -> ExitCode {
-    let status = match words_of(&rt) {
-        Ok(words) => start(&rt, &rt, &words),
-        Err(fault) => refuse(&rt, fault),
+    let status = match program_words_of(&rt) {
+        Ok(words) => start_lrc_quick(&rt, &rt, &words),
+        Err(fault) => refuse_program_words(&rt, fault),
     };
     ExitCode::from(status)
 }

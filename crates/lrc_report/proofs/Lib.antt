@@ -1,2 +1,2 @@
 pub mod AppendsThrough
-pub mod Lines
+pub mod ReportLines

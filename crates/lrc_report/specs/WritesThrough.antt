@@ -19,12 +19,12 @@ abbrev pub most_kind : ℕ
 most_kind = 100
 
 -- a beginning of the text was appended
-abbrev pub AppendsFront : Option (List ℕ) → Option (List ℕ) → List ℕ → Type 0
-AppendsFront old new text = (done rest : List ℕ) × (text ≡ done ++ rest) × Appends old new done
+abbrev pub WritesThroughFront : Option (List ℕ) → Option (List ℕ) → List ℕ → Type 0
+WritesThroughFront old new text = (done rest : List ℕ) × (text ≡ done ++ rest) × Appends old new done
 
 -- the text was appended, or after an error a beginning of it
-abbrev pub Writes : {E : Type 0} → Option (List ℕ) → Option (List ℕ) → List ℕ → Result (Unit {0}) E → Type 0
-Writes old new text result = MatchResult result (λ _. Appends old new text) (λ _. AppendsFront old new text)
+abbrev pub WritesThroughOrFails : {E : Type 0} → Option (List ℕ) → Option (List ℕ) → List ℕ → Result (Unit {0}) E → Type 0
+WritesThroughOrFails old new text result = MatchResult result (λ _. Appends old new text) (λ _. WritesThroughFront old new text)
 
 -- of what was pending and this text some was appended, and the rest is pending now
 pub record PassesThrough (old new : Option (List ℕ)) (before after text : List ℕ) : Type 0 where
@@ -36,4 +36,4 @@ pub record PassesThrough (old new : Option (List ℕ)) (before after text : List
 abbrev pub WritesThrough : {E : Type 0} → Option (List ℕ) → Option (List ℕ) → List ℕ → List ℕ → List ℕ
     → Result (Unit {0}) E → Type 0
 WritesThrough old new before after text result =
-    MatchResult result (λ _. PassesThrough old new before after text) (λ _. AppendsFront old new (before ++ text))
+    MatchResult result (λ _. PassesThrough old new before after text) (λ _. WritesThroughFront old new (before ++ text))

@@ -9,10 +9,10 @@
 //! fails.
 #![tactic(auto)]
 
-mod line;
 mod pending;
 pub mod render;
 mod report;
+mod report_line;
 
-pub use line::Line;
 pub use report::Report;
+pub use report_line::ReportLine;

@@ -1,6 +1,6 @@
 //! Bytes that wait to be written, so that many pieces of text are one write.
 ghost use Rattle.std.specs.Prelude.{ℕ, ◌≡◌, ◌≤◌, ◌++◌, ◌-◌, [], List, length, take, OnOk};
-ghost use Rattle.lrc_report.specs.Prelude.{Writes, WritesThrough, most_pending};
+ghost use Rattle.lrc_report.specs.Prelude.{WritesThroughOrFails, WritesThrough, most_pending};
 
 use crate::render::OutFault;
 use std::io::Write;
@@ -29,7 +29,7 @@ impl Model for Pending {
 
 /// Writes the bytes. After OutFault a beginning of them was written.
 pub fn write_bytes<W: Write>(out: &mut W, bytes: &[u8]) -> Result<(), OutFault>
-    ensures { Writes (W.contents out.old) (W.contents out.new) bytes.now result }
+    ensures { WritesThroughOrFails (W.contents out.old) (W.contents out.new) bytes.now result }
 {
     let mut rest = bytes;
     while !rest.is_empty() {
@@ -71,7 +71,7 @@ impl Pending {
 
     /// Writes the bytes that wait; then none do. After OutFault a beginning of them was written.
     pub fn flush<W: Write>(&mut self, out: &mut W) -> Result<(), OutFault>
-        ensures writes { Writes (W.contents out.old) (W.contents out.new) self.old result }
+        ensures writes { WritesThroughOrFails (W.contents out.old) (W.contents out.new) self.old result }
         ensures none { OnOk result (self.new ≡ []) }
     {
         write_bytes(out, &self.bytes[..self.count])?;

@@ -4,23 +4,23 @@ use Rattle.std.specs.Result.{IfErr, IfOk, MatchResult, is_ok}
 use Rattle.std.proofs.lemmas.Bool.{cases_lt}
 use Rattle.std.proofs.lemmas.List.{map-append}
 use Rattle.conformance.specs.declared.cause.Cause.{Cause}
-use Rattle.lrc_run.specs.FailedOutcomes.{is_stuck_outcome_cause, FailedOutcome, IsFirstFailedOutcome}
+use Rattle.lrc_run.specs.FailedOutcomes.{is_failed_outcome_stuck, FailedOutcome, IsFirstFailedOutcome}
 
 -- none below a place failed so
-abbrev pub NoneFailedBelow : {X : Type 0} → List (Result X Cause) → Bool → ℕ → Type 0
-NoneFailedBelow outcomes stuck k = (p : ℕ) (cause : Cause) → p < k → FailedOutcome outcomes p cause → is_stuck_outcome_cause cause ≢ stuck
+abbrev pub NoneFailingBelow : {X : Type 0} → List (Result X Cause) → Bool → ℕ → Type 0
+NoneFailingBelow outcomes stuck k = (p : ℕ) (cause : Cause) → p < k → FailedOutcome outcomes p cause → is_failed_outcome_stuck cause ≢ stuck
 
-pub none_failed_more : {X : Type 0} (outcomes : List (Result X Cause)) (stuck : Bool) (k : ℕ) → NoneFailedBelow outcomes stuck k
-    → ((cause : Cause) → FailedOutcome outcomes k cause → is_stuck_outcome_cause cause ≢ stuck) → NoneFailedBelow outcomes stuck (k + 1)
-none_failed_more outcomes stuck k below here p cause less failed = elim (cases_lt p k) [
+pub failing_none_more : {X : Type 0} (outcomes : List (Result X Cause)) (stuck : Bool) (k : ℕ) → NoneFailingBelow outcomes stuck k
+    → ((cause : Cause) → FailedOutcome outcomes k cause → is_failed_outcome_stuck cause ≢ stuck) → NoneFailingBelow outcomes stuck (k + 1)
+failing_none_more outcomes stuck k below here p cause less failed = elim (cases_lt p k) [
   | inl lower ↦ below p cause lower failed
   | inr not ↦ here cause (subst (λ q. FailedOutcome outcomes q cause) (omega arith) failed)
 ]
 
-pub first_failed_so : {X : Type 0} (outcomes : List (Result X Cause)) (stuck : Bool) (k : ℕ) (cause : Cause)
-    → NoneFailedBelow outcomes stuck k → FailedOutcome outcomes k cause → is_stuck_outcome_cause cause ≡ stuck
+pub failing_first_so : {X : Type 0} (outcomes : List (Result X Cause)) (stuck : Bool) (k : ℕ) (cause : Cause)
+    → NoneFailingBelow outcomes stuck k → FailedOutcome outcomes k cause → is_failed_outcome_stuck cause ≡ stuck
     → IsFirstFailedOutcome outcomes stuck (record { processor = k; cause = cause })
-first_failed_so outcomes stuck k cause below failed so = record {
+failing_first_so outcomes stuck k cause below failed so = record {
   failed = failed;
   so = so;
   least = λ p other fails is. elim (cases_lt p k)

@@ -11,47 +11,47 @@ use Rattle.journal.specs.declared.event.Event.{Event}
 use Rattle.journal.specs.declared.event.Kind.TheVariants.{Arrive, Depart}
 use Rattle.journal.specs.declared.event.Kind.{Kind}
 use Rattle.journal.specs.Base.{Base}
-use Rattle.journal.specs.EpisodeBases.{IsBaseOf}
-use Rattle.journal.specs.BaseLaws.{BaseSaysTheSame}
+use Rattle.journal.specs.EpisodeBases.{IsEpisodeBaseOf}
+use Rattle.journal.specs.BaseLaws.{BaseLawSaysTheSame}
 use Rattle.journal.specs.CopyAnswers.{AnswersCopies}
-use Rattle.journal.specs.Counted.{AreCounted}
+use Rattle.journal.specs.FetchesCountGaps.{FetchesCountGaps}
 use Rattle.journal.specs.Events.{events_of}
-use Rattle.journal.specs.RacesFrom.{IsFirstRaceFrom, RaceFreeFrom}
+use Rattle.journal.specs.RacesFromBase.{IsFirstRaceFromBase, RaceFreeFromBase}
 use Rattle.journal.specs.Sizes.{Sizes, addresses}
-use Rattle.journal.specs.Traffic.{messages, messages_of, records, traffic_records_of, words, traffic_words_fetched}
+use Rattle.journal.specs.Traffic.{messages, traffic_messages_of, records, traffic_records_of, words, traffic_words_fetched}
 use Rattle.journal.specs.WellFormed.{WellFormed}
-use Rattle.journal.proofs.FromBase.Whole.{same_law}
+use Rattle.journal.proofs.FromBase.CutLaws.{same_cut_law}
 use Rattle.lrc_script.specs.declared.script.Instruction.{Instruction}
 use Rattle.lrc_script.specs.Lawful.{IsLawful}
 use Rattle.lrc_script.specs.Plan.{Plan}
 use Rattle.conformance.specs.Follows.{Follows, calls_of, call_kinds, load_of, plan_sizes}
-use Rattle.conformance.proofs.Recomputing.Recomputed.{recomputed_law, race_free_law}
+use Rattle.conformance.proofs.Recomputing.Recomputed.{recomputed_law, recomputed_race_free_law}
 use Rattle.cluster.specs.Copies.Local.{Local}
-use Rattle.cluster.specs.Clusters.{SharedCluster}
+use Rattle.cluster.specs.NewClusters.{SharedCluster}
 use Rattle.cluster.specs.Finishing.{AreAllToFinish, HasCallsToFinish, IsFinished, IsFinishingProcessor}
 use Rattle.lrc_report.specs.declared.report.Report.{Report}
 use Rattle.conformance.specs.CutInstructions.{HasNoCutInstruction}
-use Rattle.lrc_run.specs.FollowedReports.{EndsWithBlocks, HasFollowed, HaveFollowed, IsReportAfter, IsReportWith}
-use Rattle.lrc_run.specs.Laws.{RaceFreeReportLaw}
-use Rattle.conformance.specs.WantedFetches.{FetchesAreWanted}
-use Rattle.conformance.specs.Reports.{FetchesAreNeeded, ReportHasRace}
-use Rattle.lrc_run.specs.Turns.{HasSeenAll}
-use Rattle.lrc_run.specs.MakesCalls.{AreWalked, AreCallsWanted, MakesLoads, Walks, calls_made, new_at_call}
-use Rattle.lrc_run.proofs.EndingBlocks.{ends_before_loads, ends_with_blocks}
+use Rattle.lrc_run.specs.FollowedEnds.{FollowedEndHasBlocks, HasFollowedToEnd, HaveFollowedToEnd, IsFollowedEndReportAfter, IsFollowedEndReportWith}
+use Rattle.lrc_run.specs.ReportLaws.{RaceFreeReportLaw}
+use Rattle.conformance.specs.WantedAccess.{FetchesAreWanted}
+use Rattle.conformance.specs.ScriptReports.{FetchesAreNeeded, ScriptReportHasRace}
+use Rattle.lrc_run.specs.RunTurns.{HasSeenAllRunTurns}
+use Rattle.lrc_run.specs.RunCalls.{HaveRunCallsOfWalks, AreRunCallsWanted, HasRunCallsOfLoads, HasRunCallsOfWalk, run_calls, new_at_run_call}
+use Rattle.lrc_run.proofs.EndingBlocks.{ending_blocks_before_loads, ending_blocks_of_finished}
 
 -- one that walked is its cluster's
-pub followed_walked_of : (c : SharedCluster) (p : ℕ) (m : Local) (section : List Instruction) → Walks (new_at_call c p) m section
+pub followed_report_of_walked : (c : SharedCluster) (p : ℕ) (m : Local) (section : List Instruction) → HasRunCallsOfWalk (new_at_run_call c p) m section
     → IsFinishingProcessor c p m
-followed_walked_of c p m section walks = record {
+followed_report_of_walked c p m section walks = record {
   lock = walks.makes.same.lock;
   number = walks.makes.same.number;
   sizes = walks.makes.same.sizes;
 }
 
 -- it made its section and the closing barrier
-pub walk_followed : (c : SharedCluster) (p : ℕ) (m : Local) (section : List Instruction) → Walks (new_at_call c p) m section
-    → HasFollowed section [] m
-walk_followed c p m section walks = record {
+pub followed_report_of_walk : (c : SharedCluster) (p : ℕ) (m : Local) (section : List Instruction) → HasRunCallsOfWalk (new_at_run_call c p) m section
+    → HasFollowedToEnd section [] m
+followed_report_of_walk c p m section walks = record {
   own = walks.kinds;
   are = walks.are;
   made_is = walks.makes.more;
@@ -60,10 +60,10 @@ walk_followed c p m section walks = record {
 }
 
 -- and then these loads
-pub loads_followed : (section : List Instruction) (m n : Local) (shown : List (ℕ × ℕ)) → HasFollowed section [] m
-    → MakesLoads m n shown
-    → HasFollowed section shown n
-loads_followed section m n shown walked loads = record {
+pub followed_report_of_loads : (section : List Instruction) (m n : Local) (shown : List (ℕ × ℕ)) → HasFollowedToEnd section [] m
+    → HasRunCallsOfLoads m n shown
+    → HasFollowedToEnd section shown n
+followed_report_of_loads section m n shown walked loads = record {
   own = walked.own;
   are = walked.are;
   made_is = loads.more ∙ ap (λ ks. ks ++ map load_of shown) walked.made_is
@@ -73,9 +73,9 @@ loads_followed section m n shown walked loads = record {
 }
 
 -- a script's processor has a section
-pub walks_followed_at : (s : Plan) (c : SharedCluster) (ms : List Local) → IsLawful s → c.sizes ≡ plan_sizes s → AreWalked c s.sections ms
-    → (p : ℕ) (m : Local) → slice_get ms p ≡ Some m → (section : List Instruction) × Walks (new_at_call c p) m section
-walks_followed_at s c ms lawful sizes walked p m here =
+pub followed_report_walks_at : (s : Plan) (c : SharedCluster) (ms : List Local) → IsLawful s → c.sizes ≡ plan_sizes s → HaveRunCallsOfWalks c s.sections ms
+    → (p : ℕ) (m : Local) → slice_get ms p ≡ Some m → (section : List Instruction) × HasRunCallsOfWalk (new_at_run_call c p) m section
+followed_report_walks_at s c ms lawful sizes walked p m here =
     let within = slice_get_within ms p m here in
     let one_each = lawful.but_uneven.one_each in
     let same = ap (λ (x : Sizes). x.processors) sizes in
@@ -85,19 +85,19 @@ walks_followed_at s c ms lawful sizes walked p m here =
     (section, walked.each p section m (slice_get-get_or s.sections p [] below) here)
 
 -- a script has a processor 0
-pub first_followed_at : (s : Plan) (c : SharedCluster) (ms : List Local) (m : Local) → IsLawful s → c.sizes ≡ plan_sizes s
-    → AreWalked c s.sections ms → m ≡ get_or ms 0 m → slice_get ms 0 ≡ Some m
-first_followed_at s c ms m lawful sizes walked is =
+pub followed_report_first_at : (s : Plan) (c : SharedCluster) (ms : List Local) (m : Local) → IsLawful s → c.sizes ≡ plan_sizes s
+    → HaveRunCallsOfWalks c s.sections ms → m ≡ get_or ms 0 m → slice_get ms 0 ≡ Some m
+followed_report_first_at s c ms m lawful sizes walked is =
     let some = lawful.but_uneven.sizes.some_processors in
     let same = ap (λ (x : Sizes). x.processors) sizes in
     let many = walked.all in
     slice_get_read ms (length ms) 0 m refl (omega arith) is
 
 -- all have walked, and processor 0 has loaded what is shown
-pub have_followed : {s : Plan} {c : SharedCluster} {ms : List Local} (m n : Local) {shown : List (ℕ × ℕ)} → IsLawful s
-    → c.sizes ≡ plan_sizes s → AreWalked c s.sections ms → slice_get ms 0 ≡ Some m → MakesLoads m n shown
-    → map (λ (x : ℕ × ℕ). x.0) shown ≡ s.shown → HaveFollowed s c (slice_set ms 0 n) shown
-have_followed {s = s} {c = c} {ms = ms} m n {shown = shown} lawful sizes walked at loads shows = record {
+pub followed_report_of_shown : {s : Plan} {c : SharedCluster} {ms : List Local} (m n : Local) {shown : List (ℕ × ℕ)} → IsLawful s
+    → c.sizes ≡ plan_sizes s → HaveRunCallsOfWalks c s.sections ms → slice_get ms 0 ≡ Some m → HasRunCallsOfLoads m n shown
+    → map (λ (x : ℕ × ℕ). x.0) shown ≡ s.shown → HaveFollowedToEnd s c (slice_set ms 0 n) shown
+followed_report_of_shown {s = s} {c = c} {ms = ms} m n {shown = shown} lawful sizes walked at loads shows = record {
   lawful = lawful;
   sizes = sizes;
   all = record { all = length-set ms 0 n ∙ walked.all; each = own };
@@ -108,8 +108,8 @@ have_followed {s = s} {c = c} {ms = ms} m n {shown = shown} lawful sizes walked 
     own : (p : ℕ) (x : Local) → slice_get (slice_set ms 0 n) p ≡ Some x → IsFinishingProcessor c p x
     own p x here = elim (cases_eq p 0) [
       | inl is ↦ (let P : ℕ → Type 0 = λ q. slice_get (slice_set ms 0 n) q ≡ Some x in
-          let w = walks_followed_at s c ms lawful sizes walked 0 m at in
-          let first = followed_walked_of c 0 m w.0 w.1 in
+          let w = followed_report_walks_at s c ms lawful sizes walked 0 m at in
+          let first = followed_report_of_walked c 0 m w.0 w.1 in
           let last : IsFinishingProcessor c 0 n = record {
             lock = loads.same.lock ∙ first.lock;
             number = loads.same.number ∙ first.number;
@@ -117,30 +117,30 @@ have_followed {s = s} {c = c} {ms = ms} m n {shown = shown} lawful sizes walked 
           } in
           let Q : ℕ → Type 0 = λ q. IsFinishingProcessor c q x in
           subst Q (sym is) (subst (IsFinishingProcessor c 0) (slice_get-set_found ms 0 n x (subst P is here)) last))
-      | inr isnt ↦ (let w = walks_followed_at s c ms lawful sizes walked p x
-          (sym (slice_get-set_other ms 0 p n isnt) ∙ here) in followed_walked_of c p x w.0 w.1)
+      | inr isnt ↦ (let w = followed_report_walks_at s c ms lawful sizes walked p x
+          (sym (slice_get-set_other ms 0 p n isnt) ∙ here) in followed_report_of_walked c p x w.0 w.1)
     ]
 
     each : (p : ℕ) (section : List Instruction) (x : Local) → slice_get s.sections p ≡ Some section
-        → slice_get (slice_set ms 0 n) p ≡ Some x → HasFollowed section (cond (p == 0) shown []) x
+        → slice_get (slice_set ms 0 n) p ≡ Some x → HasFollowedToEnd section (cond (p == 0) shown []) x
     each p section x its here = elim (cases_eq p 0) [
       | inl is ↦ (let P : ℕ → Type 0 = λ q. slice_get (slice_set ms 0 n) q ≡ Some x in
           let S : ℕ → Type 0 = λ q. slice_get s.sections q ≡ Some section in
-          let first = walk_followed c 0 m section (walked.each 0 section m (subst S is its) at) in
-          let last = loads_followed section m n shown first loads in
-          let Q : ℕ → Type 0 = λ q. HasFollowed section (cond (q == 0) shown []) x in
-          subst Q (sym is) (subst (HasFollowed section shown) (slice_get-set_found ms 0 n x (subst P is here)) last))
+          let first = followed_report_of_walk c 0 m section (walked.each 0 section m (subst S is its) at) in
+          let last = followed_report_of_loads section m n shown first loads in
+          let Q : ℕ → Type 0 = λ q. HasFollowedToEnd section (cond (q == 0) shown []) x in
+          subst Q (sym is) (subst (HasFollowedToEnd section shown) (slice_get-set_found ms 0 n x (subst P is here)) last))
       | inr isnt ↦ (let there = sym (slice_get-set_other ms 0 p n isnt) ∙ here in
-          let R : List (ℕ × ℕ) → Type 0 = λ loads. HasFollowed section loads x in
+          let R : List (ℕ × ℕ) → Type 0 = λ loads. HasFollowedToEnd section loads x in
           subst R (sym (cond-false (p == 0) shown [] (ne_eqb p 0 isnt)))
-          (walk_followed c p x section (walked.each p section x its there)))
+          (followed_report_of_walk c p x section (walked.each p section x its there)))
     ]
 
 -- a history with these processors' calls follows the script
-pub follows_all : (s : Plan) (c : SharedCluster) (ms : List Local) (shown : List (ℕ × ℕ)) (h : List Event)
-    → HaveFollowed s c ms shown
+pub followed_report_follows : (s : Plan) (c : SharedCluster) (ms : List Local) (shown : List (ℕ × ℕ)) (h : List Event)
+    → HaveFollowedToEnd s c ms shown
     → ((p : ℕ) (m : Local) → slice_get ms p ≡ Some m → HasCallsToFinish h m) → Follows s h
-follows_all s c ms shown h all has p section at = record {
+followed_report_follows s c ms shown h all has p section at = record {
   own = its.own;
   loads = cond (p == 0) shown [];
   kinds_are = ap call_kinds (ap (events_of h) (sym (all.all.each p m here).number) ∙ (has p m here).calls_are) ∙ its.made_is;
@@ -157,12 +157,12 @@ follows_all s c ms shown h all has p section at = record {
         omega arith
 
     m : Local
-    m = get_or ms p (new_at_call c p)
+    m = get_or ms p (new_at_run_call c p)
 
     here : slice_get ms p ≡ Some m
-    here = slice_get-get_or ms p (new_at_call c p) within
+    here = slice_get-get_or ms p (new_at_run_call c p) within
 
-    its : HasFollowed section (cond (p == 0) shown []) m
+    its : HasFollowedToEnd section (cond (p == 0) shown []) m
     its = all.each p section m at here
 
     shows : (b : Bool) → map (λ (x : ℕ × ℕ). x.0) (cond b shown []) ≡ cond b s.shown []
@@ -170,26 +170,26 @@ follows_all s c ms shown h all has p section at = record {
     shows false = refl
 
 -- a history with the calls of processors whose fetches are wanted fetches only what accesses want
-pub followed_needed_all : (s : Plan) (c : SharedCluster) (ms : List Local) (h : List Event) → c.sizes ≡ plan_sizes s → AreAllToFinish c ms
+pub followed_report_needs_only : (s : Plan) (c : SharedCluster) (ms : List Local) (h : List Event) → c.sizes ≡ plan_sizes s → AreAllToFinish c ms
     → ((p : ℕ) (m : Local) → slice_get ms p ≡ Some m → HasCallsToFinish h m)
-    → ((p : ℕ) (m : Local) → slice_get ms p ≡ Some m → AreCallsWanted m) → FetchesAreNeeded s h
-followed_needed_all s c ms h sizes all has wanted p less =
+    → ((p : ℕ) (m : Local) → slice_get ms p ≡ Some m → AreRunCallsWanted m) → FetchesAreNeeded s h
+followed_report_needs_only s c ms h sizes all has wanted p less =
     let many = all.all in
     let same = ap (λ (x : Sizes). x.processors) sizes in
     let within : p < length ms = omega arith in
-    let m = get_or ms p (new_at_call c p) in
-    let here = slice_get-get_or ms p (new_at_call c p) within in
+    let m = get_or ms p (new_at_run_call c p) in
+    let here = slice_get-get_or ms p (new_at_run_call c p) within in
     let its = all.each p m here in
     subst₂ FetchesAreWanted (ap (λ (x : Sizes). x.words) (its.sizes ∙ sizes))
     (sym (has p m here).calls_are ∙ ap (events_of h) its.number) (wanted p m here)
 
 -- and so it is of processors that followed the script
-needed_followed : (s : Plan) (c : SharedCluster) (ms : List Local) (shown : List (ℕ × ℕ)) (h : List Event)
-    → HaveFollowed s c ms shown → ((p : ℕ) (m : Local) → slice_get ms p ≡ Some m → HasCallsToFinish h m)
+followed_report_needed : (s : Plan) (c : SharedCluster) (ms : List Local) (shown : List (ℕ × ℕ)) (h : List Event)
+    → HaveFollowedToEnd s c ms shown → ((p : ℕ) (m : Local) → slice_get ms p ≡ Some m → HasCallsToFinish h m)
     → FetchesAreNeeded s h
-needed_followed s c ms shown h all has = followed_needed_all s c ms h all.sizes all.all has each
+followed_report_needed s c ms shown h all has = followed_report_needs_only s c ms h all.sizes all.all has each
   where
-    each : (p : ℕ) (m : Local) → slice_get ms p ≡ Some m → AreCallsWanted m
+    each : (p : ℕ) (m : Local) → slice_get ms p ≡ Some m → AreRunCallsWanted m
     each p m here =
         let within = slice_get_within ms p m here in
         let one_each = all.lawful.but_uneven.one_each in
@@ -199,56 +199,56 @@ needed_followed s c ms shown h all has = followed_needed_all s c ms h all.sizes 
         (all.each p (get_or s.sections p []) m (slice_get-get_or s.sections p [] below) here).wanted
 
 -- what processor 0 called
-pub first_followed_calls : (s : Plan) (c : SharedCluster) (ms : List Local) (shown : List (ℕ × ℕ)) (h : List Event)
-    → HaveFollowed s c ms shown
+pub followed_report_first_calls : (s : Plan) (c : SharedCluster) (ms : List Local) (shown : List (ℕ × ℕ)) (h : List Event)
+    → HaveFollowedToEnd s c ms shown
     → ((p : ℕ) (m : Local) → slice_get ms p ≡ Some m → HasCallsToFinish h m)
     → (own : List Kind) × (calls_of h 0 ≡ own ++ Arrive ∷ Depart ∷ map load_of shown)
-first_followed_calls s c ms shown h all has =
+followed_report_first_calls s c ms shown h all has =
     let sizes = all.lawful.but_uneven.sizes.some_processors in
     let same = ap (λ (x : Sizes). x.processors) all.sizes in
     let many = all.all.all in
     let one_each = all.lawful.but_uneven.one_each in
     let some : 0 < length ms = omega arith in
     let listed : 0 < length s.sections = omega arith in
-    let m = get_or ms 0 (new_at_call c 0) in
-    let here = slice_get-get_or ms 0 (new_at_call c 0) some in
+    let m = get_or ms 0 (new_at_run_call c 0) in
+    let here = slice_get-get_or ms 0 (new_at_run_call c 0) some in
     let section = get_or s.sections 0 [] in
     let its = all.each 0 section m (slice_get-get_or s.sections 0 [] listed) here in
     (its.own, ap call_kinds (ap (events_of h) (sym (all.all.each 0 m here).number) ∙ (has 0 m here).calls_are) ∙ its.made_is)
 
 -- by the first race of what is left from its base, if there is one, the history has a race
-report_has_race : (s : Sizes) (b : Base) (c j : List Event) (o : Option (ℕ × ℕ)) → BaseSaysTheSame s b c j
-    → MatchOption o (RaceFreeFrom b j) (λ r. IsFirstRaceFrom b j r.0 r.1)
-    → IsTrue (is_some o) ↔ ReportHasRace (c ++ j)
-report_has_race s b c j None same free = ((λ t. absurd (cc)), λ r. absurd (same.race_free.1 free r.0 r.1 r.2))
-report_has_race s b c j (Some x) same first =
+followed_report_has_race : (s : Sizes) (b : Base) (c j : List Event) (o : Option (ℕ × ℕ)) → BaseLawSaysTheSame s b c j
+    → MatchOption o (RaceFreeFromBase b j) (λ r. IsFirstRaceFromBase b j r.0 r.1)
+    → IsTrue (is_some o) ↔ ScriptReportHasRace (c ++ j)
+followed_report_has_race s b c j None same free = ((λ t. absurd (cc)), λ r. absurd (same.race_free.1 free r.0 r.1 r.2))
+followed_report_has_race s b c j (Some x) same first =
     ((λ t. (length c + x.0, length c + x.1, ((same.first_race x.0 x.1).1 first).race)), λ r. refl)
 
 -- what was cut off counts as the base says, and what is left besides
-counts : (f : Event → ℕ) (c j : List Event) (told spent : ℕ) → told ≡ spent + sum_by f j → spent ≡ 0 + sum_by f c
+followed_report_counts : (f : Event → ℕ) (c j : List Event) (told spent : ℕ) → told ≡ spent + sum_by f j → spent ≡ 0 + sum_by f c
     → told ≡ sum_by f (c ++ j)
-counts f c j told spent is before =
+followed_report_counts f c j told spent is before =
     let both = sum_by-append f c j in
     is ∙ ap (λ n. n + sum_by f j) (before ∙ zero-add (sum_by f c)) ∙ sym both
 
 -- a list of no items
-pub followed_nothing_of : (xs : List Event) → length xs ≡ 0 → xs ≡ []
-followed_nothing_of [] none = refl
-followed_nothing_of (x ∷ xs) none = absurd (omega arith)
+pub followed_report_nothing_of : (xs : List Event) → length xs ≡ 0 → xs ≡ []
+followed_report_nothing_of [] none = refl
+followed_report_nothing_of (x ∷ xs) none = absurd (omega arith)
 
 -- processors of which each cut nothing off cut nothing off together
-pub followed_no_sum : (ms : List Local) → ((p : ℕ) (m : Local) → slice_get ms p ≡ Some m → m.own_cut ≡ 0)
+pub followed_report_no_sum : (ms : List Local) → ((p : ℕ) (m : Local) → slice_get ms p ≡ Some m → m.own_cut ≡ 0)
     → sum_by (λ (m : Local). m.own_cut) ms ≡ 0
-followed_no_sum [] each = refl
-followed_no_sum (m ∷ ms) each =
-    let rest = followed_no_sum ms (λ p n at. each (suc p) n at) in
+followed_report_no_sum [] each = refl
+followed_report_no_sum (m ∷ ms) each =
+    let rest = followed_report_no_sum ms (λ p n at. each (suc p) n at) in
     let first = each 0 m refl in
     sum_by-cons (λ (n : Local). n.own_cut) m ms ∙ omega arith
 
 -- and so it is where no section has a cut
-followed_uncut : (s : Plan) (c : SharedCluster) (ms : List Local) (shown : List (ℕ × ℕ)) → HaveFollowed s c ms shown → HasNoCutInstruction s
+followed_report_uncut : (s : Plan) (c : SharedCluster) (ms : List Local) (shown : List (ℕ × ℕ)) → HaveFollowedToEnd s c ms shown → HasNoCutInstruction s
     → sum_by (λ (m : Local). m.own_cut) ms ≡ 0
-followed_uncut s c ms shown all none = followed_no_sum ms each
+followed_report_uncut s c ms shown all none = followed_report_no_sum ms each
   where
     each : (p : ℕ) (m : Local) → slice_get ms p ≡ Some m → m.own_cut ≡ 0
     each p m here =
@@ -262,46 +262,46 @@ followed_uncut s c ms shown all none = followed_no_sum ms each
         (all.each p section m its here).uncut (none p section its)
 
 -- the report of a finished cluster whose processors followed the script
-pub report_is : {s : Plan} {c : SharedCluster} {ms : List Local} {r : Report} (o : Option (ℕ × ℕ))
-    → HaveFollowed s c ms r.shown.items → IsFinished c.sizes ms r.journal
-    → MatchOption o (RaceFreeFrom r.journal.base r.journal.events) (λ x. IsFirstRaceFrom r.journal.base r.journal.events x.0 x.1)
+pub followed_report_is : {s : Plan} {c : SharedCluster} {ms : List Local} {r : Report} (o : Option (ℕ × ℕ))
+    → HaveFollowedToEnd s c ms r.shown.items → IsFinished c.sizes ms r.journal
+    → MatchOption o (RaceFreeFromBase r.journal.base r.journal.events) (λ x. IsFirstRaceFromBase r.journal.base r.journal.events x.0 x.1)
     → r.racy ≡ is_some o → r.traffic.messages ≡ r.journal.base.spent.messages + messages r.journal.events
     → r.traffic.records ≡ r.journal.base.spent.records + records r.journal.events
-    → r.traffic.words ≡ r.journal.base.spent.words + words r.journal.events → IsReportWith s r ms
-report_is {s = s} {c = c} {ms = ms} {r = r} o all finished race racy messages_are records_are words_are = record {
+    → r.traffic.words ≡ r.journal.base.spent.words + words r.journal.events → IsFollowedEndReportWith s r ms
+followed_report_is {s = s} {c = c} {ms = ms} {r = r} o all finished race racy messages_are records_are words_are = record {
   is = record {
     processors = finished.journal.processors ∙ ap (λ (x : Sizes). x.processors) all.sizes;
     addresses_are = finished.journal.addresses_are ∙ ap addresses all.sizes;
     history = h;
     taken = taken;
     holds = finished.journal.holds;
-    uncut = λ none. followed_nothing_of taken (finished.cuts ∙ followed_uncut s c ms r.shown.items all none);
+    uncut = λ none. followed_report_nothing_of taken (finished.cuts ∙ followed_report_uncut s c ms r.shown.items all none);
     tells = record {
       well_formed = well_formed;
       explained = finished.faithful.explained;
       copied = subst (λ (x : Sizes). AnswersCopies x h) all.sizes finished.faithful.copied;
-      counted = subst (λ (x : Sizes). AreCounted x h) all.sizes finished.faithful.counted;
-      fetches = needed_followed s c ms r.shown.items h all finished.each;
+      counted = subst (λ (x : Sizes). FetchesCountGaps x h) all.sizes finished.faithful.counted;
+      fetches = followed_report_needed s c ms r.shown.items h all finished.each;
       follows = follows;
       recomputed = recomputed_law s h well_formed follows;
-      racy = let P : Bool → List Event → Type 0 = λ b h. IsTrue b ↔ ReportHasRace h in
-          subst₂ P (sym racy) (sym whole) (report_has_race c.sizes r.journal.base taken left o same race);
+      racy = let P : Bool → List Event → Type 0 = λ b h. IsTrue b ↔ ScriptReportHasRace h in
+          subst₂ P (sym racy) (sym whole) (followed_report_has_race c.sizes r.journal.base taken left o same race);
       shown_addresses = all.addresses_are;
       replies = record {
         front = first.0 ++ Arrive ∷ Depart ∷ [];
         ends = first.1 ∙ sym (append_assoc first.0 (Arrive ∷ Depart ∷ []) (map load_of r.shown.items));
       };
-      messages_are = counts (λ e. messages_of e.kind) taken left r.traffic.messages r.journal.base.spent.messages
+      messages_are = followed_report_counts (λ e. traffic_messages_of e.kind) taken left r.traffic.messages r.journal.base.spent.messages
           messages_are
           base.after.messages_are ∙ ap messages (sym whole);
-      records_are = counts (λ e. traffic_records_of e.kind) taken left r.traffic.records r.journal.base.spent.records records_are
+      records_are = followed_report_counts (λ e. traffic_records_of e.kind) taken left r.traffic.records r.journal.base.spent.records records_are
           base.after.records_are ∙ ap records (sym whole);
-      words_are = counts (λ e. traffic_words_fetched e.kind) taken left r.traffic.words r.journal.base.spent.words words_are
+      words_are = followed_report_counts (λ e. traffic_words_fetched e.kind) taken left r.traffic.words r.journal.base.spent.words words_are
           base.after.words_are ∙ ap words (sym whole);
     };
   };
   each = finished.each;
-  ends = ends_with_blocks s c ms r.journal all.lawful.but_uneven.sizes.some_processors all.sizes all.all finished;
+  ends = ending_blocks_of_finished s c ms r.journal all.lawful.but_uneven.sizes.some_processors all.sizes all.all finished;
 }
   where
     h : List Event
@@ -316,28 +316,28 @@ report_is {s = s} {c = c} {ms = ms} {r = r} o all finished race racy messages_ar
     whole : h ≡ taken ++ left
     whole = finished.journal.holds.history
 
-    base : IsBaseOf r.journal.processors r.journal.addresses taken r.journal.base
+    base : IsEpisodeBaseOf r.journal.processors r.journal.addresses taken r.journal.base
     base = finished.journal.holds.base
 
     well_formed : WellFormed (plan_sizes s) h
     well_formed = subst (λ (x : Sizes). WellFormed x h) all.sizes finished.faithful.well_formed
 
-    same : BaseSaysTheSame c.sizes r.journal.base taken left
-    same = let B : ℕ → ℕ → Type 0 = λ p a. IsBaseOf p a taken r.journal.base in
-        same_law c.sizes r.journal.base taken left (subst (WellFormed c.sizes) whole finished.faithful.well_formed)
+    same : BaseLawSaysTheSame c.sizes r.journal.base taken left
+    same = let B : ℕ → ℕ → Type 0 = λ p a. IsEpisodeBaseOf p a taken r.journal.base in
+        same_cut_law c.sizes r.journal.base taken left (subst (WellFormed c.sizes) whole finished.faithful.well_formed)
         (subst₂ B finished.journal.processors finished.journal.addresses_are base)
 
     follows : Follows s h
-    follows = follows_all s c ms r.shown.items h all finished.each
+    follows = followed_report_follows s c ms r.shown.items h all finished.each
 
     first : (own : List Kind) × (calls_of h 0 ≡ own ++ Arrive ∷ Depart ∷ map load_of r.shown.items)
-    first = first_followed_calls s c ms r.shown.items h all finished.each
+    first = followed_report_first_calls s c ms r.shown.items h all finished.each
 
 -- of the processors as they were before processor 0 loaded what is shown
-pub report_after : {s : Plan} {c : SharedCluster} {ms : List Local} (m n : Local) {r : Report} → IsLawful s
-    → c.sizes ≡ plan_sizes s → AreWalked c s.sections ms → slice_get ms 0 ≡ Some m → MakesLoads m n r.shown.items
-    → IsReportWith s r (slice_set ms 0 n) → IsReportAfter s r ms
-report_after {s = s} {c = c} {ms = ms} m n {r = r} lawful sizes walked at loads told =
+pub followed_report_after : {s : Plan} {c : SharedCluster} {ms : List Local} (m n : Local) {r : Report} → IsLawful s
+    → c.sizes ≡ plan_sizes s → HaveRunCallsOfWalks c s.sections ms → slice_get ms 0 ≡ Some m → HasRunCallsOfLoads m n r.shown.items
+    → IsFollowedEndReportWith s r (slice_set ms 0 n) → IsFollowedEndReportAfter s r ms
+followed_report_after {s = s} {c = c} {ms = ms} m n {r = r} lawful sizes walked at loads told =
     record { is = told.is; calls_are = calls_are; ends = ends }
   where
     h : List Event
@@ -348,41 +348,41 @@ report_after {s = s} {c = c} {ms = ms} m n {r = r} lawful sizes walked at loads 
 
     number : (p : ℕ) (x : Local) → slice_get ms p ≡ Some x → x.number ≡ p
     number p x here =
-        let w = walks_followed_at s c ms lawful sizes walked p x here in (followed_walked_of c p x w.0 w.1).number
+        let w = followed_report_walks_at s c ms lawful sizes walked p x here in (followed_report_of_walked c p x w.0 w.1).number
 
-    ends : HasSeenAll ms 0 → EndsWithBlocks s ms (map load_of r.shown.items) h
+    ends : HasSeenAllRunTurns ms 0 → FollowedEndHasBlocks s ms (map load_of r.shown.items) h
     ends ahead =
-        let w = walks_followed_at s c ms lawful sizes walked 0 m at in
-        ends_before_loads (walked.all ∙ ap (λ (x : Sizes). x.processors) sizes) number
-        ((followed_walked_of c 0 m w.0 w.1).sizes ∙ sizes) at loads
+        let w = followed_report_walks_at s c ms lawful sizes walked 0 m at in
+        ending_blocks_before_loads (walked.all ∙ ap (λ (x : Sizes). x.processors) sizes) number
+        ((followed_report_of_walked c 0 m w.0 w.1).sizes ∙ sizes) at loads
         (λ k e here. (told.is.tells.well_formed k e here).processor) ahead told.ends
 
-    first_are : calls_of h 0 ≡ calls_made m ++ map load_of r.shown.items
+    first_are : calls_of h 0 ≡ run_calls m ++ map load_of r.shown.items
     first_are =
-        let w = walks_followed_at s c ms lawful sizes walked 0 m at in
-        let number = loads.same.number ∙ (followed_walked_of c 0 m w.0 w.1).number in
+        let w = followed_report_walks_at s c ms lawful sizes walked 0 m at in
+        let number = loads.same.number ∙ (followed_report_of_walked c 0 m w.0 w.1).number in
         ap call_kinds (ap (events_of h) (sym number) ∙ last.calls_are) ∙ loads.more
 
     calls_are : (p : ℕ) (x : Local) → slice_get ms p ≡ Some x
-        → calls_of h p ≡ calls_made x ++ cond (p == 0) (map load_of r.shown.items) []
+        → calls_of h p ≡ run_calls x ++ cond (p == 0) (map load_of r.shown.items) []
     calls_are p x here = elim (cases_eq p 0) [
       | inl is ↦ (let Q : ℕ → Type 0 = λ q. slice_get ms q ≡ Some x in
           let same = same_Some m x (sym at ∙ subst Q is here) in
-          let P : ℕ → Type 0 = λ q. calls_of h q ≡ calls_made x ++ cond (q == 0) (map load_of r.shown.items) [] in
-          let R : Local → Type 0 = λ y. calls_of h 0 ≡ calls_made y ++ map load_of r.shown.items in
+          let P : ℕ → Type 0 = λ q. calls_of h q ≡ run_calls x ++ cond (q == 0) (map load_of r.shown.items) [] in
+          let R : Local → Type 0 = λ y. calls_of h 0 ≡ run_calls y ++ map load_of r.shown.items in
           subst P (sym is) (subst R same first_are))
-      | inr isnt ↦ (let w = walks_followed_at s c ms lawful sizes walked p x here in
-          let number = (followed_walked_of c p x w.0 w.1).number in
+      | inr isnt ↦ (let w = followed_report_walks_at s c ms lawful sizes walked p x here in
+          let number = (followed_report_of_walked c p x w.0 w.1).number in
           let own = told.each p x (slice_get-set_other ms 0 p n isnt ∙ here) in
           let none = cond-false (p == 0) (map load_of r.shown.items) [] (ne_eqb p 0 isnt) in
-          ap call_kinds (ap (events_of h) (sym number) ∙ own.calls_are) ∙ sym (append-nil (calls_made x))
-          ∙ ap (λ ks. calls_made x ++ ks) (sym none))
+          ap call_kinds (ap (events_of h) (sym number) ∙ own.calls_are) ∙ sym (append-nil (run_calls x))
+          ∙ ap (λ ks. run_calls x ++ ks) (sym none))
     ]
 
 -- the report of a script that never races
-pub race_free_report : RaceFreeReportLaw
-race_free_report s r is never =
-    let told = race_free_law s is.history is.tells.well_formed is.tells.explained is.tells.follows never in
+pub race_free_followed_report : RaceFreeReportLaw
+race_free_followed_report s r is never =
+    let told = recomputed_race_free_law s is.history is.tells.well_formed is.tells.explained is.tells.follows never in
     (by_verdict r.racy (λ yes. let race = is.tells.racy.0 yes in told.0 race.0 race.1 race.2), told.1)
   where
     by_verdict : (b : Bool) → ¬ IsTrue b → b ≡ false

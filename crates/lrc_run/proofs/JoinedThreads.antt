@@ -5,25 +5,25 @@ use Rattle.std.proofs.lemmas.Option.{none-some, slice_get_cases, slice_get_withi
 use Rattle.base.proofs.SlicesAndCounts.{slice_push_cases, slice_get-append_left, slice_get-last}
 use Rattle.lrc_script.specs.declared.script.Instruction.{Instruction}
 use Rattle.cluster.specs.Copies.Local.{Local}
-use Rattle.cluster.specs.Clusters.{SharedCluster, IsNewCluster}
+use Rattle.cluster.specs.NewClusters.{SharedCluster, IsNewCluster}
 use Rattle.conformance.specs.declared.cause.Cause.{Cause}
 use Rattle.lrc_run.specs.Threads.{ThreadErrand, AreThreadResults, AreThreadResultsOf, AreThreadsStarted, IsThreadResultOf}
-use Rattle.lrc_run.specs.MakesCalls.{AreWalked, Walks, new_at_call}
+use Rattle.lrc_run.specs.RunCalls.{HaveRunCallsOfWalks, HasRunCallsOfWalk, new_at_run_call}
 
 -- the item behind a front
-pub behind : {A : Type 0} (front rest all : List A) (x : A) → front ++ x ∷ rest ≡ all
+pub joined_threads_behind : {A : Type 0} (front rest all : List A) (x : A) → front ++ x ∷ rest ≡ all
     → slice_get all (length front) ≡ Some x
-behind {A} front rest all x is = subst (λ (ys : List A). slice_get ys (length front) ≡ Some x) is (there front)
+joined_threads_behind {A} front rest all x is = subst (λ (ys : List A). slice_get ys (length front) ≡ Some x) is (there front)
   where
     there : (ys : List A) → slice_get (ys ++ x ∷ rest) (length ys) ≡ Some x
     there [] = refl
     there (y ∷ ys) = there ys
 
 -- one thread more, and what it gave back
-pub joined_outcomes_more : (threads : List (Option ThreadErrand)) (outcomes : List (Result Local Cause)) (thread : Option ThreadErrand)
+pub joined_threads_more : (threads : List (Option ThreadErrand)) (outcomes : List (Result Local Cause)) (thread : Option ThreadErrand)
     (outcome : Result Local Cause) → AreThreadResultsOf threads outcomes → IsThreadResultOf thread outcome
     → AreThreadResultsOf (threads ++ thread ∷ []) (outcomes ++ outcome ∷ [])
-joined_outcomes_more threads outcomes thread outcome were is = record {
+joined_threads_more threads outcomes thread outcome were is = record {
   all = let a = length_push outcomes outcome in let b = length_push threads thread in let c = were.all in omega arith;
   each = λ p t o at there. elim (slice_push_cases threads thread p t at) [
     | inl old ↦ elim (slice_push_cases outcomes outcome p o there) [
@@ -38,12 +38,12 @@ joined_outcomes_more threads outcomes thread outcome were is = record {
 }
 
 -- one processor more, and its thread, if it has one
-pub threads_started_more : (ms : List Local) (sections : List (List Instruction)) (threads : List (Option ThreadErrand)) (m : Local)
+pub joined_threads_started_more : (ms : List Local) (sections : List (List Instruction)) (threads : List (Option ThreadErrand)) (m : Local)
     (section : List Instruction) (thread : Option ThreadErrand) → AreThreadsStarted ms sections threads
     → slice_get sections (length ms) ≡ Some section
     → IfSome thread (λ e. (e.processor ≡ m) × (e.section ≡ section))
     → AreThreadsStarted (ms ++ m ∷ []) sections (threads ++ thread ∷ [])
-threads_started_more ms sections threads m section thread were at is = record {
+joined_threads_started_more ms sections threads m section thread were at is = record {
   all = let a = length_push ms m in let b = length_push threads thread in let c = were.all in omega arith;
   processors = λ p e there. elim (slice_push_cases threads thread p (Some e) there) [
     | inl old ↦ slice_get-append_left ms (m ∷ []) p (slice_get_within ms p e.processor (were.processors p e old.1))
@@ -62,10 +62,10 @@ threads_started_more ms sections threads m section thread were at is = record {
     are e some = subst (λ t. IfSome t (λ x. (x.processor ≡ m) × (x.section ≡ section))) some is
 
 -- what came of the threads is what came of the processors of the cluster
-pub joined_outcomes_of : (c : SharedCluster) (ms : List Local) (sections : List (List Instruction)) (threads : List (Option ThreadErrand))
+pub joined_threads_outcomes : (c : SharedCluster) (ms : List Local) (sections : List (List Instruction)) (threads : List (Option ThreadErrand))
     (outcomes : List (Result Local Cause)) → IsNewCluster c ms → AreThreadsStarted ms sections threads
     → AreThreadResultsOf threads outcomes → AreThreadResults c sections outcomes
-joined_outcomes_of c ms sections threads outcomes new started are = record {
+joined_threads_outcomes c ms sections threads outcomes new started are = record {
   all = are.all ∙ started.all ∙ new.all;
   each = λ p section m at there. elim (slice_get_cases threads p).1 [
     | inl found ↦ walks p section m at there found.0 found.2
@@ -76,30 +76,30 @@ joined_outcomes_of c ms sections threads outcomes new started are = record {
   where
     walks : (p : ℕ) (section : List Instruction) (m : Local) → slice_get sections p ≡ Some section
         → slice_get outcomes p ≡ Some (Ok m) → (thread : Option ThreadErrand) → slice_get threads p ≡ Some thread
-        → Walks (new_at_call c p) m section
+        → HasRunCallsOfWalk (new_at_run_call c p) m section
     walks p section m at there None is = absurd (are.each p None (Ok m) is there)
     walks p section m at there (Some e) is =
-        subst₂ (λ old s. Walks old m s) (new.each p e.processor (started.processors p e is))
+        subst₂ (λ old s. HasRunCallsOfWalk old m s) (new.each p e.processor (started.processors p e is))
         (same_Some e.section section (sym (started.sections_are p e is) ∙ at)) (are.each p (Some e) (Ok m) is there)
 
-abbrev joined_all_ok : List Local → List (Result Local Cause)
-joined_all_ok ms = map Ok ms
+abbrev joined_threads_all_ok : List Local → List (Result Local Cause)
+joined_threads_all_ok ms = map Ok ms
 
 -- where none failed, all have walked
-pub joined_all_walked : (c : SharedCluster) (sections : List (List Instruction)) (outcomes : List (Result Local Cause))
+pub joined_threads_all_walked : (c : SharedCluster) (sections : List (List Instruction)) (outcomes : List (Result Local Cause))
     (ms : List Local)
-    → AreThreadResults c sections outcomes → map Ok ms ≡ outcomes → AreWalked c sections ms
-joined_all_walked c sections outcomes ms are is = record {
+    → AreThreadResults c sections outcomes → map Ok ms ≡ outcomes → HaveRunCallsOfWalks c sections ms
+joined_threads_all_walked c sections outcomes ms are is = record {
   all = sym (oks_length ms) ∙ ap (λ (os : List (Result Local Cause)). length os) is ∙ are.all;
   each = λ p section m at there. are.each p section m at
       (subst (λ (os : List (Result Local Cause)). slice_get os p ≡ Some (Ok m)) is (mapped ms p m there));
 }
   where
-    oks_length : (xs : List Local) → length (joined_all_ok xs) ≡ length xs
+    oks_length : (xs : List Local) → length (joined_threads_all_ok xs) ≡ length xs
     oks_length [] = refl
     oks_length (x ∷ xs) = ap suc (oks_length xs)
 
-    mapped : (xs : List Local) (p : ℕ) (m : Local) → slice_get xs p ≡ Some m → slice_get (joined_all_ok xs) p ≡ Some (Ok m)
+    mapped : (xs : List Local) (p : ℕ) (m : Local) → slice_get xs p ≡ Some m → slice_get (joined_threads_all_ok xs) p ≡ Some (Ok m)
     mapped [] p m at = absurd (none-some m at)
     mapped (x ∷ xs) zero m at = ap (λ (y : Local). Some (Ok y)) (same_Some x m at)
     mapped (x ∷ xs) (suc p) m at = mapped xs p m at

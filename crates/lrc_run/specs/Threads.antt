@@ -2,17 +2,17 @@
 use Rattle.std.specs.Prelude.{ℕ, ◌≡◌, Option, Some, None, List, Result, Ok, Err, length, slice_get}
 use Rattle.lrc_script.specs.declared.script.Instruction.{Instruction}
 use Rattle.cluster.specs.Copies.Local.{Local}
-use Rattle.cluster.specs.Clusters.{SharedCluster}
+use Rattle.cluster.specs.NewClusters.{SharedCluster}
 use Rattle.conformance.specs.declared.cause.Cause.{Cause}
 use Rattle.conformance.specs.declared.cause.Cause.TheVariants.{Thread}
-use Rattle.lrc_run.specs.MakesCalls.{Walks, new_at_call}
+use Rattle.lrc_run.specs.RunCalls.{HasRunCallsOfWalk, new_at_run_call}
 
 -- each has, or went no further
 pub record AreThreadResults (c : SharedCluster) (sections : List (List Instruction)) (outcomes : List (Result Local Cause))
     : Type 0 where
   pub all : length outcomes ≡ c.sizes.processors
   pub each : (p : ℕ) (section : List Instruction) (m : Local) → slice_get sections p ≡ Some section
-      → slice_get outcomes p ≡ Some (Ok m) → Walks (new_at_call c p) m section
+      → slice_get outcomes p ≡ Some (Ok m) → HasRunCallsOfWalk (new_at_run_call c p) m section
 
 -- what a thread is started with
 pub record ThreadErrand : Type 0 where
@@ -29,7 +29,7 @@ pub record AreThreadsStarted (ms : List Local) (sections : List (List Instructio
 
 -- what a thread gives back
 abbrev pub IsThreadResultOf : Option ThreadErrand → Result Local Cause → Type 0
-IsThreadResultOf (Some e) (Ok m) = Walks e.processor m e.section
+IsThreadResultOf (Some e) (Ok m) = HasRunCallsOfWalk e.processor m e.section
 IsThreadResultOf (Some e) (Err cause) = Unit {0}
 IsThreadResultOf None (Ok m) = ⊥
 IsThreadResultOf None (Err cause) = cause ≡ Thread

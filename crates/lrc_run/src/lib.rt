@@ -1,9 +1,9 @@
 //! Runs of scripts on a cluster: each processor on a thread of its own, or all by turns on one.
 //!
-//! **What contracts see.** A script as its plan. A `Report` (of `lrc_report`) is one of the plan (`IsReportOf`) if its
+//! **What contracts see.** A script as its plan. A `Report` (of `lrc_report`) is one of the plan (`IsScriptReport`) if its
 //! journal has the plan's sizes and holds what is left, after some of it was cut off, of a history that is well formed and
 //! explained and follows the plan, and in which each fetch comes right before an access that wants its page; the verdict,
-//! the shown words and the traffic are those of the whole history (`ReportsHistory`).
+//! the shown words and the traffic are those of the whole history (`ScriptReportHasHistory`).
 //!
 //! **What is proved.** Whatever the lock, the order of the threads and the seed: a report that is answered is one of
 //! the plan. Its history's replies can be recomputed on one flat memory, with the same races; if the script never races
@@ -19,24 +19,24 @@
 //! which orders turns are drawn, but for the first.
 #![tactic(auto)]
 
+mod cluster_run;
 mod course;
-mod ending;
-mod faults;
 mod gate;
 pub mod laws;
 mod on_cluster;
 mod orders;
-mod running;
+mod run_ending;
+mod run_faults;
 mod shown;
 mod steps;
 mod walk;
 
+pub use cluster_run::{run, run_with};
 pub use conformance::{Cause, Ended, Halt, RunFault};
 pub use gate::{Gate, Open, Stopped};
 pub use on_cluster::OnCluster;
 pub use orders::order;
-pub use running::{run, run_with};
 pub use steps::{
-    step, step_as_far, step_as_far_with, step_by, step_by_with, step_drawn, step_drawn_with,
-    step_with,
+    step, step_as_far, step_as_far_with, step_drawn, step_drawn_with, step_scheduled,
+    step_scheduled_with, step_with,
 };

@@ -1,16 +1,16 @@
 //! What runs scripts: on a cluster, with the lock that is asked for.
 ghost use Rattle.std.specs.Prelude.{◌<◌, IfOk};
 ghost use Rattle.lrc_script.specs.Prelude.{IsLawful, plan_of};
-ghost use Rattle.conformance.specs.Prelude.{IsEndOf, IsReportOf};
+ghost use Rattle.conformance.specs.Prelude.{IsRunEnd, IsScriptReport};
 
+use crate::cluster_run::{run, run_with};
 use crate::gate::Open;
-use crate::running::{run, run_with};
 use crate::steps::{
-    step, step_as_far, step_as_far_with, step_by, step_by_with, step_drawn, step_drawn_with,
-    step_with,
+    step, step_as_far, step_as_far_with, step_drawn, step_drawn_with, step_scheduled,
+    step_scheduled_with, step_with,
 };
 use cluster::TicketBookLock;
-use conformance::{DrawnRun, Ended, LockChoice, RunFault, Runs, Schedule, ScheduleFault};
+use conformance::{DrawnRun, Ended, LockChoice, RunFault, Schedule, ScheduleFault, ScriptRunner};
 use lrc_report::Report;
 use lrc_script::script::Script;
 use std::alloc::Global;
@@ -21,7 +21,7 @@ use std::thread::Threads;
 #[derive(Clone, Copy)]
 pub struct OnCluster;
 
-impl Runs for OnCluster {
+impl ScriptRunner for OnCluster {
     fn run<R: Threads + Wait + Sync>(
         &self,
         rt: &R,
@@ -75,8 +75,10 @@ impl Runs for OnCluster {
         schedule: &Schedule,
     ) -> Result<Ended, ScheduleFault> {
         match lock {
-            LockChoice::Array => step_by(rt, alloc, script, schedule),
-            LockChoice::Ticket => step_by_with::<TicketBookLock, R>(rt, alloc, script, schedule),
+            LockChoice::Array => step_scheduled(rt, alloc, script, schedule),
+            LockChoice::Ticket => step_scheduled_with::<TicketBookLock, R>(
+                rt, alloc, script, schedule,
+            ),
         }
     }
 

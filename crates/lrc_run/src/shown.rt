@@ -1,7 +1,7 @@
 //! The loads of the addresses that a script shows.
 ghost use Rattle.std.specs.Prelude.{◌≡◌, IfOk, map};
 ghost use Rattle.cluster.specs.Prelude.{IsSameProcessorOfCall};
-ghost use Rattle.lrc_run.specs.Prelude.{MakesLoads};
+ghost use Rattle.lrc_run.specs.Prelude.{HasRunCallsOfLoads};
 
 use crate::walk::load;
 use book::Refused;
@@ -19,7 +19,7 @@ pub(crate) fn show<T: BookTurn, R: Wait>(
     addresses: &[usize],
 ) -> Result<Vec<(usize, u32)>, Refused>
     requires own { processor.old.lock ≡ cluster.now.lock }
-    ensures ok { IfOk result (λ words. MakesLoads processor.old processor.new words.items) }
+    ensures ok { IfOk result (λ words. HasRunCallsOfLoads processor.old processor.new words.items) }
     ensures addresses { IfOk result (λ words. map (λ x. x.0) words.items ≡ addresses.now) }
 {
     let mut words = Vec::with_capacity(alloc, addresses.len())?;

@@ -7,9 +7,9 @@ ghost use Rattle.conformance.specs.Prelude.{plan_sizes};
 ghost use Rattle.cluster.specs.Prelude.{IsNewCluster};
 ghost use Rattle.conformance.specs.declared.cause.Cause.TheVariants as cause;
 ghost use Rattle.conformance.specs.declared.progress.TurnProgress.TheVariants as progress;
-ghost use Rattle.conformance.specs.Prelude.{IsEndByTurns, IsReportByTurns, IsStuckByTurns, order_drawn, order_generator, turn_orders};
-ghost use Rattle.lrc_run.specs.Prelude.{AreOrderedProcessors, AreAtSteps, AreSeenAfterTurns, AreTurned, HaveTakenTurnsRound, IsEndFollowedAfter};
-ghost use Rattle.lrc_run.specs.Prelude.{IsTurnOfRun, SeesDeadlockAtTurns};
+ghost use Rattle.conformance.specs.Prelude.{IsEndByOrderedTurns, IsReportByOrderedTurns, IsStuckByOrderedTurns, round_order_drawn, round_order_generator, ordered_turns_of_seed};
+ghost use Rattle.lrc_run.specs.Prelude.{AreDrawnOrderProcessors, AreAtRunSteps, AreRunTurnsSeenAhead, AreRunTurns, HaveGoneOnInRunTurns, IsFollowedEndAfter};
+ghost use Rattle.lrc_run.specs.Prelude.{IsTurnOfRun, IsRunTurnDeadlockSeen};
 
 mod catching_up;
 mod drawn;
@@ -19,10 +19,10 @@ mod turns;
 
 use self::catching_up::{catch_first_up, catch_up_with_first};
 pub use self::drawn::{step_drawn, step_drawn_with};
-pub use self::scheduled::{step_by, step_by_with};
-use self::turns::take_turn;
-use crate::ending::conclude;
+pub use self::scheduled::{step_scheduled, step_scheduled_with};
+use self::turns::make_run_turn;
 use crate::orders::order;
+use crate::run_ending::conclude_run_ending;
 use book::Refused;
 use cluster::{BookLock, BookTurn, Cluster, Processor, Waited};
 use conformance::{Cause, Ended, Halt, RunFault, TurnProgress};
@@ -45,9 +45,9 @@ pub fn step<R: Wait>(
     seed: Option<u64>,
 ) -> Result<Report, RunFault>
     requires { IsLawful (plan_of script.now) }
-    ensures turns { IfOk result (IsReportByTurns (plan_of script.now) (turn_orders (plan_of script.now) seed)) }
+    ensures turns { IfOk result (IsReportByOrderedTurns (plan_of script.now) (ordered_turns_of_seed (plan_of script.now) seed)) }
     ensures stuck { IfErr result (λ fault. fault.cause ≡ cause.Stuck
-        → IsStuckByTurns (plan_of script.now) (turn_orders (plan_of script.now) seed) fault.processor) }
+        → IsStuckByOrderedTurns (plan_of script.now) (ordered_turns_of_seed (plan_of script.now) seed) fault.processor) }
 {
     step_with::<BookLock, R>(rt, alloc, script, seed)
 }
@@ -61,9 +61,9 @@ pub fn step_with<T: BookTurn + Drop, R: Wait>(
 ) -> Result<Report, RunFault>
     requires entries { T.ENTRIES ≤ 2 ^ 40 }
     requires lawful { IsLawful (plan_of script.now) }
-    ensures turns { IfOk result (IsReportByTurns (plan_of script.now) (turn_orders (plan_of script.now) seed)) }
+    ensures turns { IfOk result (IsReportByOrderedTurns (plan_of script.now) (ordered_turns_of_seed (plan_of script.now) seed)) }
     ensures stuck { IfErr result (λ fault. fault.cause ≡ cause.Stuck
-        → IsStuckByTurns (plan_of script.now) (turn_orders (plan_of script.now) seed) fault.processor) }
+        → IsStuckByOrderedTurns (plan_of script.now) (ordered_turns_of_seed (plan_of script.now) seed) fault.processor) }
 {
     match step_as_far_with::<T, R>(rt, alloc, script, seed)? {
         Ended::Whole(report) => Ok(report),
@@ -82,7 +82,7 @@ pub fn step_as_far<R: Wait>(
     seed: Option<u64>,
 ) -> Result<Ended, RunFault>
     requires { IsLawful (plan_of script.now) }
-    ensures end { IfOk result (IsEndByTurns (plan_of script.now) (turn_orders (plan_of script.now) seed)) }
+    ensures end { IfOk result (IsEndByOrderedTurns (plan_of script.now) (ordered_turns_of_seed (plan_of script.now) seed)) }
     ensures err { IfErr result (λ fault. fault.cause ≢ cause.Stuck) }
 {
     step_as_far_with::<BookLock, R>(rt, alloc, script, seed)
@@ -97,17 +97,17 @@ pub fn step_as_far_with<T: BookTurn + Drop, R: Wait>(
 ) -> Result<Ended, RunFault>
     requires entries { T.ENTRIES ≤ 2 ^ 40 }
     requires lawful { IsLawful (plan_of script.now) }
-    ensures end { IfOk result (IsEndByTurns (plan_of script.now) (turn_orders (plan_of script.now) seed)) }
+    ensures end { IfOk result (IsEndByOrderedTurns (plan_of script.now) (ordered_turns_of_seed (plan_of script.now) seed)) }
     ensures err { IfErr result (λ fault. fault.cause ≢ cause.Stuck) }
 {
-    let (cluster, mut processors) = new_cluster::<T>(alloc, script)?;
+    let (cluster, mut processors) = run_steps_cluster::<T>(alloc, script)?;
     let mut all = beginnings(alloc, processors.len())?;
     let passed = go_round(rt, alloc, &cluster, &mut processors, &mut all, script, seed)?;
-    end_run(rt, alloc, cluster, processors, &all, script, passed)
+    run_steps_result(rt, alloc, cluster, processors, &all, script, passed)
 }
 
 /// How the run ended: the report if all have passed the closing barrier, else the journal so far.
-fn end_run<T: BookTurn + Drop, R: Wait>(
+fn run_steps_result<T: BookTurn + Drop, R: Wait>(
     rt: &R,
     alloc: Global,
     cluster: Cluster<T>,
@@ -118,14 +118,14 @@ fn end_run<T: BookTurn + Drop, R: Wait>(
 ) -> Result<Ended, RunFault>
     requires lawful { IsLawful (plan_of script.now) }
     requires sizes { cluster.sizes ≡ plan_sizes (plan_of script.now) }
-    requires way { AreAtSteps cluster (plan_of script.now).sections processors.items all.now }
+    requires way { AreAtRunSteps cluster (plan_of script.now).sections processors.items all.now }
     requires whole { passed ≡ true → All (λ x. x ≡ progress.Passed) all.now }
-    requires stuck { passed ≡ false → SeesDeadlockAtTurns processors.items }
-    ensures end { IfOk result (IsEndFollowedAfter (plan_of script.now) processors.items all.now) }
+    requires stuck { passed ≡ false → IsRunTurnDeadlockSeen processors.items }
+    ensures end { IfOk result (IsFollowedEndAfter (plan_of script.now) processors.items all.now) }
     ensures err { IfErr result (λ fault. fault.cause ≢ cause.Stuck) }
 {
     if passed {
-        return match conclude(rt, alloc, cluster, processors, script) {
+        return match conclude_run_ending(rt, alloc, cluster, processors, script) {
             Ok(report) => Ok(Ended::Whole(report)),
             Err(refused) => Err(outside(refused)),
         };
@@ -149,7 +149,7 @@ fn outside(refused: Refused) -> RunFault
 }
 
 /// The script's cluster.
-fn new_cluster<T: BookTurn>(
+fn run_steps_cluster<T: BookTurn>(
     alloc: Global,
     script: &Script,
 ) -> Result<(Cluster<T>, Vec<Processor<T>>), RunFault>
@@ -183,12 +183,12 @@ fn go_round<T: BookTurn, R: Wait>(
 ) -> Result<bool, RunFault>
     requires lawful { IsLawful (plan_of script.now) }
     requires sizes { cluster.now.sizes ≡ plan_sizes (plan_of script.now) }
-    requires way { AreAtSteps cluster.now (plan_of script.now).sections processors.old.items
+    requires way { AreAtRunSteps cluster.now (plan_of script.now).sections processors.old.items
         all.old.items }
-    ensures gone { IfOk result (λ _. HaveTakenTurnsRound cluster.now (plan_of script.now) seed processors.old.items
+    ensures gone { IfOk result (λ _. HaveGoneOnInRunTurns cluster.now (plan_of script.now) seed processors.old.items
         processors.new.items all.old.items all.new.items) }
     ensures whole { IfOk result (λ passed. passed ≡ true → All (λ x. x ≡ progress.Passed) all.new.items) }
-    ensures stuck { IfOk result (λ passed. passed ≡ false → SeesDeadlockAtTurns processors.new.items) }
+    ensures stuck { IfOk result (λ passed. passed ≡ false → IsRunTurnDeadlockSeen processors.new.items) }
     ensures err { IfErr result (λ fault. fault.cause ≢ cause.Stuck) }
 {
     let mut list = match new_list(alloc, processors.len()) {
@@ -229,7 +229,7 @@ fn new_list(alloc: Global, count: usize) -> Result<Vec<usize>, AllocError>
 
 /// The generator of this seed.
 fn generator_of(seed: Option<u64>) -> Option<Pcg32>
-    ensures { result ≡ order_generator seed }
+    ensures { result ≡ round_order_generator seed }
 {
     match seed {
         Some(seed) => Some(Pcg32::seed_from_u64(seed)),
@@ -253,8 +253,8 @@ fn is_stuck<T: BookTurn, R: Wait>(
 ) -> Result<bool, RunFault>
     requires some { 0 < vec_len processors.old }
     requires own { (m : Local) → slice_get processors.old.items 0 ≡ Some m → m.lock ≡ cluster.now.lock }
-    ensures seen { AreSeenAfterTurns processors.old.items processors.new.items }
-    ensures stuck { IfOk result (λ stuck. stuck ≡ true → SeesDeadlockAtTurns processors.new.items) }
+    ensures seen { AreRunTurnsSeenAhead processors.old.items processors.new.items }
+    ensures stuck { IfOk result (λ stuck. stuck ≡ true → IsRunTurnDeadlockSeen processors.new.items) }
     ensures err { IfErr result (λ fault. fault.cause ≢ cause.Stuck) }
 {
     if moved {
@@ -269,9 +269,9 @@ fn is_stuck<T: BookTurn, R: Wait>(
 
 /// The order of the next round: rising numbers, exchanged as the generator draws.
 fn draw(generator: &mut Option<Pcg32>, list: &mut [usize])
-    ensures list { list.new ≡ (order_drawn generator.old (length list.old)).0 }
-    ensures state { generator.new ≡ (order_drawn generator.old (length list.old)).1 }
-    ensures below { AreOrderedProcessors (length list.old) list.new × (length list.new ≡ length list.old) }
+    ensures list { list.new ≡ (round_order_drawn generator.old (length list.old)).0 }
+    ensures state { generator.new ≡ (round_order_drawn generator.old (length list.old)).1 }
+    ensures below { AreDrawnOrderProcessors (length list.old) list.new × (length list.new ≡ length list.old) }
 {
     rise(list);
     if let Some(generator) = generator {
@@ -299,16 +299,16 @@ fn round<T: BookTurn, R: Wait>(
 ) -> Result<bool, RunFault>
     requires lawful { IsLawful (plan_of script.now) }
     requires sizes { cluster.now.sizes ≡ plan_sizes (plan_of script.now) }
-    requires list { AreOrderedProcessors (vec_len processors.old) list.now }
-    requires way { AreAtSteps cluster.now (plan_of script.now).sections processors.old.items
+    requires list { AreDrawnOrderProcessors (vec_len processors.old) list.now }
+    requires way { AreAtRunSteps cluster.now (plan_of script.now).sections processors.old.items
         all.old.items }
-    ensures turns { IfOk result (λ _. AreTurned (plan_of script.now).sections list.now
+    ensures turns { IfOk result (λ _. AreRunTurns (plan_of script.now).sections list.now
         processors.old.items processors.new.items all.old.items all.new.items) }
     ensures err { IfErr result (λ fault. fault.cause ≢ cause.Stuck) }
 {
     let mut moved = false;
     for p in list {
-        if turn_at(rt, cluster, processors, all, script, *p)? {
+        if run_step_at(rt, cluster, processors, all, script, *p)? {
             moved = true;
         }
     }
@@ -317,7 +317,7 @@ fn round<T: BookTurn, R: Wait>(
 
 /// The turn of processor `p`: whether it got on. It sees all that others have done before its turn, and processor 0 then
 /// sees what it has done.
-fn turn_at<T: BookTurn, R: Wait>(
+fn run_step_at<T: BookTurn, R: Wait>(
     rt: &R,
     cluster: &Cluster<T>,
     processors: &mut Vec<Processor<T>>,
@@ -328,18 +328,18 @@ fn turn_at<T: BookTurn, R: Wait>(
     requires lawful { IsLawful (plan_of script.now) }
     requires sizes { cluster.now.sizes ≡ plan_sizes (plan_of script.now) }
     requires within { p < vec_len processors.old }
-    requires way { AreAtSteps cluster.now (plan_of script.now).sections processors.old.items
+    requires way { AreAtRunSteps cluster.now (plan_of script.now).sections processors.old.items
         all.old.items }
     ensures long { vec_len processors.new ≡ vec_len processors.old }
     ensures turn { IfOk result (λ _. IsTurnOfRun (plan_of script.now).sections p
         processors.old.items processors.new.items all.old.items all.new.items) }
-    ensures vain { IfOk result (λ moved. moved ≡ false → AreSeenAfterTurns processors.old.items processors.new.items
+    ensures vain { IfOk result (λ moved. moved ≡ false → AreRunTurnsSeenAhead processors.old.items processors.new.items
         × (all.new.items ≡ all.old.items)) }
     ensures err { IfErr result (λ fault. fault.cause ≢ cause.Stuck) }
 {
     let section = &script.sections[p];
     catch_up_with_first(cluster, processors, p);
-    match take_turn(rt, cluster, &mut processors[p], section, all[p]) {
+    match make_run_turn(rt, cluster, &mut processors[p], section, all[p]) {
         Ok(outcome) => {
             let (progress, moved) = outcome;
             catch_first_up(cluster, processors, p);

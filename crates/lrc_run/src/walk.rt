@@ -1,13 +1,13 @@
 //! A processor's way through its section.
 ghost use Rattle.std.specs.Prelude.{◌≡◌, IfOk, OnOk};
 ghost use Rattle.cluster.specs.Prelude.{IsSameProcessorOfCall};
-ghost use Rattle.lrc_run.specs.Prelude.{DidInstruction, TriedTake, Walks};
+ghost use Rattle.lrc_run.specs.Prelude.{HasRunCallsOfInstruction, IsRunCallOfTake, HasRunCallsOfWalk};
 
-mod accesses;
-mod instructions;
+mod walk_access;
+mod walk_instruction;
 
-pub(crate) use self::accesses::load;
-pub(crate) use self::instructions::{begin, end};
+pub(crate) use self::walk_access::load;
+pub(crate) use self::walk_instruction::{begin_walk_instruction, end};
 use crate::course::Course;
 use crate::gate::Gate;
 use cluster::{BookTurn, Cluster, Processor, Waited};
@@ -30,7 +30,7 @@ pub(crate) fn walk<T: BookTurn, R: Wait, G: Gate>(
 ) -> Result<(), Cause>
     requires own { processor.old.lock ≡ cluster.now.lock }
     ensures same { IsSameProcessorOfCall processor.old processor.new }
-    ensures ok { OnOk result (Walks processor.old processor.new section.now) }
+    ensures ok { OnOk result (HasRunCallsOfWalk processor.old processor.new section.now) }
 {
     for (index, instruction) in section.iter().enumerate() {
         course.gate.pass(processor.number(), index + 1)?;
@@ -50,9 +50,9 @@ fn perform<T: BookTurn, R: Wait>(
 ) -> Result<(), Cause>
     requires own { processor.old.lock ≡ cluster.now.lock }
     ensures same { IsSameProcessorOfCall processor.old processor.new }
-    ensures ok { OnOk result (DidInstruction processor.old processor.new instruction) }
+    ensures ok { OnOk result (HasRunCallsOfInstruction processor.old processor.new instruction) }
 {
-    if begin(rt, cluster, processor, instruction)? {
+    if begin_walk_instruction(rt, cluster, processor, instruction)? {
         return Ok(());
     }
     if end(rt, cluster, processor)? {
@@ -75,7 +75,7 @@ fn look_again<T: BookTurn, R: Wait>(
 ) -> Result<bool, Cause>
     requires own { processor.old.lock ≡ cluster.now.lock }
     ensures same { IsSameProcessorOfCall processor.old processor.new }
-    ensures ok { IfOk result (λ taken. TriedTake processor.old processor.new taken) }
+    ensures ok { IfOk result (λ taken. IsRunCallOfTake processor.old processor.new taken) }
 {
     match cluster.wait(rt, processor)? {
         Waited::MayHaveCome => Ok(end(rt, cluster, processor)?),

@@ -1,8 +1,8 @@
-pub mod Lines
-pub mod OrderingTally
-pub mod Replies
-pub mod Same
-pub mod Samples
-pub mod Swaps
 pub mod TallyLines
+pub mod SortedTally
+pub mod OwnReplies
+pub mod SameSampleAnswers
+pub mod TalliedRuns
+pub mod SwappedItems
+pub mod TallyNoted
 pub mod TellingLaws

@@ -1,9 +1,9 @@
-pub mod Answered
+pub mod SampleAnswers
 pub mod Laws
-pub mod Order
-pub mod Outcomes
+pub mod TallyOrder
+pub mod SampleOutcomes
 pub mod Prelude
-pub mod Replies
-pub mod Samples
+pub mod SampleReplies
+pub mod SampleRuns
 pub mod Tally
-pub mod Texts
+pub mod SampleText

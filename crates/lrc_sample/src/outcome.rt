@@ -1,6 +1,6 @@
 //! What a run came to.
 ghost use Rattle.std.specs.Prelude.{ℕ, ◌≡◌, ◌↔◌, ◌++◌, IsTrue, IfOk, OnOk};
-ghost use Rattle.lrc_sample.specs.Prelude.{answered_outcome, own_replies, replies_in_event, replies_by, replies_of};
+ghost use Rattle.lrc_sample.specs.Prelude.{sample_outcome_answers, sample_replies_but_shown, sample_replies_in_event, sample_replies_by, sample_replies_of};
 
 use journal::{Event, Kind};
 use lrc_report::Report;
@@ -16,16 +16,16 @@ pub struct Reply {
 
 /// What a run that ended has answered. Contracts see its words, its replies and its verdict.
 #[derive(Drop)]
-pub struct Answers {
+pub struct SampleOutcomeAnswers {
     words: Vec<(usize, u32)>,
     replies: Vec<Reply>,
     racy: bool,
 }
 
-impl Model for Answers {
-    ghost use Rattle.lrc_sample.specs.Answered.{Answered};
+impl Model for SampleOutcomeAnswers {
+    ghost use Rattle.lrc_sample.specs.SampleAnswers.{SampleAnswers};
 
-    ghost Value = { Answered };
+    ghost Value = { SampleAnswers };
 
     ghost view = { λ a. record { words = a.words.items; replies = a.replies.items; racy = a.racy } };
 }
@@ -34,14 +34,18 @@ impl Model for Answers {
 #[derive(Drop)]
 pub enum SampleOutcome {
     /// It ended, with these answers.
-    Ended(Answers),
+    Ended(SampleOutcomeAnswers),
     /// It is stuck: what this processor waits for doesn't come.
     Stuck(usize),
 }
 
 /// Adds what the event answered, if it is a load of this processor.
-fn add_reply(replies: &mut Vec<Reply>, processor: usize, event: Event) -> Result<(), AllocError>
-    ensures { OnOk result (replies.new.items ≡ replies.old.items ++ replies_in_event processor event) }
+fn add_sample_outcome_reply(
+    replies: &mut Vec<Reply>,
+    processor: usize,
+    event: Event,
+) -> Result<(), AllocError>
+    ensures { OnOk result (replies.new.items ≡ replies.old.items ++ sample_replies_in_event processor event) }
 {
     match event.kind {
         Kind::Load(_, word) if event.processor == processor => {
@@ -53,31 +57,31 @@ fn add_reply(replies: &mut Vec<Reply>, processor: usize, event: Event) -> Result
 }
 
 /// Adds the replies of the processor's loads, in order.
-fn add_replies(
+fn add_sample_outcome_replies(
     replies: &mut Vec<Reply>,
     processor: usize,
     events: &[Event],
 ) -> Result<(), AllocError>
-    ensures { OnOk result (replies.new.items ≡ replies.old.items ++ replies_by processor events.now) }
+    ensures { OnOk result (replies.new.items ≡ replies.old.items ++ sample_replies_by processor events.now) }
 {
     for event in events {
-        add_reply(replies, processor, *event)?;
+        add_sample_outcome_reply(replies, processor, *event)?;
     }
     Ok(())
 }
 
 /// Adds the replies of the processor's own loads: of processor 0's without the last `shown`, which the closing barrier
 /// comes before.
-fn add_own(
+fn add_own_sample_outcome_replies(
     replies: &mut Vec<Reply>,
     processor: usize,
     shown: usize,
     events: &[Event],
 ) -> Result<(), AllocError>
-    ensures { OnOk result (replies.new.items ≡ replies.old.items ++ own_replies shown processor events.now) }
+    ensures { OnOk result (replies.new.items ≡ replies.old.items ++ sample_replies_but_shown shown processor events.now) }
 {
     let before = replies.len();
-    add_replies(replies, processor, events)?;
+    add_sample_outcome_replies(replies, processor, events)?;
     if processor == 0 {
         let loads = replies.len() - before;
         replies.truncate(before + loads.saturating_sub(shown));
@@ -87,43 +91,47 @@ fn add_own(
 
 /// The replies of all loads that the script asks for, by rising processor. It takes time in the order of the events times
 /// the processors.
-fn replies_to(
+fn sample_outcome_replies(
     alloc: Global,
     processors: usize,
     shown: usize,
     events: &[Event],
 ) -> Result<Vec<Reply>, AllocError>
-    ensures { IfOk result (λ v. v.items ≡ replies_of shown processors events.now) }
+    ensures { IfOk result (λ v. v.items ≡ sample_replies_of shown processors events.now) }
 {
     let mut replies = Vec::new(alloc);
     for processor in 0..processors {
-        add_own(&mut replies, processor, shown, events)?;
+        add_own_sample_outcome_replies(&mut replies, processor, shown, events)?;
     }
     Ok(replies)
 }
 
 /// Whether they are the same words at the same addresses.
-fn are_same_words(words: &[(usize, u32)], others: &[(usize, u32)]) -> bool
+fn are_same_sample_outcome_words(words: &[(usize, u32)], others: &[(usize, u32)]) -> bool
     ensures { IsTrue result ↔ (words.now ≡ others.now) }
 {
     words == others
 }
 
 /// Whether they are the same replies.
-fn are_same_replies(replies: &[Reply], others: &[Reply]) -> bool
+fn are_same_sample_outcome_replies(replies: &[Reply], others: &[Reply]) -> bool
     ensures { IsTrue result ↔ (replies.now ≡ others.now) }
 {
     replies == others
 }
 
-impl Answers {
+impl SampleOutcomeAnswers {
     /// The answers of a report of so many processors. The only error is running out of memory.
-    pub fn of(alloc: Global, processors: usize, report: Report) -> Result<Answers, AllocError>
-        ensures { IfOk result (λ a. a ≡ answered_outcome processors report) }
+    pub fn of(
+        alloc: Global,
+        processors: usize,
+        report: Report,
+    ) -> Result<SampleOutcomeAnswers, AllocError>
+        ensures { IfOk result (λ a. a ≡ sample_outcome_answers processors report) }
     {
         let shown = report.shown.len();
-        let replies = replies_to(alloc, processors, shown, report.journal.events())?;
-        Ok(Answers {
+        let replies = sample_outcome_replies(alloc, processors, shown, report.journal.events())?;
+        Ok(SampleOutcomeAnswers {
             words: report.shown,
             replies,
             racy: report.racy,
@@ -152,13 +160,13 @@ impl Answers {
     }
 
     /// Whether they are the same answers.
-    fn is_same(&self, other: &Answers) -> bool
+    fn is_same(&self, other: &SampleOutcomeAnswers) -> bool
         ensures { IsTrue result ↔ (self.now ≡ other.now) }
     {
-        if self.racy != other.racy || !are_same_words(&self.words, &other.words) {
+        if self.racy != other.racy || !are_same_sample_outcome_words(&self.words, &other.words) {
             return false;
         }
-        are_same_replies(&self.replies, &other.replies)
+        are_same_sample_outcome_replies(&self.replies, &other.replies)
     }
 }
 

@@ -1,11 +1,13 @@
 //! A script by many schedules.
 ghost use Rattle.std.specs.Prelude.{◌≡◌, ◌≤◌, ◌+◌, ◌^◌, IfOk, OnOk};
 ghost use Rattle.lrc_script.specs.Prelude.{IsLawful, plan_of};
-ghost use Rattle.lrc_sample.specs.Prelude.{CameBySeed, IsSampleMade, IsSampleOf, IsSampleRun, outcome_of_end, tally_run_of};
+ghost use Rattle.lrc_sample.specs.Prelude.{CameBySampleRunSeed, AreSampleRunsInMaking, IsSampleOfRuns, IsSampleRun, sample_outcome_of_end, tally_place_of_seed};
 
-use crate::outcome::{Answers, SampleOutcome};
-use crate::tally::{TallyLine, note, sort_tally};
-use conformance::{Cause, DrawnRun, Ended, LockChoice, RunFault, Runs, Schedule, ScheduleFault};
+use crate::outcome::{SampleOutcome, SampleOutcomeAnswers};
+use crate::tally::{TallyLine, note_in_sample_tally, sort_sample_tally};
+use conformance::{
+    Cause, DrawnRun, Ended, LockChoice, RunFault, Schedule, ScheduleFault, ScriptRunner,
+};
 use lrc_script::script::Script;
 use std::alloc::{AllocError, Global};
 use std::sync::Wait;
@@ -27,10 +29,10 @@ fn no_memory(error: AllocError) -> RunFault {
 
 /// What a run came to: a run that can't go on is stuck.
 fn sampled_outcome(alloc: Global, script: &Script, ended: Ended) -> Result<SampleOutcome, RunFault>
-    ensures { IfOk result (λ outcome. outcome ≡ outcome_of_end script.now.processors ended) }
+    ensures { IfOk result (λ outcome. outcome ≡ sample_outcome_of_end script.now.processors ended) }
 {
     match ended {
-        Ended::Whole(report) => match Answers::of(alloc, script.processors, report) {
+        Ended::Whole(report) => match SampleOutcomeAnswers::of(alloc, script.processors, report) {
             Ok(answers) => Ok(SampleOutcome::Ended(answers)),
             Err(error) => Err(no_memory(error)),
         },
@@ -39,7 +41,7 @@ fn sampled_outcome(alloc: Global, script: &Script, ended: Ended) -> Result<Sampl
 }
 
 /// Runs the script by the turns that the seed draws, or without one in rounds by rising number.
-fn sampled_run<T: Runs, R: Wait>(
+fn sampled_run<T: ScriptRunner, R: Wait>(
     runs: &T,
     rt: &R,
     alloc: Global,
@@ -48,7 +50,7 @@ fn sampled_run<T: Runs, R: Wait>(
     seed: Option<u64>,
 ) -> Result<DrawnRun, RunFault>
     requires { IsLawful (plan_of script.now) }
-    ensures { IfOk result (IsSampleRun (CameBySeed T.followed T.drawn lock) (plan_of script.now) seed) }
+    ensures { IfOk result (IsSampleRun (CameBySampleRunSeed T.followed T.drawn lock) (plan_of script.now) seed) }
 {
     let Some(seed) = seed else {
         let schedule = Schedule {
@@ -64,7 +66,7 @@ fn sampled_run<T: Runs, R: Wait>(
 }
 
 /// Runs the script once more, by this seed's turns or without one, and notes what it came to.
-fn run_once<T: Runs, R: Wait>(
+fn sample_once<T: ScriptRunner, R: Wait>(
     runs: &T,
     rt: &R,
     alloc: Global,
@@ -74,14 +76,14 @@ fn run_once<T: Runs, R: Wait>(
     lines: &mut Vec<TallyLine>,
 ) -> Result<(), RunFault>
     requires lawful { IsLawful (plan_of script.now) }
-    requires few { tally_run_of seed ≤ 2 ^ 32 }
-    requires made { IsSampleMade (CameBySeed T.followed T.drawn lock) (plan_of script.now) (tally_run_of seed) lines.old.items }
-    ensures { OnOk result (IsSampleMade (CameBySeed T.followed T.drawn lock) (plan_of script.now) (tally_run_of seed + 1)
+    requires few { tally_place_of_seed seed ≤ 2 ^ 32 }
+    requires made { AreSampleRunsInMaking (CameBySampleRunSeed T.followed T.drawn lock) (plan_of script.now) (tally_place_of_seed seed) lines.old.items }
+    ensures { OnOk result (AreSampleRunsInMaking (CameBySampleRunSeed T.followed T.drawn lock) (plan_of script.now) (tally_place_of_seed seed + 1)
         lines.new.items) }
 {
     let DrawnRun { schedule, ended } = sampled_run(runs, rt, alloc, script, lock, seed)?;
     let outcome = sampled_outcome(alloc, script, ended)?;
-    match note(lines, outcome, seed, schedule) {
+    match note_in_sample_tally(lines, outcome, seed, schedule) {
         Ok(()) => Ok(()),
         Err(error) => Err(no_memory(error)),
     }
@@ -92,7 +94,7 @@ fn run_once<T: Runs, R: Wait>(
 /// fault ends it, also running out of memory.
 ///
 /// It takes the time of the runs, and for each run a comparison with each outcome that came before: kinds are few.
-pub fn sample<T: Runs, R: Wait>(
+pub fn sample<T: ScriptRunner, R: Wait>(
     runs: &T,
     rt: &R,
     alloc: Global,
@@ -101,12 +103,12 @@ pub fn sample<T: Runs, R: Wait>(
     seeds: u32,
 ) -> Result<Sampled, RunFault>
     requires { IsLawful (plan_of script.now) }
-    ensures { IfOk result (IsSampleOf (CameBySeed T.followed T.drawn lock) (plan_of script.now) (seeds + 1)) }
+    ensures { IfOk result (IsSampleOfRuns (CameBySampleRunSeed T.followed T.drawn lock) (plan_of script.now) (seeds + 1)) }
 {
     let mut lines = Vec::new(alloc);
-    run_once(runs, rt, alloc, script, lock, None, &mut lines)?;
+    sample_once(runs, rt, alloc, script, lock, None, &mut lines)?;
     for seed in 0..seeds {
-        run_once(
+        sample_once(
             runs,
             rt,
             alloc,
@@ -116,7 +118,7 @@ pub fn sample<T: Runs, R: Wait>(
             &mut lines,
         )?;
     }
-    match sort_tally(&mut lines) {
+    match sort_sample_tally(&mut lines) {
         Ok(()) => Ok(Sampled { lines }),
         Err(error) => Err(no_memory(error)),
     }

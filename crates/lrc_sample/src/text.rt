@@ -4,10 +4,10 @@ ghost use Rattle.std.specs.Fmt.{decimal};
 ghost use Rattle.std.specs.Io.KnownBytes.{Appends};
 ghost use Rattle.std.specs.List.{flat_map};
 ghost use Rattle.lrc_sample.specs.declared.text.TextFault.TheVariants.{NoMemory, Output};
-ghost use Rattle.lrc_sample.specs.Prelude.{all_replies_text, answers_text, tally_line_text, outcome_text, owner_text, replies_text, runs_in_text};
-ghost use Rattle.lrc_sample.specs.Prelude.{sample_text, word_text};
+ghost use Rattle.lrc_sample.specs.Prelude.{sample_text_of_all_replies, sample_text_of_answers, sample_text_of_line, sample_text_of_outcome, sample_text_of_owner, sample_text_of_replies, sample_text_runs};
+ghost use Rattle.lrc_sample.specs.Prelude.{sample_text, sample_text_of_word};
 
-use crate::outcome::{Answers, Reply, SampleOutcome};
+use crate::outcome::{Reply, SampleOutcome, SampleOutcomeAnswers};
 use crate::sampling::Sampled;
 use crate::tally::TallyLine;
 use std::alloc::{AllocError, Global};
@@ -26,29 +26,29 @@ pub enum TextFault {
 }
 
 /// Adds a shown address with its last word.
-fn put_word_text(text: &mut String, address: usize, word: u32) -> Result<(), AllocError>
-    ensures { OnOk result (string_bytes text.new ≡ string_bytes text.old ++ word_text (address, word)) }
+fn put_sample_word_text(text: &mut String, address: usize, word: u32) -> Result<(), AllocError>
+    ensures { OnOk result (string_bytes text.new ≡ string_bytes text.old ++ sample_text_of_word (address, word)) }
 {
     write!(text, " {address} {word}")
 }
 
 /// Adds the shown addresses with their last words.
-fn put_words_text(text: &mut String, words: &[(usize, u32)]) -> Result<(), AllocError>
-    ensures { OnOk result (string_bytes text.new ≡ string_bytes text.old ++ flat_map word_text words.now) }
+fn put_sample_words_text(text: &mut String, words: &[(usize, u32)]) -> Result<(), AllocError>
+    ensures { OnOk result (string_bytes text.new ≡ string_bytes text.old ++ flat_map sample_text_of_word words.now) }
 {
     for (address, word) in words {
-        put_word_text(text, *address, *word)?;
+        put_sample_word_text(text, *address, *word)?;
     }
     Ok(())
 }
 
 /// Adds a processor, where the reply before is another's.
-fn put_owner_text(
+fn put_sample_owner_text(
     text: &mut String,
     last: Option<usize>,
     processor: usize,
 ) -> Result<(), AllocError>
-    ensures { OnOk result (string_bytes text.new ≡ string_bytes text.old ++ owner_text last processor) }
+    ensures { OnOk result (string_bytes text.new ≡ string_bytes text.old ++ sample_text_of_owner last processor) }
 {
     match last {
         Some(last) if last == processor => Ok(()),
@@ -57,65 +57,68 @@ fn put_owner_text(
 }
 
 /// Adds a word that a load answered.
-fn put_answer_text(text: &mut String, word: u32) -> Result<(), AllocError>
+fn put_sample_answer_text(text: &mut String, word: u32) -> Result<(), AllocError>
     ensures { OnOk result (string_bytes text.new ≡ string_bytes text.old ++ (codes " " ++ decimal word)) }
 {
     write!(text, " {word}")
 }
 
 /// Adds what the loads answered: `p1` before the replies of processor 1.
-fn put_replies_text(text: &mut String, replies: &[Reply]) -> Result<(), AllocError>
+fn put_sample_replies_text(text: &mut String, replies: &[Reply]) -> Result<(), AllocError>
     ensures { OnOk result (string_bytes text.new
-        ≡ string_bytes text.old ++ replies_text None replies.now) }
+        ≡ string_bytes text.old ++ sample_text_of_replies None replies.now) }
 {
     let mut last = None;
     for reply in replies {
         let Reply { processor, word } = *reply;
-        put_owner_text(text, last, processor)?;
-        put_answer_text(text, word)?;
+        put_sample_owner_text(text, last, processor)?;
+        put_sample_answer_text(text, word)?;
         last = Some(processor);
     }
     Ok(())
 }
 
 /// The same behind `replies`, if there are some.
-fn put_all_replies_text(text: &mut String, replies: &[Reply]) -> Result<(), AllocError>
-    ensures { OnOk result (string_bytes text.new ≡ string_bytes text.old ++ all_replies_text replies.now) }
+fn put_all_sample_replies_text(text: &mut String, replies: &[Reply]) -> Result<(), AllocError>
+    ensures { OnOk result (string_bytes text.new ≡ string_bytes text.old ++ sample_text_of_all_replies replies.now) }
 {
     match replies {
         [] => Ok(()),
         [_, ..] => {
             text.push_str(" replies")?;
-            put_replies_text(text, replies)
+            put_sample_replies_text(text, replies)
         }
     }
 }
 
 /// Adds the verdict, the words and the replies.
-fn put_answers_text(text: &mut String, answers: &Answers) -> Result<(), AllocError>
-    ensures { OnOk result (string_bytes text.new ≡ string_bytes text.old ++ answers_text answers.now) }
+fn put_sample_answers_text(
+    text: &mut String,
+    answers: &SampleOutcomeAnswers,
+) -> Result<(), AllocError>
+    ensures { OnOk result (string_bytes text.new ≡ string_bytes text.old ++ sample_text_of_answers answers.now) }
 {
     text.push_str(if answers.is_racy() {
         "racy words"
     } else {
         "race-free words"
     })?;
-    put_words_text(text, answers.words())?;
-    put_all_replies_text(text, answers.replies())
+    put_sample_words_text(text, answers.words())?;
+    put_all_sample_replies_text(text, answers.replies())
 }
 
 /// Adds what a run came to.
-fn put_outcome_text(text: &mut String, outcome: &SampleOutcome) -> Result<(), AllocError>
-    ensures { OnOk result (string_bytes text.new ≡ string_bytes text.old ++ outcome_text outcome.now) }
+fn put_sample_outcome_text(text: &mut String, outcome: &SampleOutcome) -> Result<(), AllocError>
+    ensures { OnOk result (string_bytes text.new ≡ string_bytes text.old ++ sample_text_of_outcome outcome.now) }
 {
     match outcome {
-        SampleOutcome::Ended(answers) => put_answers_text(text, answers),
+        SampleOutcome::Ended(answers) => put_sample_answers_text(text, answers),
         SampleOutcome::Stuck(processor) => write!(text, "stuck {processor}"),
     }
 }
 
 /// Adds how often an outcome came.
-fn put_times_text(text: &mut String, times: u64) -> Result<(), AllocError>
+fn put_sample_times_text(text: &mut String, times: u64) -> Result<(), AllocError>
     ensures { OnOk result (string_bytes text.new
         ≡ string_bytes text.old ++ (codes "result " ++ (decimal times ++ codes " "))) }
 {
@@ -123,29 +126,29 @@ fn put_times_text(text: &mut String, times: u64) -> Result<(), AllocError>
 }
 
 /// Adds a line.
-fn put_line_text(text: &mut String, line: &TallyLine) -> Result<(), AllocError>
-    ensures { OnOk result (string_bytes text.new ≡ string_bytes text.old ++ tally_line_text line.now) }
+fn put_sample_line_text(text: &mut String, line: &TallyLine) -> Result<(), AllocError>
+    ensures { OnOk result (string_bytes text.new ≡ string_bytes text.old ++ sample_text_of_line line.now) }
 {
-    put_times_text(text, line.times)?;
-    put_outcome_text(text, &line.outcome)?;
+    put_sample_times_text(text, line.times)?;
+    put_sample_outcome_text(text, &line.outcome)?;
     text.push_str(" schedule ")?;
     line.schedule.put(text)?;
     text.push_str("\n")
 }
 
 /// Adds all lines.
-fn put_lines_text(text: &mut String, lines: &[TallyLine]) -> Result<(), AllocError>
-    ensures { OnOk result (string_bytes text.new ≡ string_bytes text.old ++ flat_map tally_line_text lines.now) }
+fn put_sample_lines_text(text: &mut String, lines: &[TallyLine]) -> Result<(), AllocError>
+    ensures { OnOk result (string_bytes text.new ≡ string_bytes text.old ++ flat_map sample_text_of_line lines.now) }
 {
     for line in lines {
-        put_line_text(text, line)?;
+        put_sample_line_text(text, line)?;
     }
     Ok(())
 }
 
 /// How many runs the lines count.
-fn runs_of(lines: &[TallyLine]) -> u64
-    ensures { result ≡ runs_in_text lines.now }
+fn runs_in_sample_text(lines: &[TallyLine]) -> u64
+    ensures { result ≡ sample_text_runs lines.now }
 {
     let mut runs: u64 = 0;
     for line in lines {
@@ -155,17 +158,17 @@ fn runs_of(lines: &[TallyLine]) -> u64
 }
 
 /// The whole text. The only error is running out of memory.
-fn text_of(alloc: Global, sampled: &Sampled) -> Result<String, AllocError>
+fn sample_text_of(alloc: Global, sampled: &Sampled) -> Result<String, AllocError>
     ensures { IfOk result (λ s. string_bytes s ≡ sample_text sampled.now) }
 {
-    let runs = runs_of(&sampled.lines);
+    let runs = runs_in_sample_text(&sampled.lines);
     let mut text = format!(in alloc; "runs {runs}\n")?;
-    put_lines_text(&mut text, &sampled.lines)?;
+    put_sample_lines_text(&mut text, &sampled.lines)?;
     Ok(text)
 }
 
 /// Writes the text and flushes the writer.
-fn write_text<W: Write>(text: &str, out: &mut W) -> Result<(), TextFault>
+fn write_sample_text<W: Write>(text: &str, out: &mut W) -> Result<(), TextFault>
     ensures written { OnOk result (Appends (W.contents out.old) (W.contents out.new) text.now) }
     ensures fault { IfErr result (λ e. e ≡ Output) }
 {
@@ -198,8 +201,8 @@ pub fn render<W: Write>(alloc: Global, sampled: &Sampled, out: &mut W) -> Result
     ensures written { OnOk result (Appends (W.contents out.old) (W.contents out.new) (sample_text sampled.now)) }
     ensures unwritten { result ≡ Err NoMemory → W.contents out.new ≡ W.contents out.old }
 {
-    let Ok(text) = text_of(alloc, sampled) else {
+    let Ok(text) = sample_text_of(alloc, sampled) else {
         return Err(TextFault::NoMemory);
     };
-    write_text(text.as_str(), out)
+    write_sample_text(text.as_str(), out)
 }

@@ -3,5 +3,5 @@
 -- Read to the end it is the script of the text (Passes). So a fault at a line says that no script goes on so.
 pub mod RunLines
 pub mod PassedLines
-pub mod Begins
-pub mod Texts
+pub mod FilledFront
+pub mod FrontTexts

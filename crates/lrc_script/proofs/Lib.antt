@@ -1,6 +1,6 @@
 pub mod Reading
-pub mod Lawful
-pub mod Text
+pub mod LawfulSizes
+pub mod SectionTexts
 pub mod Front
 pub mod Faults
 pub mod LineLengths

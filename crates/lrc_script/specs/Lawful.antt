@@ -91,10 +91,10 @@ abbrev pub barriers : List Instruction → ℕ
 barriers is = count_by is_barrier is
 
 -- each section has as many barriers as section 0
-abbrev pub IsEven : Plan → Type 0
-IsEven s = All (λ is. barriers is ≡ barriers (slice_index_or s.sections 0 [])) s.sections
+abbrev pub IsLawfullyEven : Plan → Type 0
+IsLawfullyEven s = All (λ is. barriers is ≡ barriers (slice_index_or s.sections 0 [])) s.sections
 
 -- all that the grammar asks of a script
 pub record IsLawful (s : Plan) : Type 0 where
   pub but_uneven : IsLawfulButUneven s
-  pub even : IsEven s
+  pub even : IsLawfullyEven s

@@ -1,8 +1,8 @@
 pub mod Plan
 pub mod Lawful
-pub mod Text
-pub mod Front
-pub mod LineFaults
+pub mod ScriptLines
+pub mod ScriptFront
+pub mod ScriptFaults
 pub mod LineReading
 pub mod Laws
 pub mod Prelude

@@ -14,8 +14,8 @@ pub record Plan : Type 0 where
   pub shown : List ℕ
 
 -- what a cluster line says: sizes alone
-abbrev pub head_plan : ℕ → ℕ → ℕ → ℕ → ℕ → Plan
-head_plan p n w l g = record { processors = p; pages = n; words = w; locks = l; flags = g; sections = []; shown = [] }
+abbrev pub plan_of_sizes : ℕ → ℕ → ℕ → ℕ → ℕ → Plan
+plan_of_sizes p n w l g = record { processors = p; pages = n; words = w; locks = l; flags = g; sections = []; shown = [] }
 
 -- the instructions of sections in memory
 abbrev pub plan_sections : List (Vec Instruction) → List (List Instruction)

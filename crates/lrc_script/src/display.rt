@@ -2,19 +2,19 @@
 ghost use Rattle.std.specs.Prelude.{Some, ◌++◌, ◌∷◌, [], map};
 ghost use Rattle.std.specs.Fmt.{WritesOnOk};
 ghost use Rattle.std.specs.List.{flat_map};
-ghost use Rattle.lrc_script.specs.Prelude.{plan_of, spaced, line_bytes, line_text, cluster_line, section_line};
-ghost use Rattle.lrc_script.specs.Prelude.{instruction_line, text};
+ghost use Rattle.lrc_script.specs.Prelude.{plan_of, script_line_spaced, script_line_bytes, script_line_text, script_cluster_line, script_section_line};
+ghost use Rattle.lrc_script.specs.Prelude.{script_instruction_line, text};
 
 use crate::script::{Instruction, Script};
 use std::fmt;
 
 /// Writes a word, and each number with a space before it.
-fn write_line<W: fmt::Write>(
+fn display_line<W: fmt::Write>(
     f: &mut fmt::Formatter<W>,
     word: &str,
     numbers: &[usize],
 ) -> fmt::Result
-    ensures { WritesOnOk W.write_str_gives f.old result (word.now ++ flat_map spaced numbers.now)
+    ensures { WritesOnOk W.write_str_gives f.old result (word.now ++ flat_map script_line_spaced numbers.now)
         f.new }
 {
     f.write_str(word)?;
@@ -25,34 +25,34 @@ fn write_line<W: fmt::Write>(
 }
 
 impl fmt::Display for Instruction {
-    ghost output = { λ i. Some (line_bytes (instruction_line i)) };
+    ghost output = { λ i. Some (script_line_bytes (script_instruction_line i)) };
 
     fn fmt<W: fmt::Write>(&self, f: &mut fmt::Formatter<W>) -> fmt::Result {
         match *self {
-            Instruction::Load(address) => write_line(f, "load", &[address]),
-            Instruction::Store(address, value) => write_line(
+            Instruction::Load(address) => display_line(f, "load", &[address]),
+            Instruction::Store(address, value) => display_line(
                 f,
                 "store",
                 &[address, value as usize],
             ),
-            Instruction::Add(address, value) => write_line(f, "add", &[address, value as usize]),
-            Instruction::Acquire(lock) => write_line(f, "acquire", &[lock]),
-            Instruction::Release(lock) => write_line(f, "release", &[lock]),
+            Instruction::Add(address, value) => display_line(f, "add", &[address, value as usize]),
+            Instruction::Acquire(lock) => display_line(f, "acquire", &[lock]),
+            Instruction::Release(lock) => display_line(f, "release", &[lock]),
             Instruction::Barrier => f.write_str("barrier"),
-            Instruction::Set(flag) => write_line(f, "set", &[flag]),
-            Instruction::Await(flag) => write_line(f, "await", &[flag]),
+            Instruction::Set(flag) => display_line(f, "set", &[flag]),
+            Instruction::Await(flag) => display_line(f, "await", &[flag]),
             Instruction::Cut => f.write_str("cut"),
         }
     }
 }
 
 /// Writes the `cluster` line: no flags are written with four numbers.
-fn write_head<W: fmt::Write>(f: &mut fmt::Formatter<W>, script: &Script) -> fmt::Result
+fn display_head_line<W: fmt::Write>(f: &mut fmt::Formatter<W>, script: &Script) -> fmt::Result
     ensures { WritesOnOk W.write_str_gives f.old result
-        (line_text (cluster_line (plan_of script.now))) f.new }
+        (script_line_text (script_cluster_line (plan_of script.now))) f.new }
 {
     let sizes = [script.processors, script.pages, script.words, script.locks];
-    write_line(f, "cluster", &sizes)?;
+    display_line(f, "cluster", &sizes)?;
     let flags = script.flags;
     if flags != 0 {
         write!(f, " {flags}")?;
@@ -61,12 +61,12 @@ fn write_head<W: fmt::Write>(f: &mut fmt::Formatter<W>, script: &Script) -> fmt:
 }
 
 /// Writes the lines of a section's instructions.
-fn write_instructions<W: fmt::Write>(
+fn display_instructions<W: fmt::Write>(
     f: &mut fmt::Formatter<W>,
     instructions: &[Instruction],
 ) -> fmt::Result
     ensures { WritesOnOk W.write_str_gives f.old result
-        (flat_map line_text (map instruction_line instructions.now)) f.new }
+        (flat_map script_line_text (map script_instruction_line instructions.now)) f.new }
 {
     for instruction in instructions {
         writeln!(f, "{instruction}")?;
@@ -75,28 +75,28 @@ fn write_instructions<W: fmt::Write>(
 }
 
 /// Writes the lines of a section.
-fn write_section<W: fmt::Write>(
+fn display_section<W: fmt::Write>(
     f: &mut fmt::Formatter<W>,
     k: usize,
     instructions: &[Instruction],
 ) -> fmt::Result
-    ensures { WritesOnOk W.write_str_gives f.old result (line_text (section_line k)
-        ++ flat_map line_text (map instruction_line instructions.now)) f.new }
+    ensures { WritesOnOk W.write_str_gives f.old result (script_line_text (script_section_line k)
+        ++ flat_map script_line_text (map script_instruction_line instructions.now)) f.new }
 {
-    write_line(f, "p", &[k])?;
+    display_line(f, "p", &[k])?;
     f.write_str("\n")?;
-    write_instructions(f, instructions)
+    display_instructions(f, instructions)
 }
 
 impl fmt::Display for Script {
     ghost output = { λ s. Some (text (plan_of s)) };
 
     fn fmt<W: fmt::Write>(&self, f: &mut fmt::Formatter<W>) -> fmt::Result {
-        write_head(f, self)?;
+        display_head_line(f, self)?;
         for (k, section) in self.sections.iter().enumerate() {
-            write_section(f, k, section)?;
+            display_section(f, k, section)?;
         }
-        write_line(f, "show", &self.shown)?;
+        display_line(f, "show", &self.shown)?;
         f.write_str("\n")
     }
 }

@@ -2,7 +2,7 @@
 //!
 //! **What contracts see.** A `Script` is seen as a `Plan` (`plan_of`): its numbers, its sections as lists of
 //! instructions, its shown addresses. `IsLawful` says which plans are scripts, `text` what their bytes are.
-//! `IsFault` says what a fault says of the bytes.
+//! `IsScriptFault` says what a fault says of the bytes.
 //!
 //! **What is proved.** `script::parse` answers a script only if it is lawful and the bytes are its text,
 //! and a fault only if they are no lawful script's, with its line; `Display` writes the text, of at most

@@ -1,9 +1,9 @@
 //! One line of a script: a keyword, and numbers with one space before each.
 ghost use Rattle.std.specs.Prelude.{◌≡◌, ℕ, ◌<◌, List, ◌∷◌, [], length, IfSome, IfNone, MatchOption};
 ghost use Rattle.std.specs.List.{list_all};
-ghost use Rattle.lrc_script.specs.Prelude.{HasNoLineFeed, ReadGives, IsLineCut, parts_of_line, parts_left_of_line, has_bytes, keyword_read, space};
-ghost use Rattle.lrc_script.specs.Prelude.{sum_of_digits, number_read, few_items, numbers_read_after};
-ghost use Rattle.lrc_script.specs.Prelude.{BeginsWithNumber, BeginsWithNoNumber, may_begin_number};
+ghost use Rattle.lrc_script.specs.Prelude.{HasNoLineFeed, LineReadGives, IsLineReadOff, parts_of_read_line, parts_behind_in_read_line, line_read_word_has_bytes, line_read_keyword, script_line_space};
+ghost use Rattle.lrc_script.specs.Prelude.{line_read_digit_sum, line_read_number, line_read_few, line_read_numbers_after};
+ghost use Rattle.lrc_script.specs.Prelude.{LineReadBeginsWithNumber, LineReadBeginsWithNoNumber, line_read_may_begin_number};
 
 use crate::fault::ScriptFault;
 use memchr::memchr;
@@ -12,7 +12,7 @@ use std::alloc::Global;
 
 /// The first word of a line.
 #[derive(Clone, Copy)]
-pub enum Keyword {
+pub enum LineKeyword {
     Cluster,
     Section,
     Load,
@@ -27,35 +27,35 @@ pub enum Keyword {
     Show,
 }
 
-impl Keyword {
+impl LineKeyword {
     /// The keyword that is written so.
-    pub fn of(word: &[u8]) -> Option<Keyword>
-        ensures { result ≡ keyword_read word.now }
+    pub fn of(word: &[u8]) -> Option<LineKeyword>
+        ensures { result ≡ line_read_keyword word.now }
     {
         if word == b"cluster".as_slice() {
-            Some(Keyword::Cluster)
+            Some(LineKeyword::Cluster)
         } else if word == b"p".as_slice() {
-            Some(Keyword::Section)
+            Some(LineKeyword::Section)
         } else if word == b"load".as_slice() {
-            Some(Keyword::Load)
+            Some(LineKeyword::Load)
         } else if word == b"store".as_slice() {
-            Some(Keyword::Store)
+            Some(LineKeyword::Store)
         } else if word == b"add".as_slice() {
-            Some(Keyword::Add)
+            Some(LineKeyword::Add)
         } else if word == b"acquire".as_slice() {
-            Some(Keyword::Acquire)
+            Some(LineKeyword::Acquire)
         } else if word == b"release".as_slice() {
-            Some(Keyword::Release)
+            Some(LineKeyword::Release)
         } else if word == b"barrier".as_slice() {
-            Some(Keyword::Barrier)
+            Some(LineKeyword::Barrier)
         } else if word == b"set".as_slice() {
-            Some(Keyword::Set)
+            Some(LineKeyword::Set)
         } else if word == b"await".as_slice() {
-            Some(Keyword::Await)
+            Some(LineKeyword::Await)
         } else if word == b"cut".as_slice() {
-            Some(Keyword::Cut)
+            Some(LineKeyword::Cut)
         } else if word == b"show".as_slice() {
-            Some(Keyword::Show)
+            Some(LineKeyword::Show)
         } else {
             None
         }
@@ -66,8 +66,8 @@ impl Keyword {
 pub type Numbers = SmallVec<u32, 5>;
 
 /// What stands before the first such byte, and what stands after it.
-pub fn split_at_byte(bytes: &[u8], separator: u8) -> (&[u8], Option<&[u8]>)
-    ensures parts { parts_of_line separator bytes.now ≡ result.0.now ∷ parts_left_of_line separator result.1 }
+pub fn split_script_line_at(bytes: &[u8], separator: u8) -> (&[u8], Option<&[u8]>)
+    ensures parts { parts_of_read_line separator bytes.now ≡ result.0.now ∷ parts_behind_in_read_line separator result.1 }
     ensures shorter { IfSome result.1 (λ rest. length rest.now < length bytes.now) }
 {
     match bytes.iter().position(|byte| *byte == separator) {
@@ -78,15 +78,15 @@ pub fn split_at_byte(bytes: &[u8], separator: u8) -> (&[u8], Option<&[u8]>)
 
 /// The first line without its line feed, and the bytes after it, if there is a line feed.
 pub fn split_line(bytes: &[u8]) -> Option<(&[u8], &[u8])>
-    ensures { MatchOption result (HasNoLineFeed bytes.now) (λ x. IsLineCut bytes.now x.0.now x.1.now) }
+    ensures { MatchOption result (HasNoLineFeed bytes.now) (λ x. IsLineReadOff bytes.now x.0.now x.1.now) }
 {
     let at = memchr(b'\n', bytes)?;
     Some((&bytes[..at], &bytes[at + 1..]))
 }
 
 /// Whether exactly one space separates the words, with none at the beginning or end.
-pub fn is_separated(line: &[u8]) -> bool
-    ensures { result ≡ list_all has_bytes (parts_of_line space line.now) }
+pub fn is_script_line_separated(line: &[u8]) -> bool
+    ensures { result ≡ list_all line_read_word_has_bytes (parts_of_read_line script_line_space line.now) }
 {
     line.split(|byte| *byte == b' ')
         .all(|word| !word.is_empty())
@@ -94,7 +94,7 @@ pub fn is_separated(line: &[u8]) -> bool
 
 /// How many words these are.
 pub fn number_count(words: Option<&[u8]>) -> usize
-    ensures { result ≡ length (parts_left_of_line space words.entry) }
+    ensures { result ≡ length (parts_behind_in_read_line script_line_space words.entry) }
 {
     match words {
         Some(line) => line.split(|byte| *byte == b' ').count(),
@@ -104,7 +104,7 @@ pub fn number_count(words: Option<&[u8]>) -> usize
 
 /// The number below 2^32 that digits write, summed as they come.
 fn sum_of_digits(word: &[u8]) -> Option<u32>
-    ensures { result ≡ sum_of_digits word.now }
+    ensures { result ≡ line_read_digit_sum word.now }
 {
     let mut sum: u32 = 0;
     for byte in word {
@@ -118,7 +118,7 @@ fn sum_of_digits(word: &[u8]) -> Option<u32>
 
 /// The number that is written so: in decimal, with no leading zero, below 2^32.
 pub fn number(word: &[u8]) -> Option<u32>
-    ensures { result ≡ number_read word.now }
+    ensures { result ≡ line_read_number word.now }
 {
     match word {
         [] => None,
@@ -129,7 +129,7 @@ pub fn number(word: &[u8]) -> Option<u32>
 
 /// Whether a number may begin here: there is a word, and no zero at its front.
 fn may_begin_number(line: &[u8]) -> bool
-    ensures { result ≡ may_begin_number line.now }
+    ensures { result ≡ line_read_may_begin_number line.now }
 {
     match line {
         [] | [b' ', ..] => false,
@@ -140,8 +140,8 @@ fn may_begin_number(line: &[u8]) -> bool
 
 /// The number that the first word is, and what stands behind the space after it. Each byte is looked at once.
 fn first_number(line: &[u8]) -> Option<(u32, Option<&[u8]>)>
-    ensures { MatchOption result (BeginsWithNoNumber line.now)
-        (λ x. BeginsWithNumber line.now x.0 (parts_left_of_line space x.1)) }
+    ensures { MatchOption result (LineReadBeginsWithNoNumber line.now)
+        (λ x. LineReadBeginsWithNumber line.now x.0 (parts_behind_in_read_line script_line_space x.1)) }
 {
     if !may_begin_number(line) {
         return None;
@@ -161,53 +161,53 @@ fn first_number(line: &[u8]) -> Option<(u32, Option<&[u8]>)>
 
 /// The numbers of a line that has two at most, as all instructions have.
 #[derive(Clone, Copy)]
-pub enum Few {
+pub enum FewOnLine {
     Zero,
     One([u32; 1]),
     Two([u32; 2]),
 }
 
-impl Few {
+impl FewOnLine {
     pub fn as_slice(&self) -> &[u32]
-        ensures { result.now ≡ few_items self.now }
+        ensures { result.now ≡ line_read_few self.now }
     {
         match self {
-            Few::Zero => &[],
-            Few::One(numbers) => numbers,
-            Few::Two(numbers) => numbers,
+            FewOnLine::Zero => &[],
+            FewOnLine::One(numbers) => numbers,
+            FewOnLine::Two(numbers) => numbers,
         }
     }
 }
 
 /// The numbers that the words are, if they are numbers and two at most.
-pub fn few_numbers(words: Option<&[u8]>) -> Option<Few>
-    ensures numbers { IfSome result (λ few. numbers_read_after [] (parts_left_of_line space words.entry)
-        ≡ Ok (few_items few)) }
+pub fn few_numbers(words: Option<&[u8]>) -> Option<FewOnLine>
+    ensures numbers { IfSome result (λ few. line_read_numbers_after [] (parts_behind_in_read_line script_line_space words.entry)
+        ≡ Ok (line_read_few few)) }
     ensures others { IfNone result ((ns : List ℕ)
-        → numbers_read_after [] (parts_left_of_line space words.entry) ≡ Ok ns → 2 < length ns) }
+        → line_read_numbers_after [] (parts_behind_in_read_line script_line_space words.entry) ≡ Ok ns → 2 < length ns) }
 {
     let Some(line) = words else {
-        return Some(Few::Zero);
+        return Some(FewOnLine::Zero);
     };
     let (first, rest) = first_number(line)?;
     let Some(line) = rest else {
-        return Some(Few::One([first]));
+        return Some(FewOnLine::One([first]));
     };
     let (second, rest) = first_number(line)?;
     match rest {
-        None => Some(Few::Two([first, second])),
+        None => Some(FewOnLine::Two([first, second])),
         Some(_) => None,
     }
 }
 
 /// The numbers that the words are.
 pub fn read_numbers(alloc: Global, words: Option<&[u8]>) -> Result<Numbers, ScriptFault>
-    ensures { ReadGives (λ ns. ns.items) result (numbers_read_after [] (parts_left_of_line space words.entry)) }
+    ensures { LineReadGives (λ ns. ns.items) result (line_read_numbers_after [] (parts_behind_in_read_line script_line_space words.entry)) }
 {
     let mut numbers = SmallVec::new(alloc);
     let mut rest = words;
     while let Some(line) = rest {
-        let (word, after) = split_at_byte(line, b' ');
+        let (word, after) = split_script_line_at(line, b' ');
         let Some(number) = number(word) else {
             return Err(ScriptFault::BadNumber);
         };

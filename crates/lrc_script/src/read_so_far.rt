@@ -3,13 +3,16 @@ ghost use Rattle.std.specs.Prelude.{◌≡◌, ◌≢◌, ℕ, ◌≤◌, ◌<�
 ghost use Rattle.std.specs.Prelude.{IfSome, IfNone};
 ghost use Rattle.std.specs.List.{list_any};
 ghost use Rattle.base.specs.Prelude.{most_locks};
-ghost use Rattle.lrc_script.specs.Prelude.{Plan, plan_of, IsLawfulFront, Headed, Within, Whole, plan_addresses, ReadGives, ReadFails};
-ghost use Rattle.lrc_script.specs.Prelude.{ReadGoes, IsOther, front_read, is_line_due, is_read_with, are_read_sizes, head_read, first_section_read};
-ghost use Rattle.lrc_script.specs.Prelude.{next_section_read, show_read, instruction_of_line, is_past, line_refusal, with_instruction};
-ghost use Rattle.lrc_script.specs.Prelude.{read_step, read_after_numbers, read_after};
+ghost use Rattle.lrc_script.specs.Prelude.{Plan, plan_of, IsScriptFrontLawful, Headed, Within, Whole, plan_addresses, LineReadGives, LineReadFails};
+ghost use Rattle.lrc_script.specs.Prelude.{LineReadGoesTo, IsOtherLineRead, line_read_front, is_read_line_due, is_line_read_with, are_line_read_sizes, line_read_cluster, line_read_first_section};
+ghost use Rattle.lrc_script.specs.Prelude.{line_read_next_section, line_read_shown, line_read_as_instruction, is_line_read_past, line_read_refusal, line_read_with_instruction};
+ghost use Rattle.lrc_script.specs.Prelude.{line_read_step, line_read_after_numbers, line_read_after};
 
 use crate::fault::ScriptFault;
-use crate::line::{Keyword, few_numbers, is_separated, number_count, read_numbers, split_at_byte};
+use crate::line::{
+    LineKeyword, few_numbers, is_script_line_separated, number_count, read_numbers,
+    split_script_line_at,
+};
 use crate::script::{Instruction, MOST_INSTRUCTIONS, MOST_SHOWN, Script};
 use crate::section::Section;
 use base::{MOST_FLAGS, MOST_LOCKS, MOST_PAGES, MOST_PROCESSORS, MOST_WORDS};
@@ -29,20 +32,23 @@ pub enum ReadSoFar {
     Whole(Script),
 }
 
-fn takes(keyword: Keyword, numbers: usize) -> bool
-    ensures { result ≡ is_read_with keyword numbers }
+fn takes(keyword: LineKeyword, numbers: usize) -> bool
+    ensures { result ≡ is_line_read_with keyword numbers }
 {
     match keyword {
-        Keyword::Store | Keyword::Add => numbers == 2,
-        Keyword::Load | Keyword::Acquire | Keyword::Release | Keyword::Set | Keyword::Await =>
-            numbers == 1,
-        Keyword::Barrier | Keyword::Cut => numbers == 0,
-        Keyword::Cluster | Keyword::Section | Keyword::Show => false,
+        LineKeyword::Store | LineKeyword::Add => numbers == 2,
+        LineKeyword::Load
+        | LineKeyword::Acquire
+        | LineKeyword::Release
+        | LineKeyword::Set
+        | LineKeyword::Await => numbers == 1,
+        LineKeyword::Barrier | LineKeyword::Cut => numbers == 0,
+        LineKeyword::Cluster | LineKeyword::Section | LineKeyword::Show => false,
     }
 }
 
 fn are_sizes(script: &Script) -> bool
-    ensures { result ≡ are_read_sizes (plan_of script.now) }
+    ensures { result ≡ are_line_read_sizes (plan_of script.now) }
 {
     1 <= script.processors
         && script.processors <= MOST_PROCESSORS
@@ -54,25 +60,25 @@ fn are_sizes(script: &Script) -> bool
         && script.flags <= MOST_FLAGS
 }
 
-fn instruction(keyword: Keyword, numbers: &[u32]) -> Option<Instruction>
-    ensures { result ≡ instruction_of_line keyword numbers.now }
+fn instruction(keyword: LineKeyword, numbers: &[u32]) -> Option<Instruction>
+    ensures { result ≡ line_read_as_instruction keyword numbers.now }
 {
     match (keyword, numbers) {
-        (Keyword::Load, [a]) => Some(Instruction::Load(*a as usize)),
-        (Keyword::Store, [a, v]) => Some(Instruction::Store(*a as usize, *v)),
-        (Keyword::Add, [a, v]) => Some(Instruction::Add(*a as usize, *v)),
-        (Keyword::Acquire, [l]) => Some(Instruction::Acquire(*l as usize)),
-        (Keyword::Release, [l]) => Some(Instruction::Release(*l as usize)),
-        (Keyword::Barrier, []) => Some(Instruction::Barrier),
-        (Keyword::Set, [f]) => Some(Instruction::Set(*f as usize)),
-        (Keyword::Await, [f]) => Some(Instruction::Await(*f as usize)),
-        (Keyword::Cut, []) => Some(Instruction::Cut),
+        (LineKeyword::Load, [a]) => Some(Instruction::Load(*a as usize)),
+        (LineKeyword::Store, [a, v]) => Some(Instruction::Store(*a as usize, *v)),
+        (LineKeyword::Add, [a, v]) => Some(Instruction::Add(*a as usize, *v)),
+        (LineKeyword::Acquire, [l]) => Some(Instruction::Acquire(*l as usize)),
+        (LineKeyword::Release, [l]) => Some(Instruction::Release(*l as usize)),
+        (LineKeyword::Barrier, []) => Some(Instruction::Barrier),
+        (LineKeyword::Set, [f]) => Some(Instruction::Set(*f as usize)),
+        (LineKeyword::Await, [f]) => Some(Instruction::Await(*f as usize)),
+        (LineKeyword::Cut, []) => Some(Instruction::Cut),
         _ => None,
     }
 }
 
 fn is_past(place: Option<usize>, count: usize) -> bool
-    ensures { result ≡ is_past place count }
+    ensures { result ≡ is_line_read_past place count }
 {
     place.is_some_and(|place| place >= count)
 }
@@ -81,7 +87,7 @@ fn is_past(place: Option<usize>, count: usize) -> bool
 fn refusal(script: &Script, section: &Section, instruction: Instruction) -> Option<ScriptFault>
     requires fits { plan_addresses (plan_of script.now) ≤ 4096 }
     requires locks { script.now.locks ≤ most_locks }
-    ensures { result ≡ line_refusal (plan_of script.now) section.now.instructions.items instruction }
+    ensures { result ≡ line_read_refusal (plan_of script.now) section.now.instructions.items instruction }
 {
     if is_past(instruction.address(), script.pages * script.words) {
         return Some(ScriptFault::OutOfRange);
@@ -102,7 +108,7 @@ fn refusal(script: &Script, section: &Section, instruction: Instruction) -> Opti
 
 /// The script of a `cluster` line with these numbers.
 fn read_head(alloc: Global, numbers: &[u32]) -> Result<Script, ScriptFault>
-    ensures { ReadGives (λ s. Headed (plan_of s)) result (head_read numbers.now) }
+    ensures { LineReadGives (λ s. Headed (plan_of s)) result (line_read_cluster numbers.now) }
 {
     let (processors, pages, words, locks, flags) = match numbers {
         [p, n, w, l] => (*p, *n, *w, *l, 0),
@@ -130,7 +136,7 @@ fn read_first_section(
     script: Script,
     numbers: &[u32],
 ) -> Result<ReadSoFar, ScriptFault>
-    ensures { ReadGives front_read result (first_section_read (plan_of script) numbers.now) }
+    ensures { LineReadGives line_read_front result (line_read_first_section (plan_of script) numbers.now) }
 {
     match numbers {
         [0] => Ok(ReadSoFar::Within(script, Section::new(alloc))),
@@ -144,7 +150,7 @@ fn read_next_section(
     section: Section,
     numbers: &[u32],
 ) -> Result<ReadSoFar, ScriptFault>
-    ensures { ReadGives front_read result (next_section_read (plan_of script) section.instructions.items
+    ensures { LineReadGives line_read_front result (line_read_next_section (plan_of script) section.instructions.items
         numbers.now) }
 {
     match numbers {
@@ -162,7 +168,7 @@ fn any_past(numbers: &[u32], count: usize) -> bool
     numbers.iter().any(|place| *place as usize >= count)
 }
 
-fn places(alloc: Global, numbers: &[u32]) -> Result<Vec<usize>, AllocError>
+fn places_read_so_far(alloc: Global, numbers: &[u32]) -> Result<Vec<usize>, AllocError>
     ensures { IfOk result (λ places. places.items ≡ numbers.now) }
 {
     numbers.iter().map(|place| *place as usize).collect(alloc)
@@ -175,7 +181,7 @@ fn show(
     numbers: &[u32],
 ) -> Result<ReadSoFar, ScriptFault>
     requires { plan_addresses (plan_of script) ≤ 4096 }
-    ensures { ReadGives front_read result (show_read (plan_of script) section.instructions.items numbers.now) }
+    ensures { LineReadGives line_read_front result (line_read_shown (plan_of script) section.instructions.items numbers.now) }
 {
     if any_past(numbers, script.pages * script.words) {
         return Err(ScriptFault::OutOfRange);
@@ -184,17 +190,17 @@ fn show(
         return Err(ScriptFault::TooLong);
     }
     script.sections.push(section.instructions)?;
-    script.shown = places(alloc, numbers)?;
+    script.shown = places_read_so_far(alloc, numbers)?;
     Ok(ReadSoFar::Whole(script))
 }
 
 fn add(script: &Script, section: &mut Section, instruction: Instruction) -> Result<(), ScriptFault>
     requires fits { plan_addresses (plan_of script.now) ≤ 4096 }
     requires locks { script.now.locks ≤ most_locks }
-    ensures ok { OnOk result (ReadGoes (Within (plan_of script.now) section.new.instructions.items)
-        (with_instruction (plan_of script.now) section.old.instructions.items (Some instruction))) }
-    ensures err { IfErr result (λ e. ReadFails e
-        (with_instruction (plan_of script.now) section.old.instructions.items (Some instruction))) }
+    ensures ok { OnOk result (LineReadGoesTo (Within (plan_of script.now) section.new.instructions.items)
+        (line_read_with_instruction (plan_of script.now) section.old.instructions.items (Some instruction))) }
+    ensures err { IfErr result (λ e. LineReadFails e
+        (line_read_with_instruction (plan_of script.now) section.old.instructions.items (Some instruction))) }
 {
     match refusal(script, section, instruction) {
         Some(fault) => Err(fault),
@@ -204,13 +210,13 @@ fn add(script: &Script, section: &mut Section, instruction: Instruction) -> Resu
 
 impl ReadSoFar {
     /// Whether a line with this keyword and that many numbers is allowed at this point.
-    fn is_due(&self, keyword: Keyword, numbers: usize) -> bool
-        ensures { result ≡ is_line_due (front_read self.now) keyword numbers }
+    fn is_due(&self, keyword: LineKeyword, numbers: usize) -> bool
+        ensures { result ≡ is_read_line_due (line_read_front self.now) keyword numbers }
     {
         match (self, keyword) {
-            (ReadSoFar::Start, Keyword::Cluster) => numbers == 4 || numbers == 5,
-            (ReadSoFar::Headed(_) | ReadSoFar::Within(..), Keyword::Section) => numbers == 1,
-            (ReadSoFar::Within(script, _), Keyword::Show) => {
+            (ReadSoFar::Start, LineKeyword::Cluster) => numbers == 4 || numbers == 5,
+            (ReadSoFar::Headed(_) | ReadSoFar::Within(..), LineKeyword::Section) => numbers == 1,
+            (ReadSoFar::Within(script, _), LineKeyword::Show) => {
                 numbers >= 1 && script.sections.len() + 1 == script.processors
             }
             (ReadSoFar::Within(..), _) => takes(keyword, numbers),
@@ -219,23 +225,23 @@ impl ReadSoFar {
     }
 
     /// What a line of this keyword and these numbers, no instruction of a section, makes of it.
-    #[tactic(auto, unfolding(crate::specs::LineReading::read_step))]
+    #[tactic(auto, unfolding(crate::specs::LineReading::line_read_step))]
     fn next(
         self,
         alloc: Global,
-        keyword: Keyword,
+        keyword: LineKeyword,
         numbers: &[u32],
     ) -> Result<ReadSoFar, ScriptFault>
-        requires begun { IsLawfulFront (front_read self) }
-        requires other { IsOther (front_read self) keyword numbers.now }
-        ensures { ReadGives front_read result (read_step (front_read self) keyword numbers.now) }
+        requires begun { IsScriptFrontLawful (line_read_front self) }
+        requires other { IsOtherLineRead (line_read_front self) keyword numbers.now }
+        ensures { LineReadGives line_read_front result (line_read_step (line_read_front self) keyword numbers.now) }
     {
         match self {
             ReadSoFar::Start => Ok(ReadSoFar::Headed(read_head(alloc, numbers)?)),
             ReadSoFar::Headed(script) => read_first_section(alloc, script, numbers),
             ReadSoFar::Within(script, section) => match keyword {
-                Keyword::Section => read_next_section(alloc, script, section, numbers),
-                Keyword::Show => show(alloc, script, section, numbers),
+                LineKeyword::Section => read_next_section(alloc, script, section, numbers),
+                LineKeyword::Show => show(alloc, script, section, numbers),
                 _ => Err(ScriptFault::BadLine),
             },
             ReadSoFar::Whole(_) => Err(ScriptFault::BadLine),
@@ -243,23 +249,33 @@ impl ReadSoFar {
     }
 
     /// Goes on by such a line.
-    fn go_on(&mut self, alloc: Global, keyword: Keyword, numbers: &[u32]) -> Result<(), ScriptFault>
-        requires begun { IsLawfulFront (front_read self.old) }
-        requires other { IsOther (front_read self.old) keyword numbers.now }
-        ensures ok { OnOk result (ReadGoes (front_read self.new)
-            (read_step (front_read self.old) keyword numbers.now)) }
-        ensures err { IfErr result (λ e. ReadFails e (read_step (front_read self.old) keyword numbers.now)) }
+    fn go_on(
+        &mut self,
+        alloc: Global,
+        keyword: LineKeyword,
+        numbers: &[u32],
+    ) -> Result<(), ScriptFault>
+        requires begun { IsScriptFrontLawful (line_read_front self.old) }
+        requires other { IsOtherLineRead (line_read_front self.old) keyword numbers.now }
+        ensures ok { OnOk result (LineReadGoesTo (line_read_front self.new)
+            (line_read_step (line_read_front self.old) keyword numbers.now)) }
+        ensures err { IfErr result (λ e. LineReadFails e (line_read_step (line_read_front self.old) keyword numbers.now)) }
     {
         *self = mem::replace(self, ReadSoFar::Start).next(alloc, keyword, numbers)?;
         Ok(())
     }
 
     /// Goes on by a line of this keyword and these numbers. An instruction is added where it belongs.
-    fn step(&mut self, alloc: Global, keyword: Keyword, numbers: &[u32]) -> Result<(), ScriptFault>
-        requires { IsLawfulFront (front_read self.old) }
-        ensures ok { OnOk result (ReadGoes (front_read self.new)
-            (read_step (front_read self.old) keyword numbers.now)) }
-        ensures err { IfErr result (λ e. ReadFails e (read_step (front_read self.old) keyword numbers.now)) }
+    fn step(
+        &mut self,
+        alloc: Global,
+        keyword: LineKeyword,
+        numbers: &[u32],
+    ) -> Result<(), ScriptFault>
+        requires { IsScriptFrontLawful (line_read_front self.old) }
+        ensures ok { OnOk result (LineReadGoesTo (line_read_front self.new)
+            (line_read_step (line_read_front self.old) keyword numbers.now)) }
+        ensures err { IfErr result (λ e. LineReadFails e (line_read_step (line_read_front self.old) keyword numbers.now)) }
     {
         match self {
             ReadSoFar::Within(script, section) => match instruction(keyword, numbers) {
@@ -271,18 +287,18 @@ impl ReadSoFar {
     }
 
     /// Goes on by a line of this keyword, if it is one, and these numbers.
-    #[tactic(auto, unfolding(crate::specs::LineReading::read_after_numbers))]
+    #[tactic(auto, unfolding(crate::specs::LineReading::line_read_after_numbers))]
     fn after_numbers(
         &mut self,
         alloc: Global,
-        keyword: Option<Keyword>,
+        keyword: Option<LineKeyword>,
         numbers: &[u32],
     ) -> Result<(), ScriptFault>
-        requires { IsLawfulFront (front_read self.old) }
-        ensures ok { OnOk result (ReadGoes (front_read self.new)
-            (read_after_numbers (front_read self.old) keyword numbers.now)) }
-        ensures err { IfErr result (λ e. ReadFails e
-            (read_after_numbers (front_read self.old) keyword numbers.now)) }
+        requires { IsScriptFrontLawful (line_read_front self.old) }
+        ensures ok { OnOk result (LineReadGoesTo (line_read_front self.new)
+            (line_read_after_numbers (line_read_front self.old) keyword numbers.now)) }
+        ensures err { IfErr result (λ e. LineReadFails e
+            (line_read_after_numbers (line_read_front self.old) keyword numbers.now)) }
     {
         match keyword {
             Some(keyword) if self.is_due(keyword, numbers.len()) => {
@@ -293,17 +309,17 @@ impl ReadSoFar {
     }
 
     /// Goes on by a line of any form, with one pass for each question.
-    #[tactic(auto, unfolding(crate::specs::LineReading::read_after_keyword))]
+    #[tactic(auto, unfolding(crate::specs::LineReading::line_read_after_keyword))]
     fn after_any(&mut self, alloc: Global, line: &[u8]) -> Result<(), ScriptFault>
-        requires { IsLawfulFront (front_read self.old) }
-        ensures ok { OnOk result (ReadGoes (front_read self.new) (read_after (front_read self.old) line.now)) }
-        ensures err { IfErr result (λ e. ReadFails e (read_after (front_read self.old) line.now)) }
+        requires { IsScriptFrontLawful (line_read_front self.old) }
+        ensures ok { OnOk result (LineReadGoesTo (line_read_front self.new) (line_read_after (line_read_front self.old) line.now)) }
+        ensures err { IfErr result (λ e. LineReadFails e (line_read_after (line_read_front self.old) line.now)) }
     {
-        if !is_separated(line) {
+        if !is_script_line_separated(line) {
             return Err(ScriptFault::BadLine);
         }
-        let (word, words) = split_at_byte(line, b' ');
-        let Some(keyword) = Keyword::of(word) else {
+        let (word, words) = split_script_line_at(line, b' ');
+        let Some(keyword) = LineKeyword::of(word) else {
             return Err(ScriptFault::BadLine);
         };
         if !self.is_due(keyword, number_count(words)) {
@@ -316,21 +332,21 @@ impl ReadSoFar {
     /// Goes on by a line, which is handed in without its line feed. Each word of a line with two numbers at
     /// most is gone through once. After an error nothing is said of what was read.
     pub fn after(&mut self, alloc: Global, line: &[u8]) -> Result<(), ScriptFault>
-        requires { IsLawfulFront (front_read self.old) }
-        ensures ok { OnOk result (ReadGoes (front_read self.new) (read_after (front_read self.old) line.now)) }
-        ensures err { IfErr result (λ e. ReadFails e (read_after (front_read self.old) line.now)) }
+        requires { IsScriptFrontLawful (line_read_front self.old) }
+        ensures ok { OnOk result (LineReadGoesTo (line_read_front self.new) (line_read_after (line_read_front self.old) line.now)) }
+        ensures err { IfErr result (λ e. LineReadFails e (line_read_after (line_read_front self.old) line.now)) }
     {
-        let (word, words) = split_at_byte(line, b' ');
+        let (word, words) = split_script_line_at(line, b' ');
         match few_numbers(words) {
-            Some(numbers) => self.after_numbers(alloc, Keyword::of(word), numbers.as_slice()),
+            Some(numbers) => self.after_numbers(alloc, LineKeyword::of(word), numbers.as_slice()),
             None => self.after_any(alloc, line),
         }
     }
 
     /// The sizes, if the `cluster` line was read and nothing more.
     pub fn headed(self) -> Option<Script>
-        ensures found { IfSome result (λ s. front_read self ≡ Headed (plan_of s)) }
-        ensures none { IfNone result ((s : Plan) → front_read self ≢ Headed s) }
+        ensures found { IfSome result (λ s. line_read_front self ≡ Headed (plan_of s)) }
+        ensures none { IfNone result ((s : Plan) → line_read_front self ≢ Headed s) }
     {
         match self {
             ReadSoFar::Headed(script) => Some(script),
@@ -340,8 +356,8 @@ impl ReadSoFar {
 
     /// The script, if all its lines were read and nothing is left.
     pub fn whole(self, rest: &[u8]) -> Option<Script>
-        ensures found { IfSome result (λ s. (front_read self ≡ Whole (plan_of s)) × (rest.now ≡ [])) }
-        ensures none { IfNone result ((s : Plan) → front_read self ≡ Whole s → 0 < length rest.now) }
+        ensures found { IfSome result (λ s. (line_read_front self ≡ Whole (plan_of s)) × (rest.now ≡ [])) }
+        ensures none { IfNone result ((s : Plan) → line_read_front self ≡ Whole s → 0 < length rest.now) }
     {
         match self {
             ReadSoFar::Whole(script) if rest.is_empty() => Some(script),

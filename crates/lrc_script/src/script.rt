@@ -1,7 +1,7 @@
 //! A script: the sizes of a cluster, what each processor does, and the addresses to show.
 ghost use Rattle.std.specs.Prelude.{◌≡◌, ◌≢◌, IfOk, IfErr};
-ghost use Rattle.lrc_script.specs.Prelude.{Plan, plan_of, IsLawful, text, IsFault, instruction_address, instruction_lock, instruction_flag};
-ghost use Rattle.lrc_script.specs.Prelude.{AreLawfulSizes, IsHeadedFront, Nothing, SaysOfLine, cluster_line, line_bytes};
+ghost use Rattle.lrc_script.specs.Prelude.{Plan, plan_of, IsLawful, text, IsScriptFault, instruction_address, instruction_lock, instruction_flag};
+ghost use Rattle.lrc_script.specs.Prelude.{AreLawfulSizes, IsScriptFrontHeaded, Nothing, ScriptFaultSays, script_cluster_line, script_line_bytes};
 ghost use Rattle.lrc_script.specs.declared.fault.ScriptFault.TheVariants.{NoMemory};
 
 use crate::fault::ScriptFault;
@@ -96,15 +96,15 @@ pub struct Script {
 ///
 /// `BadLine`, `BadNumber` and `BadSize` come only if the line gives no sizes that a script may have, and say
 /// what is wrong with it. `NoMemory` comes if a growth was refused.
-pub fn read_sizes(alloc: Global, line: &[u8]) -> Result<Script, ScriptFault>
+pub fn read_script_sizes(alloc: Global, line: &[u8]) -> Result<Script, ScriptFault>
     // What is read are sizes that a script may have, and the line is theirs.
-    ensures found { IfOk result (λ s. IsHeadedFront (plan_of s)
-        × (line.now ≡ line_bytes (cluster_line (plan_of s)))) }
+    ensures found { IfOk result (λ s. IsScriptFrontHeaded (plan_of s)
+        × (line.now ≡ script_line_bytes (script_cluster_line (plan_of s)))) }
     // No such sizes are refused, unless memory runs out.
     ensures only { IfErr result (λ e. e ≢ NoMemory → (s : Plan) → AreLawfulSizes s
-        → line.now ≢ line_bytes (cluster_line s)) }
+        → line.now ≢ script_line_bytes (script_cluster_line s)) }
     // The fault says why.
-    ensures fault { IfErr result (λ e. e ≢ NoMemory → SaysOfLine e Nothing line.now) }
+    ensures fault { IfErr result (λ e. e ≢ NoMemory → ScriptFaultSays e Nothing line.now) }
 {
     let mut progress = ReadSoFar::Start;
     match progress.after(alloc, line) {
@@ -133,7 +133,7 @@ pub fn parse(alloc: Global, bytes: &[u8]) -> Result<Script, (usize, ScriptFault)
     ensures only { IfErr result (λ e. e.1 ≢ NoMemory → (s : Plan) → IsLawful s → bytes.now ≢ text s) }
     // The lines before the fault begin a script's text, that line doesn't, and the fault says why. Uneven
     // names the first section that differs from section 0.
-    ensures fault { IfErr result (λ e. IsFault bytes.now e.0 e.1) }
+    ensures fault { IfErr result (λ e. IsScriptFault bytes.now e.0 e.1) }
 {
     let mut progress = ReadSoFar::Start;
     let mut rest = bytes;

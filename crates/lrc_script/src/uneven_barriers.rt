@@ -1,7 +1,7 @@
 //! Whether the sections of a script have as many barriers.
 ghost use Rattle.std.specs.Prelude.{◌≤◌, ◌≡◌, length, All, IfSome, IfNone};
 ghost use Rattle.base.specs.Prelude.{most_processors};
-ghost use Rattle.lrc_script.specs.Prelude.{plan_of, barriers, is_barrier, IsEven, IsUnevenAtLine};
+ghost use Rattle.lrc_script.specs.Prelude.{plan_of, barriers, is_barrier, IsLawfullyEven, IsScriptFaultUnevenAtLine};
 
 use crate::script::{Instruction, Script};
 
@@ -24,8 +24,8 @@ fn barriers(section: &[Instruction]) -> usize
 pub fn uneven_line(script: &Script) -> Option<usize>
     requires sections { length script.now.sections.items ≤ most_processors }
     requires instructions { All (λ section. length section.items ≤ 10000) script.now.sections.items }
-    ensures even { IfNone result (IsEven (plan_of script.now)) }
-    ensures uneven { IfSome result (IsUnevenAtLine (plan_of script.now)) }
+    ensures even { IfNone result (IsLawfullyEven (plan_of script.now)) }
+    ensures uneven { IfSome result (IsScriptFaultUnevenAtLine (plan_of script.now)) }
 {
     let expected = barriers(script.sections.first()?);
     let mut line = 2;

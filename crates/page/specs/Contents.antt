@@ -9,5 +9,5 @@ pub record Contents : Type 0 where
   pub access : Access
 
 -- no word is dirty
-abbrev pub IsClean : Contents → Type 0
-IsClean p = p.dirty ≡ replicate (length p.words) false
+abbrev pub ContentsAreClean : Contents → Type 0
+ContentsAreClean p = p.dirty ≡ replicate (length p.words) false

@@ -1,5 +1,5 @@
-pub mod RisingChanges
+pub mod PageChanges
 pub mod Contents
-pub mod Marks
+pub mod PageMarks
 pub mod CarriedHarvests
 pub mod Prelude

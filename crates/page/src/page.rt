@@ -2,7 +2,7 @@
 ghost use Rattle.std.specs.Prelude.{◌≡◌, ◌≤◌, ◌<◌, ◌^◌, ◌↔◌, IsTrue, IfOk, IfSome, IfNone, Some, None, Ok, true};
 ghost use Rattle.std.specs.Prelude.{length, replicate, slice_get, slice_set};
 ghost use Rattle.base.specs.Prelude.{record_applied, harvest, most_words};
-ghost use Rattle.page.specs.Prelude.{marks_of, MarksBelow, IsClean, FitsIn, IsHarvest, CarriesStores};
+ghost use Rattle.page.specs.Prelude.{page_marks_of, PageMarksBelow, ContentsAreClean, CarriedHarvestFits, IsCarriedHarvest, CarriesStores};
 
 use crate::record::Record;
 use std::alloc::{AllocError, Global};
@@ -33,17 +33,17 @@ impl Model for Page {
     ghost use Rattle.std.specs.Prelude.{◌≤◌, length};
     ghost use Rattle.base.specs.Limits.{most_words};
     ghost use Rattle.page.specs.Contents.{Contents};
-    ghost use Rattle.page.specs.Marks.{marks_of, MarksBelow};
+    ghost use Rattle.page.specs.PageMarks.{page_marks_of, PageMarksBelow};
 
     ghost Value = { Contents };
 
     ghost view = { λ p. record {
       words = p.words.items;
-      dirty = marks_of (length p.words.items) p.dirty;
+      dirty = page_marks_of (length p.words.items) p.dirty;
       access = p.access;
     } };
 
-    ghost invariant = { λ p. (length p.words.items ≤ most_words) × MarksBelow (length p.words.items) p.dirty };
+    ghost invariant = { λ p. (length p.words.items ≤ most_words) × PageMarksBelow (length p.words.items) p.dirty };
 }
 
 impl Page {
@@ -53,7 +53,7 @@ impl Page {
         requires some { 0 < words }
         requires few { words ≤ most_words }
         ensures words { IfOk result (λ p. p.words ≡ replicate words 0) }
-        ensures clean { IfOk result (λ p. IsClean p) }
+        ensures clean { IfOk result (λ p. ContentsAreClean p) }
         ensures access { IfOk result (λ p. p.access ≡ Access.Valid) }
     {
         Ok(Page {
@@ -80,7 +80,7 @@ impl Page {
         ensures dirty { self.new.dirty ≡ slice_set self.old.dirty offset true }
         ensures access { self.new.access ≡ self.old.access }
     {
-        write_page(&mut self.words, &mut self.dirty, offset, value);
+        put_in_page(&mut self.words, &mut self.dirty, offset, value);
     }
 
     /// All words.
@@ -106,7 +106,7 @@ impl Page {
 
     /// Closes a copy with no dirty word to loads and stores.
     pub fn set_invalid(&mut self)
-        requires { IsClean self.old }
+        requires { ContentsAreClean self.old }
         ensures { self.new ≡ record self.old { access = Access.Invalid } }
     {
         self.access = Access::Invalid;
@@ -115,7 +115,7 @@ impl Page {
     /// Clears all dirty bits.
     pub fn clean(&mut self)
         ensures words { self.new.words ≡ self.old.words }
-        ensures clean { IsClean self.new }
+        ensures clean { ContentsAreClean self.new }
         ensures access { self.new.access ≡ self.old.access }
     {
         self.dirty = 0;
@@ -123,7 +123,7 @@ impl Page {
 
     /// Whether no word is dirty.
     pub fn is_clean(&self) -> bool
-        ensures { IsTrue result ↔ IsClean self.now }
+        ensures { IsTrue result ↔ ContentsAreClean self.now }
     {
         self.dirty == 0
     }
@@ -131,21 +131,21 @@ impl Page {
     /// Puts a record's words into an invalid copy. Which words are dirty stays as it was.
     pub fn apply(&mut self, changes: &Record)
         requires invalid { self.old.access ≡ Access.Invalid }
-        requires in_range { FitsIn (length self.old.words) changes.now.words }
+        requires in_range { CarriedHarvestFits (length self.old.words) changes.now.words }
         ensures words { self.new.words ≡ record_applied self.old.words changes.now.words }
         ensures dirty { self.new.dirty ≡ self.old.dirty }
         ensures access { self.new.access ≡ self.old.access }
     {
-        overwrite(&mut self.words, changes.words());
+        overwrite_page(&mut self.words, changes.words());
     }
 
     /// The record of the dirty words, as words of page `page`: `None` if no word is dirty.
     /// Costs in the order of what is dirty. Takes memory only if some word is dirty, and answers
     /// `AllocError` if that is refused.
     pub fn harvest(&self, page: usize) -> Result<Option<Record>, AllocError>
-        ensures clean { IsClean self.now → result ≡ Ok None }
-        ensures none { IfOk result (λ r. IfNone r (IsClean self.now)) }
-        ensures dirty_words { IfOk result (λ r. IfSome r (IsHarvest page self.now)) }
+        ensures clean { ContentsAreClean self.now → result ≡ Ok None }
+        ensures none { IfOk result (λ r. IfNone r (ContentsAreClean self.now)) }
+        ensures dirty_words { IfOk result (λ r. IfSome r (IsCarriedHarvest page self.now)) }
 
         // Whatever stores to a clean page led here, the record does what they did.
         ensures carries { IfOk result (λ r. CarriesStores self.now r) }
@@ -153,27 +153,27 @@ impl Page {
         if self.is_clean() {
             return Ok(None);
         }
-        let words = dirty_words(*self.words.allocator(), &self.words, self.dirty)?;
+        let words = page_words_marked(*self.words.allocator(), &self.words, self.dirty)?;
         Ok(Some(Record::new(page, words)))
     }
 }
 
 /// Writes the word at this offset, and sets its bit.
-fn write_page(words: &mut [u32], dirty: &mut u64, offset: usize, value: u32)
+fn put_in_page(words: &mut [u32], dirty: &mut u64, offset: usize, value: u32)
     requires in_range { offset < length words.old }
     requires few { length words.old ≤ most_words }
     ensures words { words.new ≡ slice_set words.old offset value }
-    ensures dirty { marks_of (length words.old) dirty.new
-        ≡ slice_set (marks_of (length words.old) dirty.old) offset true }
-    ensures below { MarksBelow (length words.old) dirty.old → MarksBelow (length words.old) dirty.new }
+    ensures dirty { page_marks_of (length words.old) dirty.new
+        ≡ slice_set (page_marks_of (length words.old) dirty.old) offset true }
+    ensures below { PageMarksBelow (length words.old) dirty.old → PageMarksBelow (length words.old) dirty.new }
 {
     words[offset] = value;
     *dirty |= 1 << offset;
 }
 
 /// Writes a record's words.
-fn overwrite(words: &mut [u32], changes: &[(usize, u32)])
-    requires in_range { FitsIn (length words.old) changes.now }
+fn overwrite_page(words: &mut [u32], changes: &[(usize, u32)])
+    requires in_range { CarriedHarvestFits (length words.old) changes.now }
     requires few { length words.old ≤ most_words }
     ensures { words.new ≡ record_applied words.old changes.now }
 {
@@ -183,9 +183,13 @@ fn overwrite(words: &mut [u32], changes: &[(usize, u32)])
 }
 
 /// The words whose bits are set, lowest first, each with its offset.
-fn dirty_words(alloc: Global, words: &[u32], dirty: u64) -> Result<Vec<(usize, u32)>, AllocError>
-    requires { MarksBelow (length words.now) dirty }
-    ensures { let marks = marks_of (length words.now) dirty in
+fn page_words_marked(
+    alloc: Global,
+    words: &[u32],
+    dirty: u64,
+) -> Result<Vec<(usize, u32)>, AllocError>
+    requires { PageMarksBelow (length words.now) dirty }
+    ensures { let marks = page_marks_of (length words.now) dirty in
         IfOk result (λ found. found.items ≡ harvest 0 words.now marks) }
 {
     let mut found = Vec::with_capacity(alloc, dirty.count_ones() as usize)?;

@@ -1,6 +1,6 @@
 //! What the stores of an interval come to in one page.
 ghost use Rattle.std.specs.Prelude.{◌≡◌, ◌↔◌, IsTrue, IsSome, IfSome};
-ghost use Rattle.page.specs.Prelude.{IsRising};
+ghost use Rattle.page.specs.Prelude.{ArePageChangesRising};
 
 use std::marker::Model;
 
@@ -14,19 +14,19 @@ pub struct Record {
 }
 
 impl Model for Record {
-    ghost use Rattle.page.specs.RisingChanges.{Changes, IsRising};
+    ghost use Rattle.page.specs.PageChanges.{PageChanges, ArePageChangesRising};
 
-    ghost Value = { Changes };
+    ghost Value = { PageChanges };
 
     ghost view = { λ r. record { page = r.page; words = r.words.items } };
 
-    ghost invariant = { λ r. IsRising r.words.items };
+    ghost invariant = { λ r. ArePageChangesRising r.words.items };
 }
 
 impl Record {
     /// The record of page `page` with these words, as offsets and values.
     pub fn new(page: usize, words: Vec<(usize, u32)>) -> Self
-        requires { IsRising words.items }
+        requires { ArePageChangesRising words.items }
         ensures page { result.page ≡ page }
         ensures words { result.words ≡ words.items }
     {
@@ -36,10 +36,10 @@ impl Record {
     /// The same of words that may be in any order: `None` exactly if their offsets don't rise
     /// strictly.
     pub fn from_words(page: usize, words: Vec<(usize, u32)>) -> Option<Self>
-        ensures some { IsSome result ↔ IsRising words.items }
+        ensures some { IsSome result ↔ ArePageChangesRising words.items }
         ensures value { IfSome result (λ r. (r.page ≡ page) × (r.words ≡ words.items)) }
     {
-        if is_rising_record(&words) {
+        if is_rising_page_record(&words) {
             Some(Record::new(page, words))
         } else {
             None
@@ -56,14 +56,14 @@ impl Record {
     /// The words, as offsets in the page and values.
     pub fn words(&self) -> &[(usize, u32)]
         ensures words { result.now ≡ self.now.words }
-        ensures rising { IsRising self.now.words }
+        ensures rising { ArePageChangesRising self.now.words }
     {
         &self.words
     }
 }
 
-fn is_rising_record(words: &[(usize, u32)]) -> bool
-    ensures { IsTrue result ↔ IsRising words.now }
+fn is_rising_page_record(words: &[(usize, u32)]) -> bool
+    ensures { IsTrue result ↔ ArePageChangesRising words.now }
 {
     for i in 1..words.len() {
         if words[i].0 <= words[i - 1].0 {

@@ -13,20 +13,20 @@ deeds-append xs ys =
     ∙ filter-append is_deed (map (λ (e : Event). e.kind) xs) (map (λ (e : Event). e.kind) ys)
 
 -- what p did of these events and then of those
-pub own_deeds-append : (xs ys : List Event) (p : ℕ) → deeds (events_of (xs ++ ys) p) ≡ deeds (events_of xs p) ++ deeds (events_of ys p)
-own_deeds-append xs ys p =
+pub deeds_of_processor-append : (xs ys : List Event) (p : ℕ) → deeds (events_of (xs ++ ys) p) ≡ deeds (events_of xs p) ++ deeds (events_of ys p)
+deeds_of_processor-append xs ys p =
     ap deeds (filter-append (λ (e : Event). e.processor == p) xs ys) ∙ deeds-append (events_of xs p) (events_of ys p)
 
 -- p's own deed is what it did
-pub own_deed : (e : Event) (p : ℕ) → (e.processor == p) ≡ true → is_deed e.kind ≡ true
+pub deed_of_own_event : (e : Event) (p : ℕ) → (e.processor == p) ≡ true → is_deed e.kind ≡ true
     → deeds (events_of (e ∷ []) p) ≡ e.kind ∷ []
-own_deed e p own deed = rw own (rw deed refl)
+deed_of_own_event e p own deed = rw own (rw deed refl)
 
 -- another's is not
-pub others_deed : (e : Event) (p : ℕ) → (e.processor == p) ≡ false → deeds (events_of (e ∷ []) p) ≡ []
-others_deed e p other = rw other refl
+pub deed_of_others_event : (e : Event) (p : ℕ) → (e.processor == p) ≡ false → deeds (events_of (e ∷ []) p) ≡ []
+deed_of_others_event e p other = rw other refl
 
 -- nor is a fetch
-pub no_deed : (e : Event) (p : ℕ) → (e.processor == p) ≡ true → is_deed e.kind ≡ false
+pub deeds_of_fetch : (e : Event) (p : ℕ) → (e.processor == p) ≡ true → is_deed e.kind ≡ false
     → deeds (events_of (e ∷ []) p) ≡ []
-no_deed e p own fetch = rw own (rw fetch refl)
+deeds_of_fetch e p own fetch = rw own (rw fetch refl)

@@ -1,20 +1,22 @@
 mod Deeds
-mod Guards
-mod Phases
-mod Guarded
-mod Layouts
-mod SeatCalls
+mod DeedHistories
+mod PhaseOrders
+mod GuardedDeeds
+mod LayoutTables
+mod SeatAccess
 mod SeatClosings
-mod Seats
-mod ProgramRuns
-mod Kept
-pub mod Tenures
+mod StillSitting
+mod ProgramThreads
+mod KeptSeats
+pub mod KeptFacts
 pub mod KeptByPrograms
 pub mod Rounds
-pub mod Totals
-pub mod TotalsInHistories
+pub mod AddedTallies
+pub mod TalliedHistories
 pub mod KeptReads
-pub mod Acting
+pub mod SeatActing
 pub mod GuardedRuns
-pub mod Balances
+pub mod BalancedTenures
 pub mod BalancedRuns
+mod SummedLoads
+mod WeighedSides

@@ -9,7 +9,7 @@
 pub mod PhaseAccesses
 pub mod RoundMade
 pub mod RoundSteps
-pub mod RoundsLaw
+pub mod RoundHistories
 pub mod MakingRounds
 pub mod GridRounds
 pub mod EvenRounds

@@ -1,17 +1,17 @@
 -- Runs of a program by a layout that leaves no word open to all.
 use Rattle.std.specs.Prelude.{ℕ, ◌≡◌, List, length, replicate}
 use Rattle.journal.specs.declared.event.Kind.{Kind}
-use Rattle.journal.specs.FlatMemory.{Replays, memory_after}
+use Rattle.journal.specs.ReplayMemory.{Replays, memory_after}
 use Rattle.journal.specs.Log.{Log}
 use Rattle.journal.specs.Sizes.{Sizes, addresses}
 use Rattle.seats.specs.ProgramRuns.{IsProgramRun}
-use Rattle.seats.specs.Tables.{GuardTables, NoneOpen}
+use Rattle.seats.specs.Tables.{GuardTables, TablesOpenNothing}
 
 -- it is a run of the program, all replies are those of one flat memory, and these are its words at the end
 pub record IsGuardedRun {X : Type 0} (g : GuardTables) (did : ℕ → List Kind → X → Type 0) (s : Sizes) (answers : List X)
     (memory : List ℕ) (j : Log) : Type 0 where
   pub ran : IsProgramRun g did s answers j
-  pub closed : NoneOpen g
+  pub closed : TablesOpenNothing g
   pub flat : Replays (replicate (addresses s) 0) ran.history
   pub memory_is : memory ≡ memory_after (replicate (addresses s) 0) ran.history
   pub long : length memory ≡ addresses s

@@ -1,11 +1,11 @@
 pub mod Acting
-pub mod Balances
+pub mod BalanceFacts
 pub mod Deeds
-pub mod Grids
+pub mod GridPairs
 pub mod GuardedRuns
-pub mod Guards
-pub mod Kept
-pub mod Laws
+pub mod PhaseGuards
+pub mod KeptLayout
+pub mod GuardLaws
 pub mod Loads
 pub mod Prelude
 pub mod ProgramRuns
@@ -15,4 +15,4 @@ pub mod Sitting
 pub mod Stencils
 pub mod Tables
 pub mod Tenures
-pub mod Totals
+pub mod WordTallies

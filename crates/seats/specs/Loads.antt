@@ -4,7 +4,7 @@ use Rattle.journal.specs.declared.event.Kind.{Kind}
 use Rattle.journal.specs.declared.event.Kind.TheVariants.{Load}
 use Rattle.cluster.specs.Copies.Local.{Local}
 use Rattle.seats.specs.Sitting.{seat_deeds}
-use Rattle.seats.specs.Tenures.{AnswersFrom}
+use Rattle.seats.specs.Tenures.{TenureAnswersFrom}
 
 -- each of these is a load of an address from one up to before another
 abbrev pub LoadsWithin : ℕ → ℕ → List Kind → Type 0
@@ -17,4 +17,4 @@ pub record LoadsValue {X : Type 0} (from to : ℕ) (value : List ℕ → X) (old
   pub loads : List Kind
   pub within : LoadsWithin from to loads
   pub deeds_are : seat_deeds new ≡ seat_deeds old ++ loads
-  pub value_is : (memory : List ℕ) → AnswersFrom memory loads → value memory ≡ x
+  pub value_is : (memory : List ℕ) → TenureAnswersFrom memory loads → value memory ≡ x

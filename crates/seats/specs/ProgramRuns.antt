@@ -6,65 +6,65 @@ use Rattle.journal.specs.Events.{events_of}
 use Rattle.journal.specs.Log.{Log}
 use Rattle.journal.specs.Races.{RaceFree}
 use Rattle.journal.specs.Sizes.{Sizes}
-use Rattle.cluster.specs.Clusters.{shared_cluster}
+use Rattle.cluster.specs.NewClusters.{shared_cluster}
 use Rattle.cluster.specs.Copies.Local.{Local}
 use Rattle.cluster.specs.FaithfulJournals.{IsFaithful, IsJournalOf}
 use Rattle.seats.specs.Deeds.{deeds}
-use Rattle.seats.specs.Laws.{AllKeepTo}
-use Rattle.seats.specs.Sitting.{HasWorked, SeatId}
-use Rattle.seats.specs.Tables.{GuardTables, NoneOpen, guards_of}
+use Rattle.seats.specs.GuardLaws.{AllKeepToPhaseGuards}
+use Rattle.seats.specs.Sitting.{HasWorkedSitting, SittingSeat}
+use Rattle.seats.specs.Tables.{GuardTables, TablesOpenNothing, guards_of}
 use Rattle.seats.specs.declared.running.threads.Workers.{Workers}
 use Rattle.seats.specs.declared.fault.SeatFault.{SeatFault}
 use Rattle.seats.specs.declared.fault.SeatFault.TheVariants.{NoThread}
 
 -- the seat of this processor, under this layout
-abbrev pub seat_of_processor : GuardTables → Local → SeatId
-seat_of_processor g m = record { cluster = shared_cluster m.lock m.sizes; number = m.number; layout = g }
+abbrev pub program_run_seat : GuardTables → Local → SittingSeat
+program_run_seat g m = record { cluster = shared_cluster m.lock m.sizes; number = m.number; layout = g }
 
 -- what a thread is started with
-pub record SeatErrand : Type 0 where
+pub record ProgramRunErrand : Type 0 where
   pub processor : Local
   pub layout : GuardTables
 
 -- what a thread that was started so, or couldn't be started, gives back
-abbrev pub IsThreadWork : {X : Type 0} → (ℕ → List Kind → X → Type 0) → Option SeatErrand → Result (Local × X) SeatFault → Type 0
-IsThreadWork did (Some e) (Ok r) = HasWorked did (seat_of_processor e.layout e.processor) r.0 r.1
-IsThreadWork did (Some e) (Err fault) = Unit {0}
-IsThreadWork did None (Ok r) = ⊥
-IsThreadWork did None (Err fault) = fault ≡ NoThread
+abbrev pub IsProgramRunWork : {X : Type 0} → (ℕ → List Kind → X → Type 0) → Option ProgramRunErrand → Result (Local × X) SeatFault → Type 0
+IsProgramRunWork did (Some e) (Ok r) = HasWorkedSitting did (program_run_seat e.layout e.processor) r.0 r.1
+IsProgramRunWork did (Some e) (Err fault) = Unit {0}
+IsProgramRunWork did None (Ok r) = ⊥
+IsProgramRunWork did None (Err fault) = fault ≡ NoThread
 
 -- a thread for each of these processors, under this layout, or None if it couldn't be started
-pub record AreThreadsSeated (g : GuardTables) (ms : List Local) (threads : List (Option SeatErrand)) : Type 0 where
+pub record AreSeatedForProgramRun (g : GuardTables) (ms : List Local) (threads : List (Option ProgramRunErrand)) : Type 0 where
   pub all : length threads ≡ length ms
-  pub each : (p : ℕ) (e : SeatErrand) → slice_get threads p ≡ Some (Some e)
+  pub each : (p : ℕ) (e : ProgramRunErrand) → slice_get threads p ≡ Some (Some e)
       → (slice_get ms p ≡ Some e.processor) × (e.layout ≡ g)
 
 -- nobody has come to an end yet, or faulted
-pub record IsNobody {X : Type 0} (w : Workers X) : Type 0 where
+pub record IsNobodyInProgramRun {X : Type 0} (w : Workers X) : Type 0 where
   pub processors_none : w.processors.items ≡ []
   pub answers_none : w.answers.items ≡ []
   pub fault_none : w.fault ≡ None
 
 -- there is room for as many
-pub record HasRoomForWorkers {X : Type 0} (w : Workers X) (count : ℕ) : Type 0 where
+pub record HasRoomForProgramRun {X : Type 0} (w : Workers X) (count : ℕ) : Type 0 where
   pub processors_fit : count ≤ vec_capacity w.processors
   pub answers_fit : count ≤ vec_capacity w.answers
 
 -- each of these threads was started, and gave back its processor, which has worked, and an answer
-pub record HaveAllJoined {X : Type 0} (did : ℕ → List Kind → X → Type 0) (threads : List (Option SeatErrand)) (worked : List Local)
+pub record HaveAllJoinedProgramRun {X : Type 0} (did : ℕ → List Kind → X → Type 0) (threads : List (Option ProgramRunErrand)) (worked : List Local)
     (answers : List X) : Type 0 where
   pub worked_all : length worked ≡ length threads
   pub answered_all : length answers ≡ length threads
   pub each : (p : ℕ) (n : Local) (x : X) → slice_get worked p ≡ Some n → slice_get answers p ≡ Some x
-      → (e : SeatErrand) × (slice_get threads p ≡ Some (Some e)) × HasWorked did (seat_of_processor e.layout e.processor) n x
+      → (e : ProgramRunErrand) × (slice_get threads p ≡ Some (Some e)) × HasWorkedSitting did (program_run_seat e.layout e.processor) n x
 
 -- each of these processors has worked under this layout, and answered so
-pub record HaveAllWorked {X : Type 0} (g : GuardTables) (did : ℕ → List Kind → X → Type 0) (ms worked : List Local)
+pub record HaveAllWorkedInProgramRun {X : Type 0} (g : GuardTables) (did : ℕ → List Kind → X → Type 0) (ms worked : List Local)
     (answers : List X) : Type 0 where
   pub worked_all : length worked ≡ length ms
   pub answered_all : length answers ≡ length ms
   pub each : (p : ℕ) (m n : Local) (x : X) → slice_get ms p ≡ Some m → slice_get worked p ≡ Some n
-      → slice_get answers p ≡ Some x → HasWorked did (seat_of_processor g m) n x
+      → slice_get answers p ≡ Some x → HasWorkedSitting did (program_run_seat g m) n x
 
 -- the journal has the whole history of a cluster of these sizes, which is faithful; each processor kept to the layout, so that
 -- nothing races if no word is open to all, and did what the program says of its number, what it did, and its answer
@@ -73,7 +73,7 @@ pub record IsProgramRun {X : Type 0} (g : GuardTables) (did : ℕ → List Kind 
   pub history : List Event
   pub journal : IsJournalOf s [] history j
   pub faithful : IsFaithful s history
-  pub kept : AllKeepTo (guards_of g) history
-  pub race_free : NoneOpen g → RaceFree history
+  pub kept : AllKeepToPhaseGuards (guards_of g) history
+  pub race_free : TablesOpenNothing g → RaceFree history
   pub all : length answers ≡ s.processors
   pub done : (p : ℕ) (x : X) → slice_get answers p ≡ Some x → did p (deeds (events_of history p)) x

@@ -2,7 +2,7 @@
 use Rattle.std.specs.Prelude.{ℕ, zero, suc, ◌+◌, List, map}
 use Rattle.std.specs.List.{range_with_len}
 use Rattle.cluster.specs.Copies.Local.{Local}
-use Rattle.seats.specs.Grids.{GridSteps, block_end, block_start, grid_at, grid_made, grid_read, grid_rounds, steps}
+use Rattle.seats.specs.GridPairs.{GridPairSteps, grid_pair_block_end, grid_pair_block_start, grid_pair_at, grid_pair_made, grid_pair_read, grid_pair_rounds, grid_pair_steps}
 use Rattle.seats.specs.Loads.{LoadsValue}
 use Rattle.seats.specs.Rounds.{IsMaking, Rounds}
 
@@ -14,22 +14,22 @@ pub record StencilSteps : Type 0 where
   pub next : List ℕ → ℕ → ℕ
 
 -- a grid whose words are these, by cell
-abbrev pub grid_of : ℕ → (ℕ → ℕ) → List ℕ
-grid_of cells word = map word (range_with_len 0 cells)
+abbrev pub stencil_grid_of : ℕ → (ℕ → ℕ) → List ℕ
+stencil_grid_of cells word = map word (range_with_len 0 cells)
 
 -- all cells after a step
 abbrev pub stencil_step : StencilSteps → List ℕ → List ℕ
-stencil_step x words = grid_of x.cells (x.next words)
+stencil_step x words = stencil_grid_of x.cells (x.next words)
 
-abbrev pub stencil_grids : StencilSteps → GridSteps
-stencil_grids x = record { cells = x.cells; share = x.share; start = grid_of x.cells x.first; step = stencil_step x }
+abbrev pub stencil_grids : StencilSteps → GridPairSteps
+stencil_grids x = record { cells = x.cells; share = x.share; start = stencil_grid_of x.cells x.first; step = stencil_step x }
 
 abbrev pub stencil_rounds : StencilSteps → Rounds
-stencil_rounds x = grid_rounds (stencil_grids x)
+stencil_rounds x = grid_pair_rounds (stencil_grids x)
 
 -- a grid that is the start after n steps
 unfoldable pub stencil_after : StencilSteps → ℕ → List ℕ
-stencil_after x n = steps (stencil_step x) n (grid_of x.cells x.first)
+stencil_after x n = grid_pair_steps (stencil_step x) n (stencil_grid_of x.cells x.first)
 
 -- what round n makes of a cell
 abbrev pub stencil_word : StencilSteps → ℕ → List ℕ → ℕ → ℕ
@@ -37,11 +37,11 @@ stencil_word x zero words cell = x.first cell
 stencil_word x (suc n) words cell = x.next words cell
 
 -- it has only loaded cells of the grid that round n reads, and of any grid that answers so this is the value
-abbrev pub LoadsGrid : {X : Type 0} → ℕ → ℕ → (List ℕ → X) → Local → Local → X → Type 0
-LoadsGrid cells n value old new x =
-    LoadsValue (grid_read cells n) (grid_read cells n + cells) (λ memory. value (grid_at cells (grid_read cells n) memory)) old new x
+abbrev pub HasStencilLoads : {X : Type 0} → ℕ → ℕ → (List ℕ → X) → Local → Local → X → Type 0
+HasStencilLoads cells n value old new x =
+    LoadsValue (grid_pair_read cells n) (grid_pair_read cells n + cells) (λ memory. value (grid_pair_at cells (grid_pair_read cells n) memory)) old new x
 
 -- processor p has made its block of the grid that round n makes
-abbrev pub HasMadeBlock : StencilSteps → ℕ → ℕ → Local → Local → Type 0
-HasMadeBlock x n p old new =
-    IsMaking (stencil_rounds x) n (grid_made x.cells n + block_start x.cells x.share p) (grid_made x.cells n + block_end x.cells x.share p) old new
+abbrev pub IsStencilBlockMade : StencilSteps → ℕ → ℕ → Local → Local → Type 0
+IsStencilBlockMade x n p old new =
+    IsMaking (stencil_rounds x) n (grid_pair_made x.cells n + grid_pair_block_start x.cells x.share p) (grid_pair_made x.cells n + grid_pair_block_end x.cells x.share p) old new

@@ -2,7 +2,7 @@
 use Rattle.std.specs.Prelude.{ℕ, zero, suc, ◌≡◌, ◌≢◌, ◌+◌, ◌==◌, Option, Some, List, if◌then◌else◌, Bool, true, ◌&&◌, nat_le, nat_lt, length, slice_get, get_or, []}
 use Rattle.seats.specs.declared.guard.Guard.{Guard}
 use Rattle.seats.specs.declared.guard.Guard.TheVariants.{Open}
-use Rattle.seats.specs.Guards.{Guards}
+use Rattle.seats.specs.PhaseGuards.{PhaseGuards}
 
 -- tables with a guard for each address from 0: one for each phase in turn, and after the last comes the first of the round
 pub record GuardTables : Type 0 where
@@ -10,38 +10,38 @@ pub record GuardTables : Type 0 where
   pub round : ℕ
 
 -- the table of the phase after one with this table
-abbrev pub next_table : GuardTables → ℕ → ℕ
-next_table g t = if nat_lt (t + 1) (length g.tables) then t + 1 else g.round
+abbrev pub table_next : GuardTables → ℕ → ℕ
+table_next g t = if nat_lt (t + 1) (length g.tables) then t + 1 else g.round
 
 -- the table of a phase
 abbrev pub table_at : GuardTables → ℕ → ℕ
 table_at g zero = 0
-table_at g (suc k) = next_table g (table_at g k)
+table_at g (suc k) = table_next g (table_at g k)
 
 -- the guard of an address in a table, if it has one
-abbrev pub guard_in : GuardTables → ℕ → ℕ → Option Guard
-guard_in g t a = slice_get (get_or g.tables t []) a
+abbrev pub table_guard : GuardTables → ℕ → ℕ → Option Guard
+table_guard g t a = slice_get (get_or g.tables t []) a
 
 -- the guards by phase
-abbrev pub guards_of : GuardTables → Guards
-guards_of g k a = guard_in g (table_at g k) a
+abbrev pub guards_of : GuardTables → PhaseGuards
+guards_of g k a = table_guard g (table_at g k) a
 
 -- no address is open to all
-abbrev pub NoneOpen : GuardTables → Type 0
-NoneOpen g = (t a : ℕ) → guard_in g t a ≢ Some Open
+abbrev pub TablesOpenNothing : GuardTables → Type 0
+TablesOpenNothing g = (t a : ℕ) → table_guard g t a ≢ Some Open
 
 -- the guard of an address that is given this one, if so and if it has one
-abbrev pub guard_put : Bool → Guard → Option Guard → Option Guard
-guard_put true guard (Some old) = Some guard
-guard_put b guard o = o
+abbrev pub table_guard_put : Bool → Guard → Option Guard → Option Guard
+table_guard_put true guard (Some old) = Some guard
+table_guard_put b guard o = o
 
 -- whether an address is one of these
-abbrev pub is_between : ℕ → ℕ → ℕ → Bool
-is_between from to a = nat_le from a && nat_lt a to
+abbrev pub table_range_has : ℕ → ℕ → ℕ → Bool
+table_range_has from to a = nat_le from a && nat_lt a to
 
 -- the addresses from one up to before another were given this guard in the table, if they have one there
-pub record IsPut (old : GuardTables) (table from to : ℕ) (guard : Guard) (new : GuardTables) : Type 0 where
+pub record IsPutInTable (old : GuardTables) (table from to : ℕ) (guard : Guard) (new : GuardTables) : Type 0 where
   pub round : new.round ≡ old.round
   pub tables : length new.tables ≡ length old.tables
-  pub each : (t a : ℕ) → guard_in new t a
-      ≡ guard_put ((t == table) && is_between from to a) guard (guard_in old t a)
+  pub each : (t a : ℕ) → table_guard new t a
+      ≡ table_guard_put ((t == table) && table_range_has from to a) guard (table_guard old t a)

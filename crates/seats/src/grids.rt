@@ -1,6 +1,6 @@
 //! Two grids, of which each round makes one from the other.
 ghost use Rattle.std.specs.Prelude.{◌≡◌, IfOk};
-ghost use Rattle.seats.specs.Prelude.{NoneOpen, block_end, block_start, grid_made, grid_read};
+ghost use Rattle.seats.specs.Prelude.{TablesOpenNothing, grid_pair_block_end, grid_pair_block_start, grid_pair_made, grid_pair_read};
 
 use crate::guard::Guard;
 use crate::layout::Layout;
@@ -19,28 +19,28 @@ pub struct Grids {
 impl Grids {
     /// The address at which the grid begins that this round makes.
     pub fn made(self, round: usize) -> usize
-        ensures { result ≡ grid_made self.cells round }
+        ensures { result ≡ grid_pair_made self.cells round }
     {
         if round % 2 == 0 { 0 } else { self.cells }
     }
 
     /// The address at which the grid begins that this round reads.
     pub fn read(self, round: usize) -> usize
-        ensures { result ≡ grid_read self.cells round }
+        ensures { result ≡ grid_pair_read self.cells round }
     {
         if round % 2 == 0 { self.cells } else { 0 }
     }
 
     /// The first cell of a processor's block.
     pub fn block_start(self, number: usize) -> usize
-        ensures { result ≡ block_start self.cells self.share number }
+        ensures { result ≡ grid_pair_block_start self.cells self.share number }
     {
         number.saturating_mul(self.share).min(self.cells)
     }
 
     /// The cell behind a processor's block.
     pub fn block_end(self, number: usize) -> usize
-        ensures { result ≡ block_end self.cells self.share number }
+        ensures { result ≡ grid_pair_block_end self.cells self.share number }
     {
         let start = self.block_start(number);
         start.saturating_add(self.share).min(self.cells)
@@ -49,7 +49,7 @@ impl Grids {
     /// The layout by which each processor may store to its block of the grid that a round makes, and all may load the other
     /// grid. No word of it is open to all. The only error is running out of memory.
     pub fn layout(self, alloc: Global, processors: usize) -> Result<Layout, AllocError>
-        ensures { IfOk result NoneOpen }
+        ensures { IfOk result TablesOpenNothing }
     {
         let words = self.cells.checked_mul(2).ok_or(AllocError)?;
         let mut layout = Layout::new(alloc, words, 0, 2)?;
@@ -60,7 +60,7 @@ impl Grids {
 
     /// The guards of a round, in its table.
     fn put_round(self, layout: &mut Layout, round: usize, processors: usize)
-        ensures { NoneOpen layout.old → NoneOpen layout.new }
+        ensures { TablesOpenNothing layout.old → TablesOpenNothing layout.new }
     {
         let (read, made) = (self.read(round), self.made(round));
         layout.put(round, read, read.saturating_add(self.cells), Guard::Shared);

@@ -1,6 +1,6 @@
 //! Layouts: who may access which words in which phase.
 ghost use Rattle.std.specs.Prelude.{◌≡◌, ◌≢◌, ◌+◌, ◌<◌, ◌∷◌, [], ℕ, IfOk, IfNone, Some, length, max, replicate, slice_get};
-ghost use Rattle.seats.specs.Prelude.{IsPut, NoneOpen, guard_in, guard_put, is_between, next_table};
+ghost use Rattle.seats.specs.Prelude.{IsPutInTable, TablesOpenNothing, table_guard, table_guard_put, table_range_has, table_next};
 ghost use Rattle.seats.specs.declared.guard.Guard.TheVariants.{Of, Open};
 
 use crate::guard::Guard;
@@ -72,7 +72,7 @@ impl Layout {
 
     /// Gives the addresses from `from` up to before `to` this guard in the table. It does nothing past the end of either.
     pub fn put(&mut self, table: usize, from: usize, to: usize, guard: Guard)
-        ensures { IsPut self.old table from to guard self.new }
+        ensures { IsPutInTable self.old table from to guard self.new }
     {
         if table < self.tables.len() {
             put_in(&mut self.tables[table], from, to, guard);
@@ -81,7 +81,7 @@ impl Layout {
 
     /// The guard of the address in the table: None past the end of either.
     pub fn guard(&self, table: usize, address: usize) -> Option<Guard>
-        ensures { result ≡ guard_in self.now table address }
+        ensures { result ≡ table_guard self.now table address }
     {
         let table = self.tables.get(table)?;
         table.get(address).copied()
@@ -89,7 +89,7 @@ impl Layout {
 
     /// The table of the phase that follows one with this table.
     pub fn next(&self, table: usize) -> usize
-        ensures { result ≡ next_table self.now table }
+        ensures { result ≡ table_next self.now table }
     {
         if table < self.tables.len() - 1 {
             table + 1
@@ -100,7 +100,7 @@ impl Layout {
 
     /// The first address that is open to all in some table: None if there is none.
     pub fn first_open(&self) -> Option<usize>
-        ensures { IfNone result (NoneOpen self.now) }
+        ensures { IfNone result (TablesOpenNothing self.now) }
     {
         for table in 0..self.tables.len() {
             match first_open_in(self.tables[table].as_slice()) {
@@ -128,7 +128,7 @@ fn first_open_in(table: &[Guard]) -> Option<usize>
 fn put_in(table: &mut Vec<Guard>, from: usize, to: usize, guard: Guard)
     ensures long { length table.new.items ≡ length table.old.items }
     ensures each { (a : ℕ) → slice_get table.new.items a
-        ≡ guard_put (is_between from to a) guard (slice_get table.old.items a) }
+        ≡ table_guard_put (table_range_has from to a) guard (slice_get table.old.items a) }
 {
     for address in from..to.min(table.len()) {
         table[address] = guard;

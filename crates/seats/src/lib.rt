@@ -23,8 +23,6 @@
 //! `kept_law`: what each tenure of a lock, from the acquire to the release, preserves of the words under it holds at the end.
 #![tactic(auto)]
 
-mod accesses;
-mod closings;
 mod fault;
 mod grids;
 mod guard;
@@ -33,12 +31,14 @@ mod layout;
 mod program;
 mod running;
 mod seat;
+mod seat_closings;
+mod seat_words;
 mod sitting;
 mod stencil;
 #[cfg(test)]
 mod tests;
-mod typed;
-mod words;
+mod word;
+mod word_access;
 
 pub use fault::{ProcessorFault, SeatFault};
 pub use grids::Grids;
@@ -49,4 +49,4 @@ pub use running::{GuardedRun, ProgramRun, run, run_guarded};
 pub use seat::Seat;
 pub use sitting::Sitting;
 pub use stencil::Stencil;
-pub use typed::Word;
+pub use word::Word;

@@ -2,12 +2,12 @@
 ghost use Rattle.std.specs.Prelude.{◌≡◌, ℕ, List, IfOk};
 ghost use Rattle.journal.specs.declared.event.Kind.{Kind};
 ghost use Rattle.cluster.specs.Prelude.{HasCoverage};
-ghost use Rattle.seats.specs.Prelude.{HasWorked, IsAllowed, IsSitting, new_seat, seat_deeds};
+ghost use Rattle.seats.specs.Prelude.{HasWorkedSitting, IsCoverAllowed, IsSitting, new_sitting_processor, seat_deeds};
 
 use crate::fault::SeatFault;
 use crate::layout::Layout;
 use crate::seat::Seat;
-use crate::sitting::{Placed, Placing, Sitting};
+use crate::sitting::{PlacedSitting, Placing, Sitting};
 use cluster::{BookLock, Cluster, Processor};
 use std::marker::Brand;
 use std::sync::Wait;
@@ -22,7 +22,7 @@ pub trait Program: Sync {
 
     /// Does a processor's part, from its first call on.
     fn work<S: Sitting>(&self, seat: &mut Seat<'_, S>) -> Result<Self::Answer, SeatFault>
-        requires { seat.old ≡ new_seat S.at }
+        requires { seat.old ≡ new_sitting_processor S.at }
         ensures { IfOk result (λ x. did S.at.number (seat_deeds seat.new) x) };
 }
 
@@ -35,20 +35,20 @@ pub fn sit<P: Program, R: Wait>(
     layout: &Layout,
     program: &P,
 ) -> Result<(Processor<BookLock>, P::Answer), SeatFault>
-    requires new { processor ≡ new_seat (record { cluster = cluster.now; number = processor.number; layout = layout.now }) }
+    requires new { processor ≡ new_sitting_processor (record { cluster = cluster.now; number = processor.number; layout = layout.now }) }
     requires covers { HasCoverage processor }
-    requires allowed { IsAllowed processor }
-    ensures { IfOk result (λ r. HasWorked P.did
+    requires allowed { IsCoverAllowed processor }
+    ensures { IfOk result (λ r. HasWorkedSitting P.did
         (record { cluster = cluster.now; number = processor.number; layout = layout.now }) r.0 r.1) }
 {
     let number = processor.number();
-    let worked = sit_at::<Brand, P, R>(rt, cluster, processor, layout, program);
+    let worked = sit_program_on_seat::<Brand, P, R>(rt, cluster, processor, layout, program);
     cluster.end(number);
     worked
 }
 
 /// The same on the seat that `J` names.
-fn sit_at<J: Placing, P: Program, R: Wait>(
+fn sit_program_on_seat<J: Placing, P: Program, R: Wait>(
     rt: &R,
     cluster: &Cluster<BookLock>,
     processor: Processor<BookLock>,
@@ -56,12 +56,12 @@ fn sit_at<J: Placing, P: Program, R: Wait>(
     program: &P,
 ) -> Result<(Processor<BookLock>, P::Answer), SeatFault>
     requires at { J.at ≡ record { cluster = cluster.now; number = processor.number; layout = layout.now } }
-    requires new { processor ≡ new_seat J.at }
+    requires new { processor ≡ new_sitting_processor J.at }
     requires covers { HasCoverage processor }
-    requires allowed { IsAllowed processor }
-    ensures { IfOk result (λ r. HasWorked P.did J.at r.0 r.1) }
+    requires allowed { IsCoverAllowed processor }
+    ensures { IfOk result (λ r. HasWorkedSitting P.did J.at r.0 r.1) }
 {
-    let handle = Placed::<J, R>::by(rt);
+    let handle = PlacedSitting::<J, R>::by(rt);
     work(&handle, cluster, processor, layout, program)
 }
 
@@ -74,11 +74,11 @@ fn work<S: Sitting, P: Program>(
     program: &P,
 ) -> Result<(Processor<BookLock>, P::Answer), SeatFault>
     requires sits { IsSitting S.at cluster.now processor }
-    requires new { processor ≡ new_seat S.at }
+    requires new { processor ≡ new_sitting_processor S.at }
     requires layout { layout.now ≡ S.at.layout }
-    ensures { IfOk result (λ r. HasWorked P.did S.at r.0 r.1) }
+    ensures { IfOk result (λ r. HasWorkedSitting P.did S.at r.0 r.1) }
 {
     let mut seat = Seat::new(rt, cluster, processor, layout);
     let answer = program.work(&mut seat)?;
-    Ok((seat.into_processor(), answer))
+    Ok((seat.vacate(), answer))
 }

@@ -7,7 +7,7 @@ ghost use Rattle.seats.specs.declared.fault.SeatFault.TheVariants as fault;
 
 mod threads;
 
-use self::threads::{Workers, work_all};
+use self::threads::{Workers, work_on_seat_threads};
 use crate::fault::{ProcessorFault, SeatFault};
 use crate::layout::Layout;
 use crate::program::Program;
@@ -53,7 +53,7 @@ pub fn run<P: Program, R: Threads + Wait + Sync>(
         → result ≡ Err (record { processor = 0; fault = fault.Refused BadSize }) }
 {
     let (cluster, all) = Cluster::<BookLock>::new(alloc, processors, pages, words, locks, flags)?;
-    let workers = work_all(rt, alloc, &cluster, all, layout, program)?;
+    let workers = work_on_seat_threads(rt, alloc, &cluster, all, layout, program)?;
     let Workers {
         processors,
         answers,

@@ -2,18 +2,18 @@
 ghost use Rattle.std.specs.Prelude.{◌≡◌, ◌/◌, ◌∷◌, [], Err, IfOk, OnErr, OnOk, Some, false, true, slice_index_or};
 ghost use Rattle.book.specs.declared.refused.Refused.{Refused as ARefusal};
 ghost use Rattle.journal.specs.declared.event.Kind.TheVariants as kind;
-ghost use Rattle.cluster.specs.Prelude.{arrive_refusal, ask_refusal, flag_refusal, release_refusal};
-ghost use Rattle.seats.specs.Prelude.{AccessesPage, HasDone, IsLeftUndone, IsSitting, may_seat_access, new_seat, seat_access_refusal, seat_deeds};
-ghost use Rattle.seats.specs.Guards.{KeepsTo};
+ghost use Rattle.cluster.specs.Prelude.{processor_refusal_of_arrival, processor_refusal_of_ask, processor_refusal_of_flag, processor_refusal_of_release};
+ghost use Rattle.seats.specs.Prelude.{AccessesPage, HasDone, IsLeftUndone, IsSitting, kept_layout_lets_access, new_sitting_processor, seat_call_refusal_at_once, seat_deeds};
+ghost use Rattle.seats.specs.PhaseGuards.{KeepsToPhaseGuards};
 ghost use Rattle.seats.specs.Tables.{guards_of};
 ghost use Rattle.seats.specs.declared.fault.SeatFault.TheVariants as fault;
 
-use crate::accesses::{WordAccess, access_word};
-use crate::closings::pass;
 use crate::fault::SeatFault;
 use crate::guard::Guard;
 use crate::layout::Layout;
+use crate::seat_closings::pass;
 use crate::sitting::Sitting;
+use crate::word_access::{WordAccess, access_word};
 use cluster::{BookLock, Cluster, Processor};
 use journal::Closing;
 use std::marker::Model;
@@ -37,14 +37,14 @@ impl<'a, S: Sitting> Model for Seat<'a, S> {
     ghost use Rattle.std.specs.Prelude.{◌≡◌};
     ghost use Rattle.cluster.specs.Copies.Local.{Local};
     ghost use Rattle.seats.specs.Sitting.{IsSitting};
-    ghost use Rattle.seats.specs.Kept.{IsKeptSeat};
+    ghost use Rattle.seats.specs.KeptLayout.{HasKeptSeatLayout};
 
     ghost Value = { Local };
 
     ghost view = { λ s. s.processor };
 
     ghost invariant = { λ s. IsSitting S.at s.cluster.now s.processor × (s.layout.now ≡ S.at.layout)
-        × IsKeptSeat S.at s.table s.processor };
+        × HasKeptSeatLayout S.at s.table s.processor };
 }
 
 impl<'a, S: Sitting> Seat<'a, S> {
@@ -56,7 +56,7 @@ impl<'a, S: Sitting> Seat<'a, S> {
         layout: &'a Layout,
     ) -> Seat<'a, S>
         requires sits { IsSitting S.at cluster.now processor }
-        requires new { processor ≡ new_seat S.at }
+        requires new { processor ≡ new_sitting_processor S.at }
         requires layout { layout.now ≡ S.at.layout }
         ensures { result ≡ processor }
     {
@@ -70,10 +70,10 @@ impl<'a, S: Sitting> Seat<'a, S> {
     }
 
     /// Its processor, at the end.
-    pub(crate) fn into_processor(self) -> Processor<BookLock>
+    pub(crate) fn vacate(self) -> Processor<BookLock>
         ensures is { result ≡ self.entry }
         ensures sits { IsSitting S.at S.at.cluster result }
-        ensures kept { KeepsTo (guards_of S.at.layout) S.at.number (seat_deeds result) }
+        ensures kept { KeepsToPhaseGuards (guards_of S.at.layout) S.at.number (seat_deeds result) }
     {
         let Seat {
             rt: _,
@@ -87,7 +87,7 @@ impl<'a, S: Sitting> Seat<'a, S> {
 
     /// Whether the layout lets it access the address now.
     pub(crate) fn may_access(&self, address: usize, stores: bool) -> bool
-        ensures { result ≡ may_seat_access S.at self.now address stores }
+        ensures { result ≡ kept_layout_lets_access S.at self.now address stores }
     {
         match self.layout.guard(self.table, address) {
             Some(Guard::Under(lock)) => self.processor.holds(lock),
@@ -123,10 +123,10 @@ impl<'a, S: Sitting> Seat<'a, S> {
         ensures ok { IfOk result (λ v. AccessesPage self.old self.new (address / self.old.sizes.words)
             (kind.Load address v ∷ [])) }
         ensures err { OnErr result (AccessesPage self.old self.new (address / self.old.sizes.words) []) }
-        ensures barred { may_seat_access S.at self.old address false ≡ false
+        ensures barred { kept_layout_lets_access S.at self.old address false ≡ false
             → (result ≡ Err (fault.NotAllowed address)) × (self.new ≡ self.old) }
-        ensures outside { (e : ARefusal) → may_seat_access S.at self.old address false ≡ true
-            → seat_access_refusal self.old address ≡ Some e → (result ≡ Err (fault.Refused e)) × (self.new ≡ self.old) }
+        ensures outside { (e : ARefusal) → kept_layout_lets_access S.at self.old address false ≡ true
+            → seat_call_refusal_at_once self.old address ≡ Some e → (result ≡ Err (fault.Refused e)) × (self.new ≡ self.old) }
     {
         if !self.may_access(address, false) {
             return Err(SeatFault::NotAllowed(address));
@@ -149,10 +149,10 @@ impl<'a, S: Sitting> Seat<'a, S> {
         ensures ok { OnOk result (AccessesPage self.old self.new (address / self.old.sizes.words)
             (kind.Store address word ∷ [])) }
         ensures err { OnErr result (AccessesPage self.old self.new (address / self.old.sizes.words) []) }
-        ensures barred { may_seat_access S.at self.old address true ≡ false
+        ensures barred { kept_layout_lets_access S.at self.old address true ≡ false
             → (result ≡ Err (fault.NotAllowed address)) × (self.new ≡ self.old) }
-        ensures outside { (e : ARefusal) → may_seat_access S.at self.old address true ≡ true
-            → seat_access_refusal self.old address ≡ Some e → (result ≡ Err (fault.Refused e)) × (self.new ≡ self.old) }
+        ensures outside { (e : ARefusal) → kept_layout_lets_access S.at self.old address true ≡ true
+            → seat_call_refusal_at_once self.old address ≡ Some e → (result ≡ Err (fault.Refused e)) × (self.new ≡ self.old) }
     {
         if !self.may_access(address, true) {
             return Err(SeatFault::NotAllowed(address));
@@ -177,7 +177,7 @@ impl<'a, S: Sitting> Seat<'a, S> {
     pub fn lock(&mut self, lock: usize) -> Result<(), SeatFault>
         ensures ok { OnOk result (HasDone self.old self.new (kind.Ask lock ∷ kind.Acquire lock ∷ [])) }
         ensures err { OnErr result (IsLeftUndone self.old self.new (kind.Ask lock)) }
-        ensures outside { (e : ARefusal) → ask_refusal self.old lock ≡ Some e
+        ensures outside { (e : ARefusal) → processor_refusal_of_ask self.old lock ≡ Some e
             → (result ≡ Err (fault.Refused e)) × (self.new ≡ self.old) }
     {
         pass(
@@ -193,7 +193,7 @@ impl<'a, S: Sitting> Seat<'a, S> {
     pub fn unlock(&mut self, lock: usize) -> Result<(), SeatFault>
         ensures ok { OnOk result (HasDone self.old self.new (kind.Release lock ∷ [])) }
         ensures err { OnErr result (IsLeftUndone self.old self.new (kind.Release lock)) }
-        ensures outside { (e : ARefusal) → release_refusal self.old lock ≡ Some e
+        ensures outside { (e : ARefusal) → processor_refusal_of_release self.old lock ≡ Some e
             → (result ≡ Err (fault.Refused e)) × (self.new ≡ self.old) }
     {
         pass(
@@ -210,7 +210,7 @@ impl<'a, S: Sitting> Seat<'a, S> {
     pub fn barrier(&mut self) -> Result<(), SeatFault>
         ensures ok { OnOk result (HasDone self.old self.new (kind.Arrive ∷ kind.Depart ∷ [])) }
         ensures err { OnErr result (IsLeftUndone self.old self.new kind.Arrive) }
-        ensures outside { (e : ARefusal) → arrive_refusal self.old ≡ Some e
+        ensures outside { (e : ARefusal) → processor_refusal_of_arrival self.old ≡ Some e
             → (result ≡ Err (fault.Refused e)) × (self.new ≡ self.old) }
     {
         pass(self.rt, self.cluster, &mut self.processor, Closing::Arrive)?;
@@ -224,7 +224,7 @@ impl<'a, S: Sitting> Seat<'a, S> {
     pub fn set(&mut self, flag: usize) -> Result<(), SeatFault>
         ensures ok { OnOk result (HasDone self.old self.new (kind.Set flag ∷ [])) }
         ensures err { OnErr result (IsLeftUndone self.old self.new (kind.Set flag)) }
-        ensures outside { (e : ARefusal) → flag_refusal self.old flag ≡ Some e
+        ensures outside { (e : ARefusal) → processor_refusal_of_flag self.old flag ≡ Some e
             → (result ≡ Err (fault.Refused e)) × (self.new ≡ self.old) }
     {
         pass(
@@ -240,7 +240,7 @@ impl<'a, S: Sitting> Seat<'a, S> {
     pub fn await_flag(&mut self, flag: usize) -> Result<(), SeatFault>
         ensures ok { OnOk result (HasDone self.old self.new (kind.Watch flag ∷ kind.Await flag ∷ [])) }
         ensures err { OnErr result (IsLeftUndone self.old self.new (kind.Watch flag)) }
-        ensures outside { (e : ARefusal) → flag_refusal self.old flag ≡ Some e
+        ensures outside { (e : ARefusal) → processor_refusal_of_flag self.old flag ≡ Some e
             → (result ≡ Err (fault.Refused e)) × (self.new ≡ self.old) }
     {
         pass(

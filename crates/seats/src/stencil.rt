@@ -1,6 +1,9 @@
 //! Two grids whose words are made one by one.
-ghost use Rattle.std.specs.Prelude.{◌≡◌, ◌+◌, ◌<◌, ◌^◌, IfOk, OnOk, slice_index};
-ghost use Rattle.seats.specs.Prelude.{HasMadeBlock, LoadsGrid, StencilSteps, stencil_word};
+ghost use Rattle.std.specs.Prelude.{◌≡◌, ◌+◌, ◌/◌, ◌<◌, ◌^◌, [], Err, IfOk, OnErr, OnOk, Some, true, false, slice_index};
+ghost use Rattle.book.specs.declared.refused.Refused.{Refused as ARefusal};
+ghost use Rattle.seats.specs.Prelude.{AccessesPage, IsStencilBlockMade, HasStencilLoads, StencilSteps, grid_pair_read, kept_layout_lets_access};
+ghost use Rattle.seats.specs.Prelude.{seat_call_refusal_at_once, stencil_word};
+ghost use Rattle.seats.specs.declared.fault.SeatFault.TheVariants as fault;
 
 use crate::fault::SeatFault;
 use crate::grids::Grids;
@@ -25,11 +28,12 @@ pub trait Stencil {
         cell: usize,
     ) -> Result<u32, SeatFault>
         requires { cell < steps.cells }
-        ensures { IfOk result (λ word. LoadsGrid steps.cells round (λ words. steps.next words cell) seat.old seat.new word) };
+        ensures { IfOk result (λ word. HasStencilLoads steps.cells round (λ words. steps.next words cell) seat.old seat.new word) };
 }
 
 impl Grids {
-    /// The cell's word in the grid that this round reads. It faults as [`Seat::load`] does.
+    /// The cell's word in the grid that this round reads. It faults as [`Seat::load`] of its address does, and leaves what that
+    /// leaves.
     pub fn load<S: Sitting>(
         self,
         seat: &mut Seat<'_, S>,
@@ -38,7 +42,14 @@ impl Grids {
     ) -> Result<u32, SeatFault>
         requires within { cell < self.cells }
         requires fits { self.cells + self.cells < 2 ^ 64 }
-        ensures { IfOk result (λ word. LoadsGrid self.cells round (λ words. slice_index words cell) seat.old seat.new word) }
+        ensures ok { IfOk result (λ word. HasStencilLoads self.cells round (λ words. slice_index words cell) seat.old seat.new word) }
+        ensures err { OnErr result (AccessesPage seat.old seat.new
+            ((grid_pair_read self.cells round + cell) / seat.old.sizes.words) []) }
+        ensures barred { kept_layout_lets_access S.at seat.old (grid_pair_read self.cells round + cell) false ≡ false
+            → (result ≡ Err (fault.NotAllowed (grid_pair_read self.cells round + cell))) × (seat.new ≡ seat.old) }
+        ensures outside { (e : ARefusal) → kept_layout_lets_access S.at seat.old (grid_pair_read self.cells round + cell) false ≡ true
+            → seat_call_refusal_at_once seat.old (grid_pair_read self.cells round + cell) ≡ Some e
+            → (result ≡ Err (fault.Refused e)) × (seat.new ≡ seat.old) }
     {
         let word = seat.load(self.read(round) + cell)?;
         Ok(word)
@@ -55,11 +66,11 @@ impl Grids {
         requires cells { self.cells ≡ T.steps.cells }
         requires share { self.share ≡ T.steps.share }
         requires fits { self.cells + self.cells < 2 ^ 64 }
-        ensures { OnOk result (HasMadeBlock T.steps round S.at.number seat.old seat.new) }
+        ensures { OnOk result (IsStencilBlockMade T.steps round S.at.number seat.old seat.new) }
     {
         let (made, number) = (self.made(round), seat.number());
         for cell in self.block_start(number)..self.block_end(number) {
-            let word = made_word(seat, round, cell, stencil)?;
+            let word = made_stencil_word(seat, round, cell, stencil)?;
             seat.store(made + cell, word)?;
         }
         Ok(())
@@ -67,14 +78,14 @@ impl Grids {
 }
 
 /// The word that this round makes of the cell.
-fn made_word<S: Sitting, T: Stencil>(
+fn made_stencil_word<S: Sitting, T: Stencil>(
     seat: &mut Seat<'_, S>,
     round: usize,
     cell: usize,
     stencil: &T,
 ) -> Result<u32, SeatFault>
     requires { cell < T.steps.cells }
-    ensures { IfOk result (λ word. LoadsGrid T.steps.cells round (λ words. stencil_word T.steps round words cell)
+    ensures { IfOk result (λ word. HasStencilLoads T.steps.cells round (λ words. stencil_word T.steps round words cell)
         seat.old seat.new word) }
 {
     if round == 0 {

@@ -54,7 +54,7 @@ fn grids_are_made_in_turn(rt: HostRuntime) -> Result<(), AllocError> {
 }
 
 /// What the processors of a test do.
-enum Errand {
+enum SeatTestErrand {
     /// Each stores its number in a page of its own, meets the others, and answers what its neighbour stored.
     Meet,
     /// Each acquires a lock of its own, meets the others, and then wants its neighbour's.
@@ -68,7 +68,7 @@ enum Errand {
     Forget,
 }
 
-impl Program for Errand {
+impl Program for SeatTestErrand {
     type Answer = u32;
 
     ghost did = { λ processor deeds answer. Unit {0} };
@@ -76,25 +76,25 @@ impl Program for Errand {
     fn work<S: Sitting>(&self, seat: &mut Seat<'_, S>) -> Result<u32, SeatFault> {
         let number = seat.number();
         match self {
-            Errand::Meet => {
+            SeatTestErrand::Meet => {
                 seat.store(number.wrapping_mul(64), u32::try_from(number).unwrap_or(0))?;
                 seat.barrier()?;
                 seat.load((number ^ 1).wrapping_mul(64))
             }
-            Errand::Cross => {
+            SeatTestErrand::Cross => {
                 seat.lock(number)?;
                 seat.barrier()?;
                 seat.lock(number ^ 1)?;
                 Ok(0)
             }
-            Errand::Leave => {
+            SeatTestErrand::Leave => {
                 if number == 1 {
                     seat.lock(32)?;
                 }
                 seat.barrier()?;
                 Ok(0)
             }
-            Errand::Keep => {
+            SeatTestErrand::Keep => {
                 seat.store(number, 1)?;
                 seat.lock(0)?;
                 seat.store(2, 2)?;
@@ -103,7 +103,7 @@ impl Program for Errand {
                 seat.store(number ^ 1, 3)?;
                 seat.load(3)
             }
-            Errand::Forget => {
+            SeatTestErrand::Forget => {
                 seat.lock(0)?;
                 seat.store(2, 1)?;
                 seat.unlock(0)?;
@@ -130,7 +130,7 @@ fn fault_of<R: Threads + Wait + Sync>(
     rt: &R,
     alloc: Global,
     layout: &Layout,
-    errand: &Errand,
+    errand: &SeatTestErrand,
 ) -> Option<ProcessorFault> {
     run(rt, alloc, 2, 1, 64, 2, 0, layout, errand).err()
 }
@@ -138,7 +138,17 @@ fn fault_of<R: Threads + Wait + Sync>(
 #[test]
 fn all_work_on_threads(rt: HostRuntime) -> Result<(), ProcessorFault> {
     let layout = Layout::open(rt.alloc(), 4096)?;
-    let ran = run(&rt, rt.alloc(), 16, 64, 64, 32, 32, &layout, &Errand::Meet)?;
+    let ran = run(
+        &rt,
+        rt.alloc(),
+        16,
+        64,
+        64,
+        32,
+        32,
+        &layout,
+        &SeatTestErrand::Meet,
+    )?;
     let wanted = [1, 0, 3, 2, 5, 4, 7, 6, 9, 8, 11, 10, 13, 12, 15, 14];
     assert!(rt;
         ran.answers.as_slice() == wanted.as_slice(),
@@ -157,7 +167,7 @@ fn least_fault_is_told(rt: HostRuntime) -> Result<(), AllocError> {
         fault: SeatFault::Stuck,
     };
     assert!(rt;
-        fault_of(&rt, alloc, &layout, &Errand::Cross) == Some(stuck),
+        fault_of(&rt, alloc, &layout, &SeatTestErrand::Cross) == Some(stuck),
         "all wait"
     );
     let left = ProcessorFault {
@@ -165,10 +175,10 @@ fn least_fault_is_told(rt: HostRuntime) -> Result<(), AllocError> {
         fault: SeatFault::Refused(Refused::BadLock),
     };
     assert!(rt;
-        fault_of(&rt, alloc, &layout, &Errand::Leave) == Some(left),
+        fault_of(&rt, alloc, &layout, &SeatTestErrand::Leave) == Some(left),
         "a wait in vain comes after"
     );
-    let none = run(&rt, alloc, 17, 1, 1, 0, 0, &layout, &Errand::Meet).err();
+    let none = run(&rt, alloc, 17, 1, 1, 0, 0, &layout, &SeatTestErrand::Meet).err();
     let bad = ProcessorFault {
         processor: 0,
         fault: SeatFault::Refused(Refused::BadSize),
@@ -183,7 +193,7 @@ fn seats_keep_to_layouts(rt: HostRuntime) -> Result<(), AllocError> {
     let layout = two_phases(alloc)?;
     assert!(rt; layout.first_open().is_none(), "no open word");
     assert!(rt;
-        fault_of(&rt, alloc, &layout, &Errand::Keep).is_none(),
+        fault_of(&rt, alloc, &layout, &SeatTestErrand::Keep).is_none(),
         "all that is allowed"
     );
     let barred = ProcessorFault {
@@ -191,7 +201,7 @@ fn seats_keep_to_layouts(rt: HostRuntime) -> Result<(), AllocError> {
         fault: SeatFault::NotAllowed(2),
     };
     assert!(rt;
-        fault_of(&rt, alloc, &layout, &Errand::Forget) == Some(barred),
+        fault_of(&rt, alloc, &layout, &SeatTestErrand::Forget) == Some(barred),
         "a store without its lock"
     );
     let beyond = ProcessorFault {
@@ -200,7 +210,7 @@ fn seats_keep_to_layouts(rt: HostRuntime) -> Result<(), AllocError> {
     };
     let none = Layout::open(alloc, 0)?;
     assert!(rt;
-        fault_of(&rt, alloc, &none, &Errand::Keep) == Some(beyond),
+        fault_of(&rt, alloc, &none, &SeatTestErrand::Keep) == Some(beyond),
         "a word without a guard"
     );
     Ok(())
@@ -208,11 +218,11 @@ fn seats_keep_to_layouts(rt: HostRuntime) -> Result<(), AllocError> {
 
 /// Each adds to word 2 under lock 0, meets the others, and answers that word, and 0 if what is behind it isn't.
 #[derive(Drop)]
-struct Adder {
+struct SeatTestAdder {
     alloc: Global,
 }
 
-impl Program for Adder {
+impl Program for SeatTestAdder {
     type Answer = u32;
 
     ghost did = { λ processor deeds answer. Unit {0} };
@@ -231,10 +241,31 @@ impl Program for Adder {
     }
 }
 
-/// Each stores values of other types to a word of its own, and answers the word of the last one, and 0 if it loads another value.
-struct Viewer;
+/// Each adds 5 to word 2 under lock 0, meets the others, and answers the sum of that word and itself, and 0 if it finds another
+/// balance than it is.
+struct SeatTestWeigher;
 
-impl Program for Viewer {
+impl Program for SeatTestWeigher {
+    type Answer = u32;
+
+    ghost did = { λ processor deeds answer. Unit {0} };
+
+    fn work<S: Sitting>(&self, seat: &mut Seat<'_, S>) -> Result<u32, SeatFault> {
+        seat.add(0, 2, 5)?;
+        seat.barrier()?;
+        let even = seat.balances(0, &[2, 3], &[2])?;
+        let odd = seat.balances(0, &[2], &[3])?;
+        seat.lock(0)?;
+        let twice = seat.sum(&[2, 2])?;
+        seat.unlock(0)?;
+        if even && !odd { Ok(twice) } else { Ok(0) }
+    }
+}
+
+/// Each stores values of other types to a word of its own, and answers the word of the last one, and 0 if it loads another value.
+struct SeatTestViewer;
+
+impl Program for SeatTestViewer {
     type Answer = u32;
 
     ghost did = { λ processor deeds answer. Unit {0} };
@@ -258,7 +289,17 @@ impl Program for Viewer {
 fn words_are_added_to(rt: HostRuntime) -> Result<(), ProcessorFault> {
     let alloc = rt.alloc();
     let layout = two_phases(alloc)?;
-    let ran = run_guarded(&rt, alloc, 2, 1, 64, 1, 0, &layout, &Adder { alloc })?;
+    let ran = run_guarded(
+        &rt,
+        alloc,
+        2,
+        1,
+        64,
+        1,
+        0,
+        &layout,
+        &SeatTestAdder { alloc },
+    )?;
     assert!(rt;
         ran.answers.as_slice() == [10, 10].as_slice(),
         "what both added"
@@ -272,10 +313,22 @@ fn words_are_added_to(rt: HostRuntime) -> Result<(), ProcessorFault> {
 }
 
 #[test]
+fn words_are_weighed(rt: HostRuntime) -> Result<(), ProcessorFault> {
+    let alloc = rt.alloc();
+    let layout = two_phases(alloc)?;
+    let ran = run_guarded(&rt, alloc, 2, 1, 64, 1, 0, &layout, &SeatTestWeigher)?;
+    assert!(rt;
+        ran.answers.as_slice() == [20, 20].as_slice(),
+        "twice what both added, and both balances found"
+    );
+    Ok(())
+}
+
+#[test]
 fn words_are_of_other_types(rt: HostRuntime) -> Result<(), ProcessorFault> {
     let alloc = rt.alloc();
     let layout = two_phases(alloc)?;
-    let ran = run_guarded(&rt, alloc, 2, 1, 64, 1, 0, &layout, &Viewer)?;
+    let ran = run_guarded(&rt, alloc, 2, 1, 64, 1, 0, &layout, &SeatTestViewer)?;
     assert!(rt;
         ran.answers.as_slice() == [4294967289, 4294967289].as_slice(),
         "7 less than none, modulo 2^32"
@@ -292,7 +345,7 @@ fn open_words_are_told(rt: HostRuntime) -> Result<(), AllocError> {
         processor: 0,
         fault: SeatFault::Open(5),
     };
-    let ran = run_guarded(&rt, alloc, 2, 1, 64, 1, 0, &layout, &Viewer);
+    let ran = run_guarded(&rt, alloc, 2, 1, 64, 1, 0, &layout, &SeatTestViewer);
     assert!(rt; ran.err() == Some(open), "the first word that is open");
     Ok(())
 }

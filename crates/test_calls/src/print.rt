@@ -2,8 +2,8 @@
 
 use crate::answer::Turns;
 use journal::Event;
-use lrc_report::Line;
-use lrc_report::render::put_event;
+use lrc_report::ReportLine;
+use lrc_report::render::render_report_event;
 use std::io::Write;
 use std::{fmt, io};
 
@@ -35,8 +35,8 @@ pub fn say_numbers<W: Write, N: fmt::Display>(out: &mut W, numbers: &[N]) -> io:
 
 /// An event at its place, as the journal of `lrc` is printed.
 pub fn say_event<W: Write>(out: &mut W, place: u64, event: &Event) -> io::Result<()> {
-    let mut line = Line::new();
-    put_event(&mut line, place, event);
+    let mut line = ReportLine::new();
+    render_report_event(&mut line, place, event);
     out.write_all(line.bytes())
 }
 

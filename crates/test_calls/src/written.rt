@@ -1,6 +1,6 @@
 //! A journal that is given event by event.
 ghost use Rattle.std.specs.Prelude.{◌≡◌, ◌<◌, IsTrue};
-ghost use Rattle.journal.specs.Prelude.{AddressInRange};
+ghost use Rattle.journal.specs.Prelude.{EventAddressInRange};
 
 use book::Refused;
 use journal::{Event, Journal, Kind, MOST_HELD};
@@ -37,7 +37,7 @@ impl Written {
     /// Whether the event is one of such a journal.
     fn fits(&self, event: Event) -> bool
         ensures processor { IsTrue result → event.processor < self.now.processors }
-        ensures address { IsTrue result → AddressInRange self.now.addresses event.kind }
+        ensures address { IsTrue result → EventAddressInRange self.now.addresses event.kind }
     {
         let in_range = match event.kind {
             Kind::Load(address, _) | Kind::Store(address, _) => address < self.addresses,

@@ -10,7 +10,7 @@
 //!   answers a store its edge, each stale load its stroke, each complete episode its bar, the first race its frames and each
 //!   processor that waits its cross; that the legend has what occurs; that the file is one element, closed at its end; that memory isn't refused needlessly, and that each refusal is answered.
 ghost use Rattle.std.specs.Prelude.{◌≡◌, IfOk};
-ghost use Rattle.judge.specs.Prelude.{whole_history};
+ghost use Rattle.judge.specs.Prelude.{whole_sized_history};
 
 mod answers;
 mod edges;
@@ -64,7 +64,7 @@ fn one_page(processors: usize, words: usize) -> Sizes {
 
 /// The history of these events, if they are of these sizes.
 fn history_of(sizes: Sizes, events: &[Event]) -> Result<History<'_>, Fail>
-    ensures { IfOk result (λ h. h ≡ whole_history sizes events.now) }
+    ensures { IfOk result (λ h. h ≡ whole_sized_history sizes events.now) }
 {
     match History::new(sizes, events) {
         Some(history) => Ok(history),

@@ -6,7 +6,7 @@
 //!
 //! What lists of calls can't show of journals; their answers are in the lists of tests/calls, at the repository's top.
 ghost use Rattle.std.specs.Prelude.{◌≡◌, ◌<◌, ◌≤◌, ◌-◌, ◌+◌, ◌^◌, length, IsTrue, OnOk, IfOk};
-ghost use Rattle.journal.specs.Prelude.{AddressInRange};
+ghost use Rattle.journal.specs.Prelude.{EventAddressInRange};
 
 mod reach;
 
@@ -25,7 +25,7 @@ pub(crate) fn by(processor: usize, kind: Kind) -> Event
 /// Whether a journal of these sizes takes the event.
 fn is_taken(event: Event, processors: usize, addresses: usize) -> bool
     ensures processor { IsTrue result → event.processor < processors }
-    ensures address { IsTrue result → AddressInRange addresses event.kind }
+    ensures address { IsTrue result → EventAddressInRange addresses event.kind }
 {
     let in_range = match event.kind {
         Kind::Load(address, _) | Kind::Store(address, _) => address < addresses,

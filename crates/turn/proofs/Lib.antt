@@ -1,10 +1,10 @@
 pub mod ListItems
 pub mod ChairLists
-mod Boards
-mod Places
+mod LawfulBoards
+mod ChairPlaces
 mod Guests
 mod NumbersServed
-mod AllowedLooks
+mod AllowedSteps
 mod Conferring
-mod DealingAndGathering
+mod DealingAndGatheringChairs
 mod TakingTurns

@@ -6,104 +6,104 @@ use Rattle.std.proofs.lemmas.Option.{same_Some, none-some}
 
 module _ {A : Type 0} where
   -- what the table below says of a place, in std's words
-  pub item_got : (l : List A) (j : ℕ) (a : A) → get_elem? l j ≡ some a → slice_get l j ≡ Some a
-  item_got [] j a e = absurd (some-ne-none a (sym e))
-  item_got (x ∷ xs) zero a e = ap Some (some-injective x a e)
-  item_got (x ∷ xs) (suc j) a e = item_got xs j a e
+  pub list_item_got : (l : List A) (j : ℕ) (a : A) → get_elem? l j ≡ some a → slice_get l j ≡ Some a
+  list_item_got [] j a e = absurd (some-ne-none a (sym e))
+  list_item_got (x ∷ xs) zero a e = ap Some (some-injective x a e)
+  list_item_got (x ∷ xs) (suc j) a e = list_item_got xs j a e
 
   -- what stands in a list after a write
-  pub item_of_set : (l : List A) (i j : ℕ) (a b : A) → slice_get (set l i a) j ≡ Some b
+  pub list_item_of_set : (l : List A) (i j : ℕ) (a b : A) → slice_get (set l i a) j ≡ Some b
       → ((j ≡ i) × (a ≡ b)) ⊎ ((j ≢ i) × (slice_get l j ≡ Some b))
-  item_of_set [] i j a b e = absurd (none-some b e)
-  item_of_set (x ∷ xs) zero zero a b e = inl (refl, same_Some a b e)
-  item_of_set (x ∷ xs) zero (suc j) a b e = inr ((λ h. omega arith), e)
-  item_of_set (x ∷ xs) (suc i) zero a b e = inr ((λ h. omega arith), e)
-  item_of_set (x ∷ xs) (suc i) (suc j) a b e =
+  list_item_of_set [] i j a b e = absurd (none-some b e)
+  list_item_of_set (x ∷ xs) zero zero a b e = inl (refl, same_Some a b e)
+  list_item_of_set (x ∷ xs) zero (suc j) a b e = inr ((λ h. omega arith), e)
+  list_item_of_set (x ∷ xs) (suc i) zero a b e = inr ((λ h. omega arith), e)
+  list_item_of_set (x ∷ xs) (suc i) (suc j) a b e =
       ⊎_elim (λ (t : (j ≡ i) × (a ≡ b)). inl (ap suc t.0, t.1))
       (λ (t : (j ≢ i) × (slice_get xs j ≡ Some b)). let n = t.0 in inr ((λ h. n (omega arith)), t.1))
-      (item_of_set xs i j a b e)
+      (list_item_of_set xs i j a b e)
 
-  pub item_set_here : (l : List A) (i : ℕ) (a : A) → i < length l → slice_get (set l i a) i ≡ Some a
-  item_set_here [] i a h = absurd (omega arith)
-  item_set_here (x ∷ xs) zero a h = refl
-  item_set_here (x ∷ xs) (suc i) a h = item_set_here xs i a (omega arith)
+  pub list_item_set_here : (l : List A) (i : ℕ) (a : A) → i < length l → slice_get (set l i a) i ≡ Some a
+  list_item_set_here [] i a h = absurd (omega arith)
+  list_item_set_here (x ∷ xs) zero a h = refl
+  list_item_set_here (x ∷ xs) (suc i) a h = list_item_set_here xs i a (omega arith)
 
-  pub item_set_else : (l : List A) (i j : ℕ) (a : A) → j ≢ i → slice_get (set l i a) j ≡ slice_get l j
-  item_set_else [] i j a n = refl
-  item_set_else (x ∷ xs) zero zero a n = absurd (n refl)
-  item_set_else (x ∷ xs) zero (suc j) a n = refl
-  item_set_else (x ∷ xs) (suc i) zero a n = refl
-  item_set_else (x ∷ xs) (suc i) (suc j) a n = item_set_else xs i j a (λ e. n (ap suc e))
+  pub list_item_set_else : (l : List A) (i j : ℕ) (a : A) → j ≢ i → slice_get (set l i a) j ≡ slice_get l j
+  list_item_set_else [] i j a n = refl
+  list_item_set_else (x ∷ xs) zero zero a n = absurd (n refl)
+  list_item_set_else (x ∷ xs) zero (suc j) a n = refl
+  list_item_set_else (x ∷ xs) (suc i) zero a n = refl
+  list_item_set_else (x ∷ xs) (suc i) (suc j) a n = list_item_set_else xs i j a (λ e. n (ap suc e))
 
   -- a write of what stands there already
-  pub item_set_again : (l : List A) (i : ℕ) (a : A) → slice_get l i ≡ Some a → set l i a ≡ l
-  item_set_again [] i a e = absurd (none-some a e)
-  item_set_again (x ∷ xs) zero a e = ap (λ (y : A). y ∷ xs) (sym (same_Some x a e))
-  item_set_again (x ∷ xs) (suc i) a e = ap (λ (ys : List A). x ∷ ys) (item_set_again xs i a e)
+  pub list_item_set_again : (l : List A) (i : ℕ) (a : A) → slice_get l i ≡ Some a → set l i a ≡ l
+  list_item_set_again [] i a e = absurd (none-some a e)
+  list_item_set_again (x ∷ xs) zero a e = ap (λ (y : A). y ∷ xs) (sym (same_Some x a e))
+  list_item_set_again (x ∷ xs) (suc i) a e = ap (λ (ys : List A). x ∷ ys) (list_item_set_again xs i a e)
 
-  pub item_of_longer : (l m : List A) (i : ℕ) (a : A) → slice_get l i ≡ Some a → slice_get (l ++ m) i ≡ Some a
-  item_of_longer [] m i a e = absurd (none-some a e)
-  item_of_longer (x ∷ xs) m zero a e = e
-  item_of_longer (x ∷ xs) m (suc i) a e = item_of_longer xs m i a e
+  pub list_item_of_longer : (l m : List A) (i : ℕ) (a : A) → slice_get l i ≡ Some a → slice_get (l ++ m) i ≡ Some a
+  list_item_of_longer [] m i a e = absurd (none-some a e)
+  list_item_of_longer (x ∷ xs) m zero a e = e
+  list_item_of_longer (x ∷ xs) m (suc i) a e = list_item_of_longer xs m i a e
 
-  pub item_last : (l : List A) (a : A) (n : ℕ) → length l ≡ n → slice_get (l ++ a ∷ []) n ≡ Some a
-  item_last [] a zero e = refl
-  item_last [] a (suc n) e = absurd (omega arith)
-  item_last (x ∷ xs) a zero e = absurd (omega arith)
-  item_last (x ∷ xs) a (suc n) e = item_last xs a n (omega arith)
+  pub list_item_last : (l : List A) (a : A) (n : ℕ) → length l ≡ n → slice_get (l ++ a ∷ []) n ≡ Some a
+  list_item_last [] a zero e = refl
+  list_item_last [] a (suc n) e = absurd (omega arith)
+  list_item_last (x ∷ xs) a zero e = absurd (omega arith)
+  list_item_last (x ∷ xs) a (suc n) e = list_item_last xs a n (omega arith)
 
   -- what stands in a list that is one longer
-  pub item_at_end : (l : List A) (a b : A) (j : ℕ) → slice_get (l ++ a ∷ []) j ≡ Some b
+  pub list_item_at_end : (l : List A) (a b : A) (j : ℕ) → slice_get (l ++ a ∷ []) j ≡ Some b
       → (slice_get l j ≡ Some b) ⊎ ((j ≡ length l) × (a ≡ b))
-  item_at_end [] a b zero e = inr (refl, same_Some a b e)
-  item_at_end [] a b (suc j) e = absurd (none-some b e)
-  item_at_end (x ∷ xs) a b zero e = inl e
-  item_at_end (x ∷ xs) a b (suc j) e = ⊎_elim inl (λ (t : (j ≡ length xs) × (a ≡ b)). inr (ap suc t.0, t.1))
-      (item_at_end xs a b j e)
+  list_item_at_end [] a b zero e = inr (refl, same_Some a b e)
+  list_item_at_end [] a b (suc j) e = absurd (none-some b e)
+  list_item_at_end (x ∷ xs) a b zero e = inl e
+  list_item_at_end (x ∷ xs) a b (suc j) e = ⊎_elim inl (λ (t : (j ≡ length xs) × (a ≡ b)). inr (ap suc t.0, t.1))
+      (list_item_at_end xs a b j e)
 
   -- two elements at one place are one
-  pub item_once : (l : List A) (j : ℕ) (a b : A) → slice_get l j ≡ Some a → slice_get l j ≡ Some b → a ≡ b
-  item_once l j a b d e = same_Some a b (sym d ∙ e)
+  pub list_item_once : (l : List A) (j : ℕ) (a b : A) → slice_get l j ≡ Some a → slice_get l j ≡ Some b → a ≡ b
+  list_item_once l j a b d e = same_Some a b (sym d ∙ e)
 
   -- lists of one length that agree at each place are one
-  pub same_list : (l m : List A) → length l ≡ length m
+  pub same_list_items : (l m : List A) → length l ≡ length m
       → ((j : ℕ) (a : A) → slice_get m j ≡ Some a → slice_get l j ≡ Some a) → l ≡ m
-  same_list [] [] n h = refl
-  same_list [] (y ∷ ys) n h = absurd (omega arith)
-  same_list (x ∷ xs) [] n h = absurd (omega arith)
-  same_list (x ∷ xs) (y ∷ ys) n h =
+  same_list_items [] [] n h = refl
+  same_list_items [] (y ∷ ys) n h = absurd (omega arith)
+  same_list_items (x ∷ xs) [] n h = absurd (omega arith)
+  same_list_items (x ∷ xs) (y ∷ ys) n h =
       let e : x ≡ y = same_Some x y (h zero y refl) in
-      let t : xs ≡ ys = same_list xs ys (omega arith) (λ j a. h (suc j) a) in
+      let t : xs ≡ ys = same_list_items xs ys (omega arith) (λ j a. h (suc j) a) in
       cc
 
   -- what stands in a list of one element over and over
-  pub item_of_replicate : (n : ℕ) (a b : A) (k : ℕ) → slice_get (replicate n a) k ≡ Some b → a ≡ b
-  item_of_replicate zero a b k e = absurd (none-some b e)
-  item_of_replicate (suc n) a b zero e = same_Some a b e
-  item_of_replicate (suc n) a b (suc k) e = item_of_replicate n a b k e
+  pub list_item_of_replicate : (n : ℕ) (a b : A) (k : ℕ) → slice_get (replicate n a) k ≡ Some b → a ≡ b
+  list_item_of_replicate zero a b k e = absurd (none-some b e)
+  list_item_of_replicate (suc n) a b zero e = same_Some a b e
+  list_item_of_replicate (suc n) a b (suc k) e = list_item_of_replicate n a b k e
 
 module _ {A B : Type 0} where
-  pub item_of_map : (f : A → B) (l : List A) (i : ℕ) (a : A) → slice_get l i ≡ Some a → slice_get (map f l) i ≡ Some (f a)
-  item_of_map f [] i a e = absurd (none-some a e)
-  item_of_map f (x ∷ xs) zero a e = ap (λ (y : A). Some (f y)) (same_Some x a e)
-  item_of_map f (x ∷ xs) (suc i) a e = item_of_map f xs i a e
+  pub list_item_of_map : (f : A → B) (l : List A) (i : ℕ) (a : A) → slice_get l i ≡ Some a → slice_get (map f l) i ≡ Some (f a)
+  list_item_of_map f [] i a e = absurd (none-some a e)
+  list_item_of_map f (x ∷ xs) zero a e = ap (λ (y : A). Some (f y)) (same_Some x a e)
+  list_item_of_map f (x ∷ xs) (suc i) a e = list_item_of_map f xs i a e
 
   -- what stands in a list of images is an image
-  pub item_of_unmap : (f : A → B) (l : List A) (k : ℕ) (b : B) → slice_get (map f l) k ≡ Some b
+  pub list_item_of_unmap : (f : A → B) (l : List A) (k : ℕ) (b : B) → slice_get (map f l) k ≡ Some b
       → (a : A) × (slice_get l k ≡ Some a) × (f a ≡ b)
-  item_of_unmap f [] k b e = absurd (none-some b e)
-  item_of_unmap f (x ∷ xs) zero b e = (x, refl, same_Some (f x) b e)
-  item_of_unmap f (x ∷ xs) (suc k) b e = item_of_unmap f xs k b e
+  list_item_of_unmap f [] k b e = absurd (none-some b e)
+  list_item_of_unmap f (x ∷ xs) zero b e = (x, refl, same_Some (f x) b e)
+  list_item_of_unmap f (x ∷ xs) (suc k) b e = list_item_of_unmap f xs k b e
 
-  pub item_map_replicate : (f : A → B) (n : ℕ) (a : A) → map f (replicate n a) ≡ replicate n (f a)
-  item_map_replicate f zero a = refl
-  item_map_replicate f (suc n) a = ap (λ t. f a ∷ t) (item_map_replicate f n a)
+  pub list_item_map_replicate : (f : A → B) (n : ℕ) (a : A) → map f (replicate n a) ≡ replicate n (f a)
+  list_item_map_replicate f zero a = refl
+  list_item_map_replicate f (suc n) a = ap (λ t. f a ∷ t) (list_item_map_replicate f n a)
 
 -- an image of images
-pub item_map_twice : {A B C : Type 0} (g : B → C) (f : A → B) (l : List A) → map g (map f l) ≡ map (λ a. g (f a)) l
-item_map_twice g f [] = refl
-item_map_twice g f (x ∷ xs) = ap (λ t. g (f x) ∷ t) (item_map_twice g f xs)
+pub list_item_map_twice : {A B C : Type 0} (g : B → C) (f : A → B) (l : List A) → map g (map f l) ≡ map (λ a. g (f a)) l
+list_item_map_twice g f [] = refl
+list_item_map_twice g f (x ∷ xs) = ap (λ t. g (f x) ∷ t) (list_item_map_twice g f xs)
 
 -- a list of one, pushed to an empty one
-pub item_pushed_alone : {A : Type 0} (before after : List A) (a : A) → before ≡ [] → after ≡ before ++ a ∷ [] → after ≡ a ∷ []
-item_pushed_alone {A = A} before after a empty e = e ∙ ap (λ (l : List A). l ++ a ∷ []) empty
+pub list_item_pushed_alone : {A : Type 0} (before after : List A) (a : A) → before ≡ [] → after ≡ before ++ a ∷ [] → after ≡ a ∷ []
+list_item_pushed_alone {A = A} before after a empty e = e ∙ ap (λ (l : List A). l ++ a ∷ []) empty

@@ -13,96 +13,96 @@ use Rattle.turn.specs.declared.chair.ChairStage.TheVariants.{Outside, Waiting, I
 use Rattle.turn.specs.declared.chair.ChairState.{ChairState}
 use Rattle.turn.specs.Tickets.{ticket_number, ticket_shelf, FitsTickets, ticket_chair_state, ticket_view_of, tickets_drawn, HasTicket, TicketTurns}
 use Rattle.turn.specs.Boards.{IsBoard}
-use Rattle.turn.proofs.ListItems.{item_of_set, item_set_here, item_set_else, item_set_again, item_of_map, item_once}
+use Rattle.turn.proofs.ListItems.{list_item_of_set, list_item_set_here, list_item_set_else, list_item_set_again, list_item_of_map, list_item_once}
 
-pub served_not_true : (b : Bool) → (b ≡ true → ⊥) → b ≡ false
-served_not_true true h = absurd (h refl)
-served_not_true false h = refl
+pub served_number_not_true : (b : Bool) → (b ≡ true → ⊥) → b ≡ false
+served_number_not_true true h = absurd (h refl)
+served_number_not_true false h = refl
 
 module _ {B : Type 0} where
   -- who is inside doesn't wait and isn't outside
-  served_inside_waits : (m k : ℕ) (b : B) → Inside m b ≡ Waiting k → ⊥
-  served_inside_waits m k b e = cc
+  served_number_inside_not_waiting : (m k : ℕ) (b : B) → Inside m b ≡ Waiting k → ⊥
+  served_number_inside_not_waiting m k b e = cc
 
-  pub served_inside_outside : (m : ℕ) (b : B) → Inside m b ≡ Outside → ⊥
-  served_inside_outside m b e = cc
+  pub served_number_inside_not_outside : (m : ℕ) (b : B) → Inside m b ≡ Outside → ⊥
+  served_number_inside_not_outside m b e = cc
 
-  fits_more_numbers : (s n n' : ℕ) (out : Bool) (book : B) (g : ChairStage B) → n ≤ n' → FitsTickets s n out book g → FitsTickets s n' out book g
-  fits_more_numbers s n n' out book Outside h f = tt
-  fits_more_numbers s n n' out book (Waiting m) h f = (f.0, omega arith)
-  fits_more_numbers s n n' out book (Inside m b) h f = (f.0, omega arith, f.2, f.3)
+  served_number_fits_more : (s n n' : ℕ) (out : Bool) (book : B) (g : ChairStage B) → n ≤ n' → FitsTickets s n out book g → FitsTickets s n' out book g
+  served_number_fits_more s n n' out book Outside h f = tt
+  served_number_fits_more s n n' out book (Waiting m) h f = (f.0, omega arith)
+  served_number_fits_more s n n' out book (Inside m b) h f = (f.0, omega arith, f.2, f.3)
 
-  served_fits_out : (s n : ℕ) (out : Bool) (book : B) (g : ChairStage B) → out ≡ false → FitsTickets s n out book g → FitsTickets s n true book
+  served_number_fits_out : (s n : ℕ) (out : Bool) (book : B) (g : ChairStage B) → out ≡ false → FitsTickets s n out book g → FitsTickets s n true book
       g
-  served_fits_out s n out book Outside h f = tt
-  served_fits_out s n out book (Waiting m) h f = f
-  served_fits_out s n out book (Inside m b) h f = (f.0, f.1, refl, f.3)
+  served_number_fits_out s n out book Outside h f = tt
+  served_number_fits_out s n out book (Waiting m) h f = f
+  served_number_fits_out s n out book (Inside m b) h f = (f.0, f.1, refl, f.3)
 
-  fits_next_number : (m n : ℕ) (out : Bool) (book handed : B) (g : ChairStage B) → (ticket_number g ≡ Some m → ⊥)
+  served_number_fits_next : (m n : ℕ) (out : Bool) (book handed : B) (g : ChairStage B) → (ticket_number g ≡ Some m → ⊥)
       → FitsTickets m n out book g → FitsTickets (m + 1) n false handed g
-  fits_next_number m n out book handed Outside h f = tt
-  fits_next_number m n out book handed (Waiting k) h f = let ne : k ≢ m = λ e. h (ap Some e) in (omega arith, f.1)
-  fits_next_number m n out book handed (Inside k b) h f = absurd (h (ap Some f.0))
+  served_number_fits_next m n out book handed Outside h f = tt
+  served_number_fits_next m n out book handed (Waiting k) h f = let ne : k ≢ m = λ e. h (ap Some e) in (omega arith, f.1)
+  served_number_fits_next m n out book handed (Inside k b) h f = absurd (h (ap Some f.0))
 
   -- a number that was drawn and not yet left
-  pub fits_number : (s n m : ℕ) (out : Bool) (book : B) (g : ChairStage B) → ticket_number g ≡ Some m → FitsTickets s n out book g
+  pub served_number_bounds_fitting : (s n m : ℕ) (out : Bool) (book : B) (g : ChairStage B) → ticket_number g ≡ Some m → FitsTickets s n out book g
       → (s ≤ m) × (m < n)
-  fits_number s n m out book Outside e f = absurd (none-some m e)
-  fits_number s n m out book (Waiting k) e f = let same : k ≡ m = same_Some k m e in (omega arith, omega arith)
-  fits_number s n m out book (Inside k b) e f = let same : k ≡ m = same_Some k m e in let here = f.0 in
+  served_number_bounds_fitting s n m out book Outside e f = absurd (none-some m e)
+  served_number_bounds_fitting s n m out book (Waiting k) e f = let same : k ≡ m = same_Some k m e in (omega arith, omega arith)
+  served_number_bounds_fitting s n m out book (Inside k b) e f = let same : k ≡ m = same_Some k m e in let here = f.0 in
       (omega arith, omega arith)
 
 module _ {B V : Type 0} where
-  tickets_drawn-set_served : (cs : List (ChairState B V)) (k : ℕ) (c d : ChairState B V) → slice_get cs k ≡ Some c
+  tickets_drawn-set_number_served : (cs : List (ChairState B V)) (k : ℕ) (c d : ChairState B V) → slice_get cs k ≡ Some c
       → tickets_drawn (set cs k d) + c.entries ≡ tickets_drawn cs + d.entries
-  tickets_drawn-set_served [] k c d e = absurd (none-some c e)
-  tickets_drawn-set_served (x ∷ xs) zero c d e = let f : x.entries ≡ c.entries =
+  tickets_drawn-set_number_served [] k c d e = absurd (none-some c e)
+  tickets_drawn-set_number_served (x ∷ xs) zero c d e = let f : x.entries ≡ c.entries =
       ap (λ (y : ChairState B V). y.entries) (same_Some x c e) in omega arith
-  tickets_drawn-set_served (x ∷ xs) (suc k) c d e = let h = tickets_drawn-set_served xs k c d e in omega arith
+  tickets_drawn-set_number_served (x ∷ xs) (suc k) c d e = let h = tickets_drawn-set_number_served xs k c d e in omega arith
 
-  tickets_drawn-le_served : (limit : ℕ) (cs : List (ChairState B V))
+  tickets_drawn-le_number_served : (limit : ℕ) (cs : List (ChairState B V))
       → ((k : ℕ) (c : ChairState B V) → slice_get cs k ≡ Some c → c.entries ≤ limit) → tickets_drawn cs ≤ length cs * limit
-  tickets_drawn-le_served limit [] h = zero-le
-  tickets_drawn-le_served limit (x ∷ xs) h =
+  tickets_drawn-le_number_served limit [] h = zero-le
+  tickets_drawn-le_number_served limit (x ∷ xs) h =
       let a = h zero x refl in
-      let b = tickets_drawn-le_served limit xs (λ k. h (suc k)) in
+      let b = tickets_drawn-le_number_served limit xs (λ k. h (suc k)) in
       omega (arith, suc-mul (length xs) limit)
 
   -- each chair after one of them changed
-  served_each_set : (P : ℕ → ChairState B V → Type 0) (cs : List (ChairState B V)) (k : ℕ) (d : ChairState B V) → P k d
+  served_number_each_set : (P : ℕ → ChairState B V → Type 0) (cs : List (ChairState B V)) (k : ℕ) (d : ChairState B V) → P k d
       → ((j : ℕ) (x : ChairState B V) → j ≢ k → slice_get cs j ≡ Some x → P j x)
       → (j : ℕ) (x : ChairState B V) → slice_get (set cs k d) j ≡ Some x → P j x
-  served_each_set P cs k d here else j x e = ⊎_elim
+  served_number_each_set P cs k d here else j x e = ⊎_elim
       (λ (t : (j ≡ k) × (d ≡ x)). subst (λ (y : ChairState B V). P j y) t.1 (subst (λ (i : ℕ). P i d) (sym t.0) here))
       (λ (t : (j ≢ k) × (slice_get cs j ≡ Some x)). else j x t.0 t.1)
-      (item_of_set cs k j d x e)
+      (list_item_of_set cs k j d x e)
 
-  number_set : (cs : List (ChairState B V)) (k : ℕ) (d : ChairState B V) (j m : ℕ) → HasTicket (set cs k d) j m
+  served_number_set : (cs : List (ChairState B V)) (k : ℕ) (d : ChairState B V) (j m : ℕ) → HasTicket (set cs k d) j m
       → ((j ≡ k) × (ticket_number d.stage ≡ Some m)) ⊎ ((j ≢ k) × HasTicket cs j m)
-  number_set cs k d j m h = ⊎_elim
+  served_number_set cs k d j m h = ⊎_elim
       (λ (t : (j ≡ k) × (d ≡ h.0)). inl (t.0, ap (λ (y : ChairState B V). ticket_number y.stage) t.1 ∙ h.2))
       (λ (t : (j ≢ k) × (slice_get cs j ≡ Some h.0)). inr (t.0, (h.0, t.1, h.2)))
-      (item_of_set cs k j d h.0 h.1)
+      (list_item_of_set cs k j d h.0 h.1)
 
-  number_here : (cs : List (ChairState B V)) (k : ℕ) (c d : ChairState B V) (m : ℕ) → slice_get cs k ≡ Some c
+  served_number_set_here : (cs : List (ChairState B V)) (k : ℕ) (c d : ChairState B V) (m : ℕ) → slice_get cs k ≡ Some c
       → ticket_number d.stage ≡ Some m → HasTicket (set cs k d) k m
-  number_here cs k c d m at e = (d, item_set_here cs k d (slice_get_within cs k c at), e)
+  served_number_set_here cs k c d m at e = (d, list_item_set_here cs k d (slice_get_within cs k c at), e)
 
-  number_else : (cs : List (ChairState B V)) (k : ℕ) (d : ChairState B V) (j m : ℕ) → j ≢ k → HasTicket cs j m
+  served_number_set_else : (cs : List (ChairState B V)) (k : ℕ) (d : ChairState B V) (j m : ℕ) → j ≢ k → HasTicket cs j m
       → HasTicket (set cs k d) j m
-  number_else cs k d j m ne h = (h.0, item_set_else cs k j d ne ∙ h.1, h.2)
+  served_number_set_else cs k d j m ne h = (h.0, list_item_set_else cs k j d ne ∙ h.1, h.2)
 
   -- the number of a chair that is known
-  number_known : (cs : List (ChairState B V)) (k : ℕ) (c : ChairState B V) (j m : ℕ) → slice_get cs k ≡ Some c
+  served_number_known : (cs : List (ChairState B V)) (k : ℕ) (c : ChairState B V) (j m : ℕ) → slice_get cs k ≡ Some c
       → HasTicket cs j m → j ≡ k → ticket_number c.stage ≡ Some m
-  number_known cs k c j m at h e =
+  served_number_known cs k c j m at h e =
       ap (λ (y : ChairState B V). ticket_number y.stage)
-      (item_once cs k c h.0 at (subst (λ (i : ℕ). slice_get cs i ≡ Some h.0) e h.1)) ∙ h.2
+      (list_item_once cs k c h.0 at (subst (λ (i : ℕ). slice_get cs i ≡ Some h.0) e h.1)) ∙ h.2
 
-  served_views_same : (cs : List (ChairState B V)) (k : ℕ) (c d : ChairState B V) → slice_get cs k ≡ Some c
+  served_number_views_same : (cs : List (ChairState B V)) (k : ℕ) (c d : ChairState B V) → slice_get cs k ≡ Some c
       → d.view ≡ c.view → map ticket_view_of (set cs k d) ≡ map ticket_view_of cs
-  served_views_same cs k c d at e = map-set ticket_view_of cs k d ∙ ap (λ (v : V). set (map ticket_view_of cs) k v) e
-      ∙ item_set_again (map ticket_view_of cs) k c.view (item_of_map ticket_view_of cs k c at)
+  served_number_views_same cs k c d at e = map-set ticket_view_of cs k d ∙ ap (λ (v : V). set (map ticket_view_of cs) k v) e
+      ∙ list_item_set_again (map ticket_view_of cs) k c.view (list_item_of_map ticket_view_of cs k c at)
 
 -- a number that was drawn and not left
 pub between : {B V : Type 0} {fact : B → List V → Type 0} {shows : List ℕ → ℕ → Type 0} {limit : ℕ}
@@ -110,10 +110,10 @@ pub between : {B V : Type 0} {fact : B → List V → Type 0} {shows : List ℕ 
     (turns : TicketTurns fact shows limit words homes chairs) (k m : ℕ) → HasTicket chairs k m
     → (turns.serving ≤ m) × (m < tickets_drawn chairs)
 between {chairs = chairs} turns k m has =
-    fits_number turns.serving (tickets_drawn chairs) m turns.out turns.book has.0.stage has.2 (turns.fits k has.0 has.1)
+    served_number_bounds_fitting turns.serving (tickets_drawn chairs) m turns.out turns.book has.0.stage has.2 (turns.fits k has.0 has.1)
 
 -- who is inside: its number is served and fits a word, and the book is out
-pub record IsServed {B V : Type 0} {fact : B → List V → Type 0} {shows : List ℕ → ℕ → Type 0} {limit : ℕ}
+pub record IsNumberServed {B V : Type 0} {fact : B → List V → Type 0} {shows : List ℕ → ℕ → Type 0} {limit : ℕ}
     {words : List ℕ} {homes : List (maybe.Option (Option B))} {chairs : List (ChairState B V)}
     (turns : TicketTurns fact shows limit words homes chairs) (m : ℕ) (found : B) : Type 0 where
   pub number : m ≡ turns.serving
@@ -128,25 +128,25 @@ module _ {B V : Type 0} {fact : B → List V → Type 0} {width : ℕ} {shows : 
     (turns : TicketTurns fact shows limit words homes chairs) (place : ℕ) (chair : ChairState B V)
     (here : slice_get chairs place ≡ Some chair) where
   -- the numbers are below 2 ^ 64
-  few_numbers : tickets_drawn chairs < 2 ^ 64
-  few_numbers = let a = tickets_drawn-le_served limit chairs turns.within in let b = turns.room in omega arith
+  served_numbers_few : tickets_drawn chairs < 2 ^ 64
+  served_numbers_few = let a = tickets_drawn-le_number_served limit chairs turns.within in let b = turns.room in omega arith
 
-  pub draws_number : chair.stage ≡ Outside → chair.entries < limit
+  pub draws_number_to_be_served : chair.stage ≡ Outside → chair.entries < limit
       → (get_or words 0 0 + 1 < 2 ^ 64) × TicketTurns fact shows limit (set words 0 ((get_or words 0 0 + 1) % 2 ^ 64)) homes
       (set chairs place (ticket_chair_state (Waiting (get_or words 0 0)) (chair.entries + 1) chair.view))
-  draws_number out less =
+  draws_number_to_be_served out less =
       let next = get_or words 0 0 in
       let now : ChairState B V = ticket_chair_state (Waiting next) (chair.entries + 1) chair.view in
       let next_is : next ≡ tickets_drawn chairs = turns.next_is in
       let behind = turns.behind in
-      let sums = tickets_drawn-set_served chairs place chair now here in
+      let sums = tickets_drawn-set_number_served chairs place chair now here in
       let one_more : tickets_drawn (set chairs place now) ≡ tickets_drawn chairs + 1 = omega arith in
       let within : ((j : ℕ) (x : ChairState B V) → slice_get (set chairs place now) j ≡ Some x → x.entries ≤ limit) =
-      served_each_set (λ _ x. x.entries ≤ limit) chairs place now (omega arith) (λ j x _ e. turns.within j x e) in
+      served_number_each_set (λ _ x. x.entries ≤ limit) chairs place now (omega arith) (λ j x _ e. turns.within j x e) in
       let long = length-set chairs place now in
       let room : length (set chairs place now) * limit < 2 ^ 64 = subst (λ (n : ℕ). n * limit < 2 ^ 64) (sym long)
       turns.room in
-      let bound = tickets_drawn-le_served limit (set chairs place now) within in
+      let bound = tickets_drawn-le_number_served limit (set chairs place now) within in
       let small : next + 1 < 2 ^ 64 = omega arith in
       let none_yet : ticket_number chair.stage ≡ None = ap ticket_number out in (
         small,
@@ -160,10 +160,10 @@ module _ {B V : Type 0} {fact : B → List V → Type 0} {width : ℕ} {shows : 
               ∙ mod-eq_of_lt small ∙ ap (λ (n : ℕ). n + 1) next_is ∙ sym one_more;
           shown = board.draws words turns.serving ((next + 1) % 2 ^ 64) turns.shown;
           behind = omega arith;
-          fits = served_each_set (λ _ x. FitsTickets turns.serving (tickets_drawn (set chairs place now)) turns.out turns.book x.stage)
+          fits = served_number_each_set (λ _ x. FitsTickets turns.serving (tickets_drawn (set chairs place now)) turns.out turns.book x.stage)
               chairs place now
               (omega arith, omega arith)
-              (λ j x _ e. fits_more_numbers turns.serving (tickets_drawn chairs) (tickets_drawn (set chairs place now)) turns.out turns.book
+              (λ j x _ e. served_number_fits_more turns.serving (tickets_drawn chairs) (tickets_drawn (set chairs place now)) turns.out turns.book
               x.stage (omega arith)
               (turns.fits j x e));
           apart = λ i j m f g. ⊎_elim
@@ -171,76 +171,76 @@ module _ {B V : Type 0} {fact : B → List V → Type 0} {width : ℕ} {shows : 
               (λ (two : (j ≡ place) × (Some next ≡ Some m)). one.0 ∙ sym two.0)
               (λ (two : (j ≢ place) × HasTicket chairs j m). let low = between turns j m two.1 in
               let e : next ≡ m = same_Some next m one.1 in absurd (omega arith))
-              (number_set chairs place now j m g))
+              (served_number_set chairs place now j m g))
               (λ (one : (i ≢ place) × HasTicket chairs i m). ⊎_elim
               (λ (two : (j ≡ place) × (Some next ≡ Some m)). let low = between turns i m one.1 in
               let e : next ≡ m = same_Some next m two.1 in absurd (omega arith))
               (λ (two : (j ≢ place) × HasTicket chairs j m). turns.apart i j m one.1 two.1)
-              (number_set chairs place now j m g))
-              (number_set chairs place now i m f);
+              (served_number_set chairs place now j m g))
+              (served_number_set chairs place now i m f);
           queued = λ m low high. dite (ℕ_discrete m next)
-              (λ (e : m ≡ next). (place, number_here chairs place chair now m here (ap Some (sym e))))
+              (λ (e : m ≡ next). (place, served_number_set_here chairs place chair now m here (ap Some (sym e))))
               (λ (e : m ≢ next). let q = turns.queued m low (omega arith) in (
                 q.0,
-                number_else chairs place now q.0 m (λ z. none-some m
-                    (sym none_yet ∙ number_known chairs place chair q.0 m here q.1 z)) q.1,
+                served_number_set_else chairs place now q.0 m (λ z. none-some m
+                    (sym none_yet ∙ served_number_known chairs place chair q.0 m here q.1 z)) q.1,
               ));
           lies = turns.lies;
           taken = λ o. let q = turns.taken o in (
             q.0,
             q.1,
             q.2,
-            item_set_else chairs place q.0 now (λ z. served_inside_outside q.1 turns.book
+            list_item_set_else chairs place q.0 now (λ z. served_number_inside_not_outside q.1 turns.book
                 (sym q.4 ∙ ap (λ (y : ChairState B V). y.stage)
-                (item_once chairs place q.2 chair (subst (λ (i : ℕ). slice_get chairs i ≡ Some q.2) z q.3) here) ∙ out))
+                (list_item_once chairs place q.2 chair (subst (λ (i : ℕ). slice_get chairs i ≡ Some q.2) z q.3) here) ∙ out))
                 ∙ q.3,
             q.4,
           );
-          kept = subst (λ (vs : List V). fact turns.book vs) (sym (served_views_same chairs place chair now here refl))
+          kept = subst (λ (vs : List V). fact turns.book vs) (sym (served_number_views_same chairs place chair now here refl))
               turns.kept;
         },
       )
 
-  pub served_not_out : (m : ℕ) → chair.stage ≡ Waiting m → m ≡ turns.serving → turns.out ≡ false
-  served_not_out m waits served = served_not_true turns.out (λ o.
+  pub served_number_not_out : (m : ℕ) → chair.stage ≡ Waiting m → m ≡ turns.serving → turns.out ≡ false
+  served_number_not_out m waits number_is_served = served_number_not_true turns.out (λ o.
       let taker = turns.taken o in
       let fit = subst (λ (g : ChairStage B). FitsTickets turns.serving (tickets_drawn chairs) turns.out turns.book g) taker.4
       (turns.fits taker.0 taker.2 taker.3) in
       let mine : HasTicket chairs place m = (chair, here, ap ticket_number waits) in
-      let same : taker.1 ≡ m = fit.0 ∙ sym served in
+      let same : taker.1 ≡ m = fit.0 ∙ sym number_is_served in
       let theirs : HasTicket chairs taker.0 m = (taker.2, taker.3, ap ticket_number taker.4 ∙ ap Some same) in
       let here_too = turns.apart taker.0 place m theirs mine in
-      served_inside_waits taker.1 m turns.book (sym taker.4 ∙ ap (λ (y : ChairState B V). y.stage)
-      (item_once chairs place taker.2 chair
+      served_number_inside_not_waiting taker.1 m turns.book (sym taker.4 ∙ ap (λ (y : ChairState B V). y.stage)
+      (list_item_once chairs place taker.2 chair
       (subst (λ (i : ℕ). slice_get chairs i ≡ Some taker.2) here_too taker.3) here) ∙ waits))
 
-  pub enters_served : (m : ℕ) → chair.stage ≡ Waiting m → m ≡ turns.serving
+  pub enters_with_served_number : (m : ℕ) → chair.stage ≡ Waiting m → m ≡ turns.serving
       → TicketTurns fact shows limit words (none ∷ []) (set chairs place
       (ticket_chair_state (Inside m turns.book) chair.entries chair.view))
-  enters_served m waits served =
+  enters_with_served_number m waits number_is_served =
       let now : ChairState B V = ticket_chair_state (Inside m turns.book) chair.entries chair.view in
-      let sums = tickets_drawn-set_served chairs place chair now here in
+      let sums = tickets_drawn-set_number_served chairs place chair now here in
       let as_many : tickets_drawn (set chairs place now) ≡ tickets_drawn chairs = omega arith in
       let more : tickets_drawn chairs ≤ tickets_drawn (set chairs place now) = omega arith in
       let mine = subst (λ (g : ChairStage B). FitsTickets turns.serving (tickets_drawn chairs) turns.out turns.book g) waits
       (turns.fits place chair here) in
-      let off = served_not_out m waits served in
+      let off = served_number_not_out m waits number_is_served in
       let number_is : ticket_number chair.stage ≡ Some m = ap ticket_number waits in
       record {
         serving = turns.serving;
         book = turns.book;
         out = true;
         room = subst (λ (n : ℕ). n * limit < 2 ^ 64) (sym (length-set chairs place now)) turns.room;
-        within = served_each_set (λ _ x. x.entries ≤ limit) chairs place now (turns.within place chair here)
+        within = served_number_each_set (λ _ x. x.entries ≤ limit) chairs place now (turns.within place chair here)
             (λ j x _ e. turns.within j x e);
         next_is = turns.next_is ∙ sym as_many;
         shown = turns.shown;
         behind = let b = turns.behind in omega arith;
-        fits = served_each_set (λ _ x. FitsTickets turns.serving (tickets_drawn (set chairs place now)) true turns.book x.stage) chairs
+        fits = served_number_each_set (λ _ x. FitsTickets turns.serving (tickets_drawn (set chairs place now)) true turns.book x.stage) chairs
             place now
-            (served, omega arith, refl, refl)
-            (λ j x _ e. served_fits_out turns.serving (tickets_drawn (set chairs place now)) turns.out turns.book x.stage off
-            (fits_more_numbers turns.serving (tickets_drawn chairs) (tickets_drawn (set chairs place now)) turns.out turns.book x.stage more
+            (number_is_served, omega arith, refl, refl)
+            (λ j x _ e. served_number_fits_out turns.serving (tickets_drawn (set chairs place now)) turns.out turns.book x.stage off
+            (served_number_fits_more turns.serving (tickets_drawn chairs) (tickets_drawn (set chairs place now)) turns.out turns.book x.stage more
             (turns.fits j x e)));
         apart = λ i j n f g.
             let back : ((l : ℕ) → HasTicket (set chairs place now) l n → HasTicket chairs l n) = λ l h. ⊎_elim
@@ -248,27 +248,27 @@ module _ {B V : Type 0} {fact : B → List V → Type 0} {width : ℕ} {shows : 
             (chair, here, number_is ∙ p.1) in
             subst (λ (z : ℕ). HasTicket chairs z n) (sym p.0) e)
             (λ (p : (l ≢ place) × HasTicket chairs l n). p.1)
-            (number_set chairs place now l n h) in
+            (served_number_set chairs place now l n h) in
             turns.apart i j n (back i f) (back j g);
         queued = λ n low high. let q = turns.queued n low (omega arith) in dite (ℕ_discrete q.0 place)
             (λ (e : q.0 ≡ place). (
               place,
-              number_here chairs place chair now n here
-                  (sym number_is ∙ number_known chairs place chair q.0 n here q.1 e),
+              served_number_set_here chairs place chair now n here
+                  (sym number_is ∙ served_number_known chairs place chair q.0 n here q.1 e),
             ))
-            (λ (e : q.0 ≢ place). (q.0, number_else chairs place now q.0 n e q.1));
+            (λ (e : q.0 ≢ place). (q.0, served_number_set_else chairs place now q.0 n e q.1));
         lies = refl;
-        taken = λ _. (place, m, now, item_set_here chairs place now (slice_get_within chairs place chair here), refl);
-        kept = subst (λ (vs : List V). fact turns.book vs) (sym (served_views_same chairs place chair now here refl))
+        taken = λ _. (place, m, now, list_item_set_here chairs place now (slice_get_within chairs place chair here), refl);
+        kept = subst (λ (vs : List V). fact turns.book vs) (sym (served_number_views_same chairs place chair now here refl))
             turns.kept;
       }
 
   -- a chair outside changes its view
-  pub changes_view : (w : V) → chair.stage ≡ Outside → fact turns.book (set (map ticket_view_of chairs) place w)
+  pub served_number_view_changes : (w : V) → chair.stage ≡ Outside → fact turns.book (set (map ticket_view_of chairs) place w)
       → TicketTurns fact shows limit words homes (set chairs place (ticket_chair_state Outside chair.entries w))
-  changes_view w out keeps =
+  served_number_view_changes w out keeps =
       let now : ChairState B V = ticket_chair_state Outside chair.entries w in
-      let sums = tickets_drawn-set_served chairs place chair now here in
+      let sums = tickets_drawn-set_number_served chairs place chair now here in
       let as_many : tickets_drawn (set chairs place now) ≡ tickets_drawn chairs = omega arith in
       let more : tickets_drawn chairs ≤ tickets_drawn (set chairs place now) = omega arith in
       let none_yet : ticket_number chair.stage ≡ None = ap ticket_number out in
@@ -277,48 +277,48 @@ module _ {B V : Type 0} {fact : B → List V → Type 0} {width : ℕ} {shows : 
         book = turns.book;
         out = turns.out;
         room = subst (λ (n : ℕ). n * limit < 2 ^ 64) (sym (length-set chairs place now)) turns.room;
-        within = served_each_set (λ _ x. x.entries ≤ limit) chairs place now (turns.within place chair here)
+        within = served_number_each_set (λ _ x. x.entries ≤ limit) chairs place now (turns.within place chair here)
             (λ j x _ e. turns.within j x e);
         next_is = turns.next_is ∙ sym as_many;
         shown = turns.shown;
         behind = let b = turns.behind in omega arith;
-        fits = served_each_set (λ _ x. FitsTickets turns.serving (tickets_drawn (set chairs place now)) turns.out turns.book x.stage)
+        fits = served_number_each_set (λ _ x. FitsTickets turns.serving (tickets_drawn (set chairs place now)) turns.out turns.book x.stage)
             chairs place now tt
-            (λ j x _ e. fits_more_numbers turns.serving (tickets_drawn chairs) (tickets_drawn (set chairs place now)) turns.out turns.book
+            (λ j x _ e. served_number_fits_more turns.serving (tickets_drawn chairs) (tickets_drawn (set chairs place now)) turns.out turns.book
             x.stage more (turns.fits j x e));
         apart = λ i j n f g.
             let back : ((l : ℕ) → HasTicket (set chairs place now) l n → HasTicket chairs l n) = λ l h. ⊎_elim
             (λ (p : (l ≡ place) × (None ≡ Some n)). absurd (none-some n p.1))
             (λ (p : (l ≢ place) × HasTicket chairs l n). p.1)
-            (number_set chairs place now l n h) in
+            (served_number_set chairs place now l n h) in
             turns.apart i j n (back i f) (back j g);
         queued = λ n low high. let q = turns.queued n low (omega arith) in (
           q.0,
-          number_else chairs place now q.0 n (λ z. none-some n
-              (sym none_yet ∙ number_known chairs place chair q.0 n here q.1 z)) q.1,
+          served_number_set_else chairs place now q.0 n (λ z. none-some n
+              (sym none_yet ∙ served_number_known chairs place chair q.0 n here q.1 z)) q.1,
         );
         lies = turns.lies;
         taken = λ o. let q = turns.taken o in (
           q.0,
           q.1,
           q.2,
-          item_set_else chairs place q.0 now (λ z. served_inside_outside q.1 turns.book
+          list_item_set_else chairs place q.0 now (λ z. served_number_inside_not_outside q.1 turns.book
               (sym q.4 ∙ ap (λ (y : ChairState B V). y.stage)
-              (item_once chairs place q.2 chair (subst (λ (i : ℕ). slice_get chairs i ≡ Some q.2) z q.3) here) ∙ out))
+              (list_item_once chairs place q.2 chair (subst (λ (i : ℕ). slice_get chairs i ≡ Some q.2) z q.3) here) ∙ out))
               ∙ q.3,
           q.4,
         );
         kept = subst (λ (vs : List V). fact turns.book vs) (sym (map-set ticket_view_of chairs place now)) keeps;
       }
 
-  pub leaves_number : (m : ℕ) (found handed : B) (w : V) (words' : List ℕ) → chair.stage ≡ Inside m found → shows words'
+  pub leaves_served_number : (m : ℕ) (found handed : B) (w : V) (words' : List ℕ) → chair.stage ≡ Inside m found → shows words'
       (m + 1)
       → get_or words' 0 0 ≡ get_or words 0 0 → fact handed (set (map ticket_view_of chairs) place w)
       → TicketTurns fact shows limit words' (some (Some handed) ∷ [])
       (set chairs place (ticket_chair_state Outside chair.entries w))
-  leaves_number m found handed w words' inside shown same keeps =
+  leaves_served_number m found handed w words' inside shown same keeps =
       let now : ChairState B V = ticket_chair_state Outside chair.entries w in
-      let sums = tickets_drawn-set_served chairs place chair now here in
+      let sums = tickets_drawn-set_number_served chairs place chair now here in
       let as_many : tickets_drawn (set chairs place now) ≡ tickets_drawn chairs = omega arith in
       let mine = subst (λ (g : ChairStage B). FitsTickets turns.serving (tickets_drawn chairs) turns.out turns.book g) inside
       (turns.fits place chair here) in
@@ -328,31 +328,31 @@ module _ {B V : Type 0} {fact : B → List V → Type 0} {width : ℕ} {shows : 
         book = handed;
         out = false;
         room = subst (λ (n : ℕ). n * limit < 2 ^ 64) (sym (length-set chairs place now)) turns.room;
-        within = served_each_set (λ _ x. x.entries ≤ limit) chairs place now (turns.within place chair here)
+        within = served_number_each_set (λ _ x. x.entries ≤ limit) chairs place now (turns.within place chair here)
             (λ j x _ e. turns.within j x e);
         next_is = same ∙ turns.next_is ∙ sym as_many;
         shown = shown;
         behind = let low = mine.1 in omega arith;
-        fits = served_each_set (λ _ x. FitsTickets (m + 1) (tickets_drawn (set chairs place now)) false handed x.stage) chairs place now tt
+        fits = served_number_each_set (λ _ x. FitsTickets (m + 1) (tickets_drawn (set chairs place now)) false handed x.stage) chairs place now tt
             (λ j x ne e.
             let other : ticket_number x.stage ≡ Some m → ⊥ = λ f. ne
             (turns.apart j place m (x, e, f) (chair, here, number_is)) in
             let f = subst (λ (s : ℕ). FitsTickets s (tickets_drawn chairs) turns.out turns.book x.stage) (sym mine.0)
             (turns.fits j x e) in
-            fits_next_number m (tickets_drawn (set chairs place now)) turns.out turns.book handed x.stage other
-            (fits_more_numbers m (tickets_drawn chairs) (tickets_drawn (set chairs place now)) turns.out turns.book x.stage (omega arith) f));
+            served_number_fits_next m (tickets_drawn (set chairs place now)) turns.out turns.book handed x.stage other
+            (served_number_fits_more m (tickets_drawn chairs) (tickets_drawn (set chairs place now)) turns.out turns.book x.stage (omega arith) f));
         apart = λ i j n f g.
             let back : ((l : ℕ) → HasTicket (set chairs place now) l n → HasTicket chairs l n) = λ l h. ⊎_elim
             (λ (p : (l ≡ place) × (None ≡ Some n)). absurd (none-some n p.1))
             (λ (p : (l ≢ place) × HasTicket chairs l n). p.1)
-            (number_set chairs place now l n h) in
+            (served_number_set chairs place now l n h) in
             turns.apart i j n (back i f) (back j g);
         queued = λ n low high.
-            let served = mine.0 in
+            let number_is_served = mine.0 in
             let q = turns.queued n (omega arith) (omega arith) in (
               q.0,
-              number_else chairs place now q.0 n (λ z. let e : m ≡ n =
-                  same_Some m n (sym number_is ∙ number_known chairs place chair q.0 n here q.1 z) in omega arith) q.1,
+              served_number_set_else chairs place now q.0 n (λ z. let e : m ≡ n =
+                  same_Some m n (sym number_is ∙ served_number_known chairs place chair q.0 n here q.1 z) in omega arith) q.1,
             );
         lies = refl;
         taken = λ o. absurd (let no : false ≡ true = o in cc);
@@ -360,12 +360,12 @@ module _ {B V : Type 0} {fact : B → List V → Type 0} {width : ℕ} {shows : 
       }
 
   -- who is inside has the number that is served, and the book is out
-  pub served : (m : ℕ) (found : B) → chair.stage ≡ Inside m found → IsServed turns m found
-  served m found inside =
+  pub number_is_served : (m : ℕ) (found : B) → chair.stage ≡ Inside m found → IsNumberServed turns m found
+  number_is_served m found inside =
       let fit = subst (λ (g : ChairStage B). FitsTickets turns.serving (tickets_drawn chairs) turns.out turns.book g) inside
       (turns.fits place chair here) in
       let below = fit.1 in
-      let top = few_numbers in
+      let top = served_numbers_few in
       record {
         number = fit.0;
         fits = omega arith;

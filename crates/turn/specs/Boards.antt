@@ -18,18 +18,18 @@ pub record IsBoard (width : ℕ) (shows : List ℕ → ℕ → Type 0) (at : ℕ
       → shows (slice_set words (at (m + 1)) (passed m (slice_index words (at (m + 1))))) (m + 1)
 
 -- how many words apart those words lie at which threads look, so that each has a cache line of its own
-abbrev pub line_words : ℕ
-line_words = 8
+abbrev pub board_line_words : ℕ
+board_line_words = 8
 
 -- one word for all: it is the number that is let in
-abbrev pub Counts : List ℕ → ℕ → Type 0
-Counts words k = (length words ≡ line_words + 1) × (slice_index words line_words ≡ k)
+abbrev pub CountingBoardLetsIn : List ℕ → ℕ → Type 0
+CountingBoardLetsIn words k = (length words ≡ board_line_words + 1) × (slice_index words board_line_words ≡ k)
 
 -- the own word of number m, of n chairs
-abbrev pub own_word : ℕ → ℕ → ℕ
-own_word n m = (m % n + 1) * line_words
+abbrev pub board_own_word : ℕ → ℕ → ℕ
+board_own_word n m = (m % n + 1) * board_line_words
 
 -- one word for each of n chairs: that of k is k, and none is above it
-abbrev pub Points : ℕ → List ℕ → ℕ → Type 0
-Points n words k = (length words ≡ (n + 1) * line_words) × (slice_index words (own_word n k) ≡ k)
-    × ((j : ℕ) → j < n → slice_index words ((j + 1) * line_words) ≤ k)
+abbrev pub PointingBoardLetsIn : ℕ → List ℕ → ℕ → Type 0
+PointingBoardLetsIn n words k = (length words ≡ (n + 1) * board_line_words) × (slice_index words (board_own_word n k) ≡ k)
+    × ((j : ℕ) → j < n → slice_index words ((j + 1) * board_line_words) ≤ k)

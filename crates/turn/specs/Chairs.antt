@@ -50,16 +50,16 @@ module _ {B V : Type 0} where
   IsSameChair c d = (lock d ≡ lock c) × (chair_place d ≡ chair_place c)
 
   -- a chair of the lock, at this place and with this view, that never entered
-  abbrev pub IsFreshChair : ChairLockId → ℕ → V → ChairToken B V → Type 0
-  IsFreshChair l k v c = (lock c ≡ l) × (chair_place c ≡ k) × (chair_view c ≡ v) × (entries c ≡ 0) × IsChairOutside c
+  abbrev pub IsUnusedChair : ChairLockId → ℕ → V → ChairToken B V → Type 0
+  IsUnusedChair l k v c = (lock c ≡ l) × (chair_place c ≡ k) × (chair_view c ≡ v) × (entries c ≡ 0) × IsChairOutside c
 
   -- chairs of the lock in the order of their places, with this view, that never entered
-  abbrev pub AreFreshChairs : ChairLockId → V → List (ChairToken B V) → Type 0
-  AreFreshChairs l v cs = (k : ℕ) (c : ChairToken B V) → slice_get cs k ≡ Some c → IsFreshChair l k v c
+  abbrev pub AreUnusedChairs : ChairLockId → V → List (ChairToken B V) → Type 0
+  AreUnusedChairs l v cs = (k : ℕ) (c : ChairToken B V) → slice_get cs k ≡ Some c → IsUnusedChair l k v c
 
   -- all n chairs of the lock, in the order of their places and none inside
-  abbrev pub AreAllChairs : ChairLockId → ℕ → List (ChairToken B V) → Type 0
-  AreAllChairs l n cs = (length cs ≡ n) × ((k : ℕ) (c : ChairToken B V) → slice_get cs k ≡ Some c
+  abbrev pub AreChairsInOrder : ChairLockId → ℕ → List (ChairToken B V) → Type 0
+  AreChairsInOrder l n cs = (length cs ≡ n) × ((k : ℕ) (c : ChairToken B V) → slice_get cs k ≡ Some c
       → (lock c ≡ l) × (chair_place c ≡ k) × IsChairOutside c)
 
   -- the fact holds of the book and some list of views with v at the place p

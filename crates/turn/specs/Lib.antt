@@ -4,5 +4,5 @@ pub mod ChairRuns
 pub mod Tickets
 pub mod Boards
 pub mod SeatSteps
-pub mod Laws
+pub mod LawOfTurns
 pub mod Prelude

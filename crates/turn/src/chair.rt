@@ -3,7 +3,7 @@ ghost use Rattle.std.specs.Prelude.{◌≡◌, ◌+◌, ◌^◌, ◌<◌, ◌≤
 ghost use Rattle.turn.specs.declared.chair.ChairStage.TheVariants.{Outside};
 ghost use Rattle.turn.specs.Stages.{stage_carries};
 
-use crate::contract::Keeper;
+use crate::turn::Keeper;
 use atomic_table::Seat;
 use std::collections::LinkedList;
 use thiserror::Error;
@@ -54,17 +54,17 @@ pub struct ChairToken<B, V> {
 }
 
 impl<B, V> ChairToken<B, V> {
-    ghost use Rattle.turn.specs.Chairs.{chair_lock_id, lock, entries, IsFreshChair};
-    ghost use Rattle.turn.specs.SeatSteps.{IsSeatAtStage};
+    ghost use Rattle.turn.specs.Chairs.{chair_lock_id, lock, entries, IsUnusedChair};
+    ghost use Rattle.turn.specs.SeatSteps.{IsSteppingSeatAtStage};
 
     // A chair that never entered.
     pub(crate) fn fresh(
         seat: Seat<Option<B>, ChairRun<ChairState<B, V>>>,
         limit: u64,
     ) -> ChairToken<B, V>
-        requires outside { IsSeatAtStage Outside seat.me }
+        requires outside { IsSteppingSeatAtStage Outside seat.me }
         requires never { seat.me.0.lead.entries ≡ 0 }
-        ensures { IsFreshChair (chair_lock_id seat.table_id limit) seat.me.0.place seat.me.0.lead.view result }
+        ensures { IsUnusedChair (chair_lock_id seat.table_id limit) seat.me.0.place seat.me.0.lead.view result }
     {
         ChairToken {
             seat,

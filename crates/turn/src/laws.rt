@@ -4,9 +4,9 @@
 //! contract.
 ghost use Rattle.turn.specs.Prelude.{TurnsLaw};
 
-use crate::contract::Keeper;
+use crate::boards::Board;
 use crate::lock::TurnLock;
-use crate::lock_words::Board;
+use crate::turn::Keeper;
 
 impl<B, K: Keeper<B>, W: Board, const ENTRIES: u64> TurnLock<B, K, W, ENTRIES> {
     /// In each state that meets the lock's rule, which holds between any two steps: the numbers drawn and not left are

@@ -21,8 +21,8 @@
 //!
 //! Who waits looks again and again, and sleeps between two looks after a while. Who leaves wakes the next one.
 //!
-//! **What contracts see** (`specs/Chairs`): of a chair its `lock`, `place`, `view`, `entries`, and whether it `IsOutside`
-//! or `IsInside` with the book that it took; of a lock its `id`, `size` and `ENTRIES`. Lists are read by `slice_get`.
+//! **What contracts see** (`specs/Chairs`): of a chair its `lock`, `place`, `view`, `entries`, and whether it `IsChairOutside`
+//! or `IsChairInside` with the book that it took; of a lock its `id`, `size` and `ENTRIES`. Lists are read by `slice_get`.
 //!
 //! **What is proved**: the lock invariant whenever the lock is free; [`Spent`] exactly after that many entries, with
 //! nothing changed; `turns_law` of both locks, that the numbers are served in turn and one chair at most is inside; that
@@ -32,13 +32,13 @@
 //! and that `enter` returns are neither proved nor promised.
 #![tactic(auto)]
 
+mod boards;
 mod chair;
-mod contract;
 mod laws;
 mod lock;
-mod lock_words;
 mod sleepers;
+mod turn;
 
 pub use chair::{Chair, ChairToken, Held, Spent};
-pub use contract::{Keeper, Lesson, Outcome, Turn};
 pub use lock::{ArrayLock, TicketLock};
+pub use turn::{Keeper, Lesson, Outcome, Turn};

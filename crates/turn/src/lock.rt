@@ -4,10 +4,10 @@ ghost use Rattle.std.specs.Prelude.{refl};
 ghost use Rattle.std.specs.Bool.{OnTrue, OnFalse};
 ghost use Rattle.turn.specs.declared.chair.ChairStage.TheVariants.{Outside, Waiting, Inside};
 
+use crate::boards::{ArrayBoard, Board, BoardLayout, Change, TicketBoard};
 use crate::chair::{Chair, ChairRun, ChairState, ChairToken, Held, Spent};
-use crate::contract::{Keeper, Lesson, Outcome, Turn};
-use crate::lock_words::{ArrayBoard, Board, BoardLayout, Change, TicketBoard};
 use crate::sleepers::{Sleepers, low_half};
+use crate::turn::{Keeper, Lesson, Outcome, Turn};
 use atomic_table::{Join, Play, Seat, Split, Table, TableRule};
 use crossbeam_utils::Backoff;
 use std::alloc::{AllocError, Global};
@@ -31,21 +31,21 @@ pub struct TicketRule<K, W> {
 
 impl<B, K: Keeper<B>, W: Board> TableRule<Option<B>, ChairRun<ChairState<B, K::View>>, Terms<B>>
     for TicketRule<K, W> {
-    ghost use Rattle.turn.specs.ChairRuns.{DealtChairs};
+    ghost use Rattle.turn.specs.ChairRuns.{DealtChairRuns};
     ghost use Rattle.turn.specs.Tickets.{TicketTurns};
-    ghost use Rattle.turn.specs.SeatSteps.{fresh_seat_run};
+    ghost use Rattle.turn.specs.SeatSteps.{fresh_stepping_seat_run};
 
-    ghost holds = { λ z. DealtChairs z.seats (TicketTurns K.fact (W.shows z.seats) z.entries) };
+    ghost holds = { λ z. DealtChairRuns z.seats (TicketTurns K.fact (W.shows z.seats) z.entries) };
 
-    ghost first = { λ z. fresh_seat_run (K.first z.book.value) 0 z.seats };
+    ghost first = { λ z. fresh_stepping_seat_run (K.first z.book.value) 0 z.seats };
 }
 
 struct Draw;
 
 impl<B, V> Play<Option<B>, ChairRun<ChairState<B, V>>> for Draw {
-    ghost use Rattle.turn.specs.SeatSteps.{DrawStep};
+    ghost use Rattle.turn.specs.SeatSteps.{SeatDrawStep};
 
-    ghost then = { λ _ before found after. DrawStep before found after };
+    ghost then = { λ _ before found after. SeatDrawStep before found after };
 }
 
 struct Look<K> {
@@ -53,20 +53,20 @@ struct Look<K> {
 }
 
 impl<B, K: Keeper<B>> Play<Option<B>, ChairRun<ChairState<B, K::View>>> for Look<K> {
-    ghost use Rattle.turn.specs.SeatSteps.{LookStep};
+    ghost use Rattle.turn.specs.SeatSteps.{SeatLookStep};
 
-    ghost then = { λ _ before found after. LookStep K.fact before found after };
+    ghost then = { λ _ before found after. SeatLookStep K.fact before found after };
 }
 
 // The first chair of a run goes to a new seat.
 struct Deal;
 
 impl<C> Split<ChairRun<C>> for Deal {
-    ghost use Rattle.turn.specs.ChairRuns.{rest_of_chairs, first_chair};
+    ghost use Rattle.turn.specs.ChairRuns.{rest_of_chair_run, chair_run_of_first};
 
-    ghost left = { λ h. rest_of_chairs h };
+    ghost left = { λ h. rest_of_chair_run h };
 
-    ghost right = { λ h. first_chair h };
+    ghost right = { λ h. chair_run_of_first h };
 }
 
 // A seat takes in the chair at the place before its own.
@@ -76,12 +76,12 @@ struct Gather<K> {
 
 impl<B, K: Keeper<B>> Join<ChairRun<ChairState<B, K::View>>> for Gather<K> {
     ghost use Rattle.std.specs.Prelude.{false};
-    ghost use Rattle.turn.specs.ChairRuns.{chair_run, both_chairs};
-    ghost use Rattle.turn.specs.SeatSteps.{fresh_seat};
+    ghost use Rattle.turn.specs.ChairRuns.{chair_run, both_chair_runs};
+    ghost use Rattle.turn.specs.SeatSteps.{fresh_stepping_seat};
 
-    ghost both = { λ h g. both_chairs h g };
+    ghost both = { λ h g. both_chair_runs h g };
 
-    ghost spent = { chair_run false 0 (fresh_seat K.nobody) [] };
+    ghost spent = { chair_run false 0 (fresh_stepping_seat K.nobody) [] };
 }
 
 // A seat takes in another's one chair as its guest.
@@ -91,23 +91,23 @@ struct Host<K> {
 
 impl<B, K: Keeper<B>> Join<ChairRun<ChairState<B, K::View>>> for Host<K> {
     ghost use Rattle.std.specs.Prelude.{false};
-    ghost use Rattle.turn.specs.ChairRuns.{chair_run, hosts_chair};
-    ghost use Rattle.turn.specs.SeatSteps.{fresh_seat};
+    ghost use Rattle.turn.specs.ChairRuns.{chair_run, chair_run_hosting};
+    ghost use Rattle.turn.specs.SeatSteps.{fresh_stepping_seat};
 
-    ghost both = { λ h g. hosts_chair h g };
+    ghost both = { λ h g. chair_run_hosting h g };
 
-    ghost spent = { chair_run false 0 (fresh_seat K.nobody) [] };
+    ghost spent = { chair_run false 0 (fresh_stepping_seat K.nobody) [] };
 }
 
 // A seat's guest goes to a new seat.
 struct Dismiss;
 
 impl<C> Split<ChairRun<C>> for Dismiss {
-    ghost use Rattle.turn.specs.ChairRuns.{first_chair, guest_run};
+    ghost use Rattle.turn.specs.ChairRuns.{chair_run_of_first, run_of_chair_guest};
 
-    ghost left = { λ h. first_chair h };
+    ghost left = { λ h. chair_run_of_first h };
 
-    ghost right = { λ h. guest_run h };
+    ghost right = { λ h. run_of_chair_guest h };
 }
 
 struct Talk<M> {
@@ -115,9 +115,9 @@ struct Talk<M> {
 }
 
 impl<B, V, M: Lesson<V>> Play<Option<B>, ChairRun<ChairState<B, V>>> for Talk<M> {
-    ghost use Rattle.turn.specs.SeatSteps.{TalkStep};
+    ghost use Rattle.turn.specs.SeatSteps.{SeatTalkStep};
 
-    ghost then = { λ _ before _ after. TalkStep M.then before after };
+    ghost then = { λ _ before _ after. SeatTalkStep M.then before after };
 }
 
 struct StepOut<M> {
@@ -125,9 +125,9 @@ struct StepOut<M> {
 }
 
 impl<B, V, M: Outcome<B, V>> Change<Option<B>, ChairRun<ChairState<B, V>>> for StepOut<M> {
-    ghost use Rattle.turn.specs.SeatSteps.{LeaveStep};
+    ghost use Rattle.turn.specs.SeatSteps.{SeatLeaveStep};
 
-    ghost then = { λ before after. LeaveStep M.then before after };
+    ghost then = { λ before after. SeatLeaveStep M.then before after };
 }
 
 /// A seat of a lock's table.
@@ -157,18 +157,18 @@ pub type TicketLock<B, K, const ENTRIES: u64> = TurnLock<B, K, TicketBoard, ENTR
 pub type ArrayLock<B, K, const ENTRIES: u64> = TurnLock<B, K, ArrayBoard, ENTRIES>;
 
 impl<B, K: Keeper<B>, W: Board, const ENTRIES: u64> TurnLock<B, K, W, ENTRIES> {
-    ghost use Rattle.turn.specs.SeatSteps.{fresh_seat_run, seat_with, seat_at_stage, IsSeatAtStage, StepsIn};
-    ghost use Rattle.turn.specs.ChairRuns.{chairs_of};
-    ghost use Rattle.turn.specs.Chairs.{chair_lock_id, chair_state_of, AreFreshChairs, AreAllChairs, ChairStands, ChairMayConfer, ChairMayHandIn};
+    ghost use Rattle.turn.specs.SeatSteps.{fresh_stepping_seat_run, stepping_seat_with, stepping_seat_at_stage, IsSteppingSeatAtStage, SeatStepsIn};
+    ghost use Rattle.turn.specs.ChairRuns.{chairs_of_run};
+    ghost use Rattle.turn.specs.Chairs.{chair_lock_id, chair_state_of, AreUnusedChairs, AreChairsInOrder, ChairStands, ChairMayConfer, ChairMayHandIn};
 
     // The step 'draw': one addition to the next number. The chair waits with the number found.
     fn draw(&self, seat: &mut LockSeat<B, K::View>) -> u64
         requires own { seat.old.table_id ≡ self.now.table.shared.table_id }
-        requires outside { IsSeatAtStage Outside seat.old.me }
+        requires outside { IsSteppingSeatAtStage Outside seat.old.me }
         requires left { seat.old.me.0.lead.entries < ENTRIES }
         ensures own { seat.new.table_id ≡ seat.old.table_id }
         ensures waits { seat.new.me
-            ≡ seat_with seat.old.me.0.place (Waiting result) (seat.old.me.0.lead.entries + 1)
+            ≡ stepping_seat_with seat.old.me.0.place (Waiting result) (seat.old.me.0.lead.entries + 1)
             seat.old.me.0.lead.view }
         ensures small { result + 1 < 2 ^ 64 }
     {
@@ -181,9 +181,9 @@ impl<B, K: Keeper<B>, W: Board, const ENTRIES: u64> TurnLock<B, K, W, ENTRIES> {
     fn look(&self, seat: &mut LockSeat<B, K::View>, word: usize, number: u64) -> bool
         requires own { seat.old.table_id ≡ self.now.table.shared.table_id }
         requires word { word ≡ W.at self.now.layout.seats number }
-        requires waits { IsSeatAtStage (Waiting number) seat.old.me }
+        requires waits { IsSteppingSeatAtStage (Waiting number) seat.old.me }
         ensures own { seat.new.table_id ≡ seat.old.table_id }
-        ensures enter { OnTrue result (StepsIn K.fact number seat.old.me seat.new.me) }
+        ensures enter { OnTrue result (SeatStepsIn K.fact number seat.old.me seat.new.me) }
         ensures look { OnFalse result (seat.new.me ≡ seat.old.me) }
     {
         W::lawful(self.layout.seats);
@@ -207,9 +207,9 @@ impl<B, K: Keeper<B>, W: Board, const ENTRIES: u64> TurnLock<B, K, W, ENTRIES> {
     fn wait_awake(&self, seat: &mut LockSeat<B, K::View>, word: usize, number: u64) -> bool
         requires own { seat.old.table_id ≡ self.now.table.shared.table_id }
         requires word { word ≡ W.at self.now.layout.seats number }
-        requires waits { IsSeatAtStage (Waiting number) seat.old.me }
+        requires waits { IsSteppingSeatAtStage (Waiting number) seat.old.me }
         ensures own { seat.new.table_id ≡ seat.old.table_id }
-        ensures enter { OnTrue result (StepsIn K.fact number seat.old.me seat.new.me) }
+        ensures enter { OnTrue result (SeatStepsIn K.fact number seat.old.me seat.new.me) }
         ensures wait { OnFalse result (seat.new.me ≡ seat.old.me) }
     {
         let backoff = Backoff::new();
@@ -234,9 +234,9 @@ impl<B, K: Keeper<B>, W: Board, const ENTRIES: u64> TurnLock<B, K, W, ENTRIES> {
     )
         requires own { seat.old.table_id ≡ self.now.table.shared.table_id }
         requires word { word ≡ W.at self.now.layout.seats number }
-        requires waits { IsSeatAtStage (Waiting number) seat.old.me }
+        requires waits { IsSteppingSeatAtStage (Waiting number) seat.old.me }
         ensures own { seat.new.table_id ≡ seat.old.table_id }
-        ensures enter { StepsIn K.fact number seat.old.me seat.new.me }
+        ensures enter { SeatStepsIn K.fact number seat.old.me seat.new.me }
     {
         W::lawful(self.layout.seats);
         for _ in rt.forever() {
@@ -254,9 +254,9 @@ impl<B, K: Keeper<B>, W: Board, const ENTRIES: u64> TurnLock<B, K, W, ENTRIES> {
     // Waits until the chair's number is served: awake for a while, and then asleep.
     fn wait_for_turn<R: Wait>(&self, rt: &R, seat: &mut LockSeat<B, K::View>, number: u64)
         requires own { seat.old.table_id ≡ self.now.table.shared.table_id }
-        requires waits { IsSeatAtStage (Waiting number) seat.old.me }
+        requires waits { IsSteppingSeatAtStage (Waiting number) seat.old.me }
         ensures own { seat.new.table_id ≡ seat.old.table_id }
-        ensures enter { StepsIn K.fact number seat.old.me seat.new.me }
+        ensures enter { SeatStepsIn K.fact number seat.old.me seat.new.me }
     {
         let word = W::at(self.layout.seats, number);
         if !self.wait_awake(seat, word, number) {
@@ -269,9 +269,9 @@ impl<B, K: Keeper<B>, W: Board, const ENTRIES: u64> TurnLock<B, K, W, ENTRIES> {
     // Waits for the chair's turn, and takes the book.
     fn step_in<R: Wait>(&self, rt: &R, seat: &mut LockSeat<B, K::View>, number: u64) -> B
         requires own { seat.old.table_id ≡ self.now.table.shared.table_id }
-        requires waits { IsSeatAtStage (Waiting number) seat.old.me }
+        requires waits { IsSteppingSeatAtStage (Waiting number) seat.old.me }
         ensures own { seat.new.table_id ≡ seat.old.table_id }
-        ensures inside { seat.new.me ≡ seat_at_stage (Inside number result) seat.old.me }
+        ensures inside { seat.new.me ≡ stepping_seat_at_stage (Inside number result) seat.old.me }
         ensures fact { ChairStands K.fact result seat.old.me.0.place seat.old.me.0.lead.view }
     {
         self.wait_for_turn(rt, seat, number);
@@ -283,13 +283,13 @@ impl<B, K: Keeper<B>, W: Board, const ENTRIES: u64> TurnLock<B, K, W, ENTRIES> {
     fn hand_in<M: Outcome<B, K::View>>(&self, seat: &mut LockSeat<B, K::View>, number: u64, book: B)
         requires own { seat.old.table_id ≡ self.now.table.shared.table_id }
         requires small { number + 1 < 2 ^ 64 }
-        requires inside { (found : B) × IsSeatAtStage (Inside number found) seat.old.me
+        requires inside { (found : B) × IsSteppingSeatAtStage (Inside number found) seat.old.me
             × ChairMayHandIn K.fact M.then found book seat.old.me.0.place seat.old.me.0.lead.view }
         ensures own { seat.new.table_id ≡ seat.old.table_id }
         ensures outside { seat.new.me
-            ≡ seat_with seat.old.me.0.place Outside seat.old.me.0.lead.entries
+            ≡ stepping_seat_with seat.old.me.0.place Outside seat.old.me.0.lead.entries
             seat.new.me.0.lead.view }
-        ensures then { (found : B) → IsSeatAtStage (Inside number found) seat.old.me
+        ensures then { (found : B) → IsSteppingSeatAtStage (Inside number found) seat.old.me
             → M.then found book seat.old.me.0.place seat.old.me.0.lead.view seat.new.me.0.lead.view }
     {
         let taken = self.table.shared.exchange(seat, 0, Some(book));
@@ -306,12 +306,12 @@ impl<B, K: Keeper<B>, W: Board, const ENTRIES: u64> TurnLock<B, K, W, ENTRIES> {
     )
         requires own { (seat.old.table_id ≡ self.now.table.shared.table_id)
             × (other.old.table_id ≡ self.now.table.shared.table_id) }
-        requires outside { IsSeatAtStage Outside seat.old.me × IsSeatAtStage Outside other.old.me }
+        requires outside { IsSteppingSeatAtStage Outside seat.old.me × IsSteppingSeatAtStage Outside other.old.me }
         requires may { ChairMayConfer K.fact M.then seat.old.me.0.place seat.old.me.0.lead.view
             other.old.me.0.place other.old.me.0.lead.view }
         ensures own { (seat.new.table_id ≡ seat.old.table_id) × (other.new.table_id ≡ other.old.table_id) }
         ensures outside { seat.new.me
-            ≡ seat_with seat.old.me.0.place Outside seat.old.me.0.lead.entries
+            ≡ stepping_seat_with seat.old.me.0.place Outside seat.old.me.0.lead.entries
             seat.new.me.0.lead.view }
         ensures then { M.then seat.old.me.0.place seat.old.me.0.lead.view other.old.me.0.place
             other.old.me.0.lead.view seat.new.me.0.lead.view }
@@ -341,13 +341,13 @@ impl<B, K: Keeper<B>, W: Board, const ENTRIES: u64> TurnLock<B, K, W, ENTRIES> {
     fn deal(&self, mut rest: LockSeat<B, K::View>, mut chairs: Vec<Chair<B, K>>) -> Vec<Chair<B, K>>
         requires own { rest.table_id ≡ self.now.table.shared.table_id }
         requires whole { rest.me ≡ (
-          fresh_seat_run (K.first self.now.table.shared.key.book.value) 0
+          fresh_stepping_seat_run (K.first self.now.table.shared.key.book.value) 0
               self.now.layout.seats,
           [],
         ) }
         requires room { (chairs.items ≡ []) × (self.now.layout.seats ≤ vec_capacity chairs) }
         ensures all { length result.items ≡ self.now.layout.seats }
-        ensures fresh { AreFreshChairs (chair_lock_id self.now.table.shared.table_id ENTRIES)
+        ensures fresh { AreUnusedChairs (chair_lock_id self.now.table.shared.table_id ENTRIES)
             (K.first self.now.table.shared.key.book.value) result.items }
     {
         for _ in 0..self.layout.seats {
@@ -359,12 +359,12 @@ impl<B, K: Keeper<B>, W: Board, const ENTRIES: u64> TurnLock<B, K, W, ENTRIES> {
 
     // Takes the chairs in, the last one first, so that one seat has all places.
     fn gather(&self, mut chairs: Vec<Chair<B, K>>) -> LockSeat<B, K::View>
-        requires { AreAllChairs (chair_lock_id self.now.table.shared.table_id ENTRIES) self.now.layout.seats
+        requires { AreChairsInOrder (chair_lock_id self.now.table.shared.table_id ENTRIES) self.now.layout.seats
             chairs.items }
         ensures own { result.table_id ≡ self.now.table.shared.table_id }
         ensures free { result.me.1 ≡ [] }
         ensures whole { (result.me.0.live ≡ true) × (result.me.0.place ≡ 0)
-            × (chairs_of result.me.0 ≡ map chair_state_of chairs.items) }
+            × (chairs_of_run result.me.0 ≡ map chair_state_of chairs.items) }
     {
         let Some(last) = chairs.pop() else {
             unreachable!()
@@ -381,7 +381,7 @@ impl<B, K: Keeper<B>, W: Board, const ENTRIES: u64> TurnLock<B, K, W, ENTRIES> {
 
 impl<B: Send, K: Keeper<B>, W: Board + Sync, const ENTRIES: u64> Turn<B, K>
     for TurnLock<B, K, W, ENTRIES> {
-    ghost use Rattle.turn.specs.Chairs.{chair_lock_id, chair_view, AreAllChairs};
+    ghost use Rattle.turn.specs.Chairs.{chair_lock_id, chair_view, AreChairsInOrder};
 
     const ENTRIES: u64 = ENTRIES;
 
@@ -438,7 +438,7 @@ impl<B: Send, K: Keeper<B>, W: Board + Sync, const ENTRIES: u64> Turn<B, K>
     }
 
     fn close(self, chairs: Vec<Chair<B, K>>) -> B
-        requires { AreAllChairs (chair_lock_id self.table.shared.table_id ENTRIES) self.layout.seats
+        requires { AreChairsInOrder (chair_lock_id self.table.shared.table_id ENTRIES) self.layout.seats
             chairs.items }
         ensures { K.fact result (map chair_view chairs.items) }
     {

@@ -1,7 +1,7 @@
 -- The join of two timestamps, entry by entry.
 use Rattle.std.proofs.Common.{◌≡◌, ℕ, zero, suc, ◌<◌, List, [], ◌∷◌, length, max, get_or, set, take, refl, ap, sym, arith}
 use Rattle.std.proofs.Math.Nat.{max-zero, zero-max}
-use Rattle.vtime.specs.Times.{join}
+use Rattle.vtime.specs.TicksAndJoins.{join}
 
 -- nothing joined changes nothing
 pub join-nil : (ts : List ℕ) → join ts [] ≡ ts

@@ -1,1 +1,1 @@
-pub mod Times
+pub mod TicksAndJoins

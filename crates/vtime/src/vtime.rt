@@ -4,7 +4,7 @@ ghost use Rattle.std.specs.Prelude.{slice_index, nat_eq};
 ghost use Rattle.std.specs.Cmp.{partial_equiv_from_equiv};
 ghost use Rattle.std.specs.Cmp.Lexicographic.{pointwise, nat_list_eq_equiv};
 ghost use Rattle.base.specs.Prelude.{most_processors};
-ghost use Rattle.vtime.specs.Times.{tick, join, Covers};
+ghost use Rattle.vtime.specs.TicksAndJoins.{tick, join, Covers};
 
 use base::MOST_PROCESSORS;
 use std::alloc::Global;
@@ -68,7 +68,7 @@ impl VTime {
         requires fits { slice_index self.old q < 2 ^ 64 - 1 }
         ensures { self.new ≡ tick self.old q }
     {
-        tick_entry(&mut self.entries[..self.processors], q);
+        tick_vtime_entry(&mut self.entries[..self.processors], q);
     }
 
     /// Takes over what `other` has performed: each entry becomes the greater of the two.
@@ -78,7 +78,7 @@ impl VTime {
         ensures greater { (q : ℕ) → slice_index self.new q ≡ max (slice_index self.old q) (slice_index other.now q) }
         ensures same_length { length self.new ≡ length self.old }
     {
-        join_entries(&mut self.entries[..self.processors], other.entries());
+        join_vtime_entries(&mut self.entries[..self.processors], other.entries());
     }
 
     /// Makes it that of the start again, of which no interval has been performed.
@@ -125,7 +125,7 @@ impl Eq for VTime {
 }
 
 /// Adds one to entry `q`.
-fn tick_entry(entries: &mut [u64], q: usize)
+fn tick_vtime_entry(entries: &mut [u64], q: usize)
     requires in_range { q < length entries.old }
     requires fits { slice_index entries.old q < 2 ^ 64 - 1 }
     ensures { entries.new ≡ tick entries.old q }
@@ -134,7 +134,7 @@ fn tick_entry(entries: &mut [u64], q: usize)
 }
 
 /// Raises each entry of `mine` to that of `theirs` if that is greater.
-fn join_entries(mine: &mut [u64], theirs: &[u64])
+fn join_vtime_entries(mine: &mut [u64], theirs: &[u64])
     requires { length theirs.now ≡ length mine.old }
     ensures value { mine.new ≡ join mine.old theirs.now }
     ensures greater { (q : ℕ) → slice_index mine.new q ≡ max (slice_index mine.old q) (slice_index theirs.now q) }

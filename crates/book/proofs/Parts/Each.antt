@@ -4,7 +4,7 @@ use Rattle.std.proofs.lemmas.Bool.{cases_eq}
 use Rattle.std.proofs.lemmas.List.{length-set, length-replicate}
 use Rattle.std.proofs.lemmas.Option.{same_Some, slice_get-get_or}
 use Rattle.base.proofs.SliceSets.{slice_get-set_found, slice_get-set_other, slice_get-replicate_found}
-use Rattle.book.specs.Stamps.{EachStampedAt}
+use Rattle.book.specs.BookStamps.{EachStampedAt}
 
 -- one item is written, and each other keeps what it has to be
 pub each_set : {A : Type 0} (n : ℕ) (R Q : ℕ → A → Type 0) (xs : List A) (i : ℕ) (v : A) → EachStampedAt n R xs

@@ -3,32 +3,32 @@ use Rattle.std.proofs.Common.{ℕ, zero, suc, ◌≡◌, ◌≢◌, ◌<◌, ◌
 use Rattle.std.specs.Option.{option_map}
 use Rattle.std.proofs.lemmas.List.{length-take, take-append-drop}
 use Rattle.std.proofs.lemmas.Option.{slice_get-map}
-use Rattle.journal.specs.MissingWords.{Missing, MissingInOrder}
+use Rattle.journal.specs.MissingIntervals.{MissingInterval, MissingIntervalsInOrder}
 use Rattle.base.specs.InOrderOnce.{Has, InOrder}
-use Rattle.base.proofs.Joined.{has-nil, has-cons, has-append, in_order-append, in_order-cons, in_order-map, joined_in_order_single, joined_in_order_tail}
+use Rattle.base.proofs.JoinedLists.{joined_list_has-nil, joined_list_has-cons, joined_list_has-append, joined_list_in_order-append, joined_list_in_order-cons, joined_list_in_order-map, joined_list_in_order_single, joined_list_in_order_tail}
 use Rattle.base.proofs.SlicesAndCounts.{slice_get-append_right, slice_get-from_take, slice_get-take_within}
 use Rattle.interval.specs.SentIntervals.{SentRecord}
-use Rattle.book.specs.News.{news_of_notice}
+use Rattle.book.specs.PageNews.{page_news_of_notice}
 use Rattle.page.specs.Contents.{Contents}
 use Rattle.page.specs.declared.page.Access.TheVariants.{Invalid}
 use Rattle.cluster.specs.Copies.Backlogs.{IsPlaceInBacklog}
-use Rattle.cluster.specs.Copies.PageReplica.{Copied}
-use Rattle.cluster.specs.Copies.AfterNews.{IsAfterNews, MayLackNews}
+use Rattle.cluster.specs.Copies.PageReplica.{PageReplica}
+use Rattle.cluster.specs.Copies.AfterNews.{IsAfterNews, CopyMayLackNews}
 
 -- one interval was closed before the other
 abbrev pub IsLearnedBefore : SentRecord → SentRecord → Type 0
 IsLearnedBefore a b = a.place < b.place
 
 -- closing order, of the records themselves
-pub in_order : (xs : List SentRecord) → MissingInOrder (map news_of_notice xs) → InOrder IsLearnedBefore xs
-in_order xs order x y a b lt at bt = order x y (news_of_notice a) (news_of_notice b) lt (there x a at) (there y b bt)
+pub learned_in_order : (xs : List SentRecord) → MissingIntervalsInOrder (map page_news_of_notice xs) → InOrder IsLearnedBefore xs
+learned_in_order xs order x y a b lt at bt = order x y (page_news_of_notice a) (page_news_of_notice b) lt (there x a at) (there y b bt)
   where
-    there : (k : ℕ) (r : SentRecord) → slice_get xs k ≡ Some r → slice_get (map news_of_notice xs) k ≡ Some (news_of_notice r)
-    there k r is = slice_get-map news_of_notice xs k ∙ ap (option_map news_of_notice) is
+    there : (k : ℕ) (r : SentRecord) → slice_get xs k ≡ Some r → slice_get (map page_news_of_notice xs) k ≡ Some (page_news_of_notice r)
+    there k r is = slice_get-map page_news_of_notice xs k ∙ ap (option_map page_news_of_notice) is
 
 -- and back
-pub learned_closing_order : (xs : List SentRecord) → InOrder IsLearnedBefore xs → MissingInOrder (map news_of_notice xs)
-learned_closing_order xs = in_order-map (λ (a b : Missing). a.place < b.place) news_of_notice xs
+pub learned_missing_in_order : (xs : List SentRecord) → InOrder IsLearnedBefore xs → MissingIntervalsInOrder (map page_news_of_notice xs)
+learned_missing_in_order xs = joined_list_in_order-map (λ (a b : MissingInterval). a.place < b.place) page_news_of_notice xs
 
 module _ (xs : List SentRecord) (x : SentRecord) (k : ℕ) (is : IsPlaceInBacklog xs x.place k) where
   -- the list with the record at its place
@@ -42,26 +42,26 @@ module _ (xs : List SentRecord) (x : SentRecord) (k : ℕ) (is : IsPlaceInBacklo
       old : Has xs y ↔ (Has (take k xs) y ⊎ Has (drop k xs) y)
       old =
           let P : List SentRecord → Type 0 = λ ys. Has ys y ↔ (Has (take k xs) y ⊎ Has (drop k xs) y) in
-          subst P (take-append-drop k xs) (has-append (take k xs) (drop k xs) y)
+          subst P (take-append-drop k xs) (joined_list_has-append (take k xs) (drop k xs) y)
 
       there : Has learned_inserted y → Has xs y ⊎ Has (x ∷ []) y
-      there has = elim ((has-append (take k xs) (x ∷ drop k xs) y).0 has) [
+      there has = elim ((joined_list_has-append (take k xs) (x ∷ drop k xs) y).0 has) [
         | inl front ↦ inl (old.1 (inl front))
         | inr rest ↦
-            (elim ((has-cons x (drop k xs) y).0 rest) [
-              | inl same ↦ inr ((has-cons x [] y).1 (inl same))
+            (elim ((joined_list_has-cons x (drop k xs) y).0 rest) [
+              | inl same ↦ inr ((joined_list_has-cons x [] y).1 (inl same))
               | inr back ↦ inl (old.1 (inr back))
             ])
       ]
 
       back : Has xs y ⊎ Has (x ∷ []) y → Has learned_inserted y
       back (inl has) = elim (old.0 has) [
-        | inl front ↦ (has-append (take k xs) (x ∷ drop k xs) y).1 (inl front)
-        | inr rest ↦ (has-append (take k xs) (x ∷ drop k xs) y).1 (inr ((has-cons x (drop k xs) y).1 (inr rest)))
+        | inl front ↦ (joined_list_has-append (take k xs) (x ∷ drop k xs) y).1 (inl front)
+        | inr rest ↦ (joined_list_has-append (take k xs) (x ∷ drop k xs) y).1 (inr ((joined_list_has-cons x (drop k xs) y).1 (inr rest)))
       ]
-      back (inr has) = elim ((has-cons x [] y).0 has) [
-        | inl same ↦ (has-append (take k xs) (x ∷ drop k xs) y).1 (inr ((has-cons x (drop k xs) y).1 (inl same)))
-        | inr none ↦ absurd (has-nil y none)
+      back (inr has) = elim ((joined_list_has-cons x [] y).0 has) [
+        | inl same ↦ (joined_list_has-append (take k xs) (x ∷ drop k xs) y).1 (inr ((joined_list_has-cons x (drop k xs) y).1 (inl same)))
+        | inr none ↦ absurd (joined_list_has-nil y none)
       ]
 
   -- the rest begins at k
@@ -76,13 +76,13 @@ module _ (xs : List SentRecord) (x : SentRecord) (k : ℕ) (is : IsPlaceInBacklo
       sym (subst Q (take-append-drop k xs) here)
 
   -- and it is in closing order, where its interval was not in the list
-  pub learned_inserted_order : MissingInOrder (map news_of_notice xs) → ((y : SentRecord) → Has xs y → y.place ≢ x.place)
-      → MissingInOrder (map news_of_notice (take k xs ++ x ∷ drop k xs))
+  pub learned_inserted_order : MissingIntervalsInOrder (map page_news_of_notice xs) → ((y : SentRecord) → Has xs y → y.place ≢ x.place)
+      → MissingIntervalsInOrder (map page_news_of_notice (take k xs ++ x ∷ drop k xs))
   learned_inserted_order closed apart =
-      learned_closing_order learned_inserted (in_order-append IsLearnedBefore (take k xs) (x ∷ drop k xs) front rest across)
+      learned_missing_in_order learned_inserted (joined_list_in_order-append IsLearnedBefore (take k xs) (x ∷ drop k xs) front rest across)
     where
       order : InOrder IsLearnedBefore xs
-      order = in_order xs closed
+      order = learned_in_order xs closed
 
       behind : (b : SentRecord) → Has (drop k xs) b → x.place < b.place
       behind b has = is.behind (k + has.0) b (omega arith) (sym (learned_at_dropped has.0) ∙ has.1)
@@ -91,11 +91,11 @@ module _ (xs : List SentRecord) (x : SentRecord) (k : ℕ) (is : IsPlaceInBacklo
       front i j a b lt at bt = order i j a b lt (slice_get-from_take xs k i a at) (slice_get-from_take xs k j b bt)
 
       rest : InOrder IsLearnedBefore (x ∷ drop k xs)
-      rest = in_order-cons IsLearnedBefore x (drop k xs) behind (λ i j a b lt at bt.
+      rest = joined_list_in_order-cons IsLearnedBefore x (drop k xs) behind (λ i j a b lt at bt.
           order (k + i) (k + j) a b (omega arith) (sym (learned_at_dropped i) ∙ at) (sym (learned_at_dropped j) ∙ bt))
 
       across : (a b : SentRecord) → Has (take k xs) a → Has (x ∷ drop k xs) b → a.place < b.place
-      across a b in_front has = elim ((has-cons x (drop k xs) b).0 has) [
+      across a b in_front has = elim ((joined_list_has-cons x (drop k xs) b).0 has) [
         | inl same ↦ subst (λ (r : SentRecord). a.place < r.place) same sooner
         | inr late ↦ (let first = sooner in let c = behind b late in omega arith)
       ]
@@ -111,7 +111,7 @@ module _ (xs : List SentRecord) (x : SentRecord) (k : ℕ) (is : IsPlaceInBacklo
               omega arith
 
 -- a copy that learns of one record
-pub learned_news : (c d : Copied) (x : SentRecord) (k : ℕ) → MayLackNews c (x ∷ []) → IsPlaceInBacklog c.missing x.place k
+pub learned_news : (c d : PageReplica) (x : SentRecord) (k : ℕ) → CopyMayLackNews c (x ∷ []) → IsPlaceInBacklog c.missing x.place k
     → d.page ≡ record c.page { access = Invalid }
     → d.missing ≡ take k c.missing ++ x ∷ drop k c.missing
     → IsAfterNews c (x ∷ []) d
@@ -123,7 +123,7 @@ learned_news c d x k may is page missing = record {
 }
 
 -- what a copy learned, and then one record more
-pub learned_more : (c d e : Copied) (news : List SentRecord) (x : SentRecord) → IsAfterNews c news d
+pub learned_more : (c d e : PageReplica) (news : List SentRecord) (x : SentRecord) → IsAfterNews c news d
     → IsAfterNews d (x ∷ []) e
     → IsAfterNews c (news ++ x ∷ []) e
 learned_more c d e news x before now = record {
@@ -144,56 +144,56 @@ learned_more c d e news x before now = record {
 
     there : (y : SentRecord) → Has e.missing y → Has c.missing y ⊎ Has (news ++ x ∷ []) y
     there y has = elim ((now.lacks y).0 has) [
-      | inr last ↦ inr ((has-append news (x ∷ []) y).1 (inr last))
+      | inr last ↦ inr ((joined_list_has-append news (x ∷ []) y).1 (inr last))
       | inl old ↦
           (elim ((before.lacks y).0 old) [
             | inl first ↦ inl first
-            | inr sooner ↦ inr ((has-append news (x ∷ []) y).1 (inl sooner))
+            | inr sooner ↦ inr ((joined_list_has-append news (x ∷ []) y).1 (inl sooner))
           ])
     ]
 
     back : (y : SentRecord) → Has c.missing y ⊎ Has (news ++ x ∷ []) y → Has e.missing y
     back y (inl first) = (now.lacks y).1 (inl ((before.lacks y).1 (inl first)))
-    back y (inr has) = elim ((has-append news (x ∷ []) y).0 has) [
+    back y (inr has) = elim ((joined_list_has-append news (x ∷ []) y).0 has) [
       | inl sooner ↦ (now.lacks y).1 (inl ((before.lacks y).1 (inr sooner)))
       | inr last ↦ (now.lacks y).1 (inr last)
     ]
 
 -- a copy that learned of the first of these records may learn of the rest
-pub may_learn_rest : (c d : Copied) (x : SentRecord) (xs : List SentRecord) → MayLackNews c (x ∷ xs) → IsAfterNews c (x ∷ []) d
+pub may_learn_rest : (c d : PageReplica) (x : SentRecord) (xs : List SentRecord) → CopyMayLackNews c (x ∷ xs) → IsAfterNews c (x ∷ []) d
     → d.room + 1 ≡ c.room
-    → MayLackNews d xs
+    → CopyMayLackNews d xs
 may_learn_rest c d x xs may is room = record {
   room = let all = may.room in omega arith;
   clean = λ _. rw (is.page (λ none. cc)) (may.clean (λ none. cc));
   order = is.order;
-  news_order = learned_closing_order xs (joined_in_order_tail IsLearnedBefore x xs order);
+  news_order = learned_missing_in_order xs (joined_list_in_order_tail IsLearnedBefore x xs order);
   apart = λ y z has new. elim ((is.lacks y).0 has) [
-    | inl old ↦ may.apart y z old ((has-cons x xs z).1 (inr new))
+    | inl old ↦ may.apart y z old ((joined_list_has-cons x xs z).1 (inr new))
     | inr first ↦
-        (elim ((has-cons x [] y).0 first) [
+        (elim ((joined_list_has-cons x [] y).0 first) [
           | inl same ↦
               (let sooner : x.place < z.place = order 0 (suc new.0) x z (omega arith) refl new.1 in
               let P : SentRecord → Type 0 = λ r. r.place < z.place in
               let lt = subst P same sooner in
               λ e. absurd (omega arith))
-          | inr none ↦ absurd (has-nil y none)
+          | inr none ↦ absurd (joined_list_has-nil y none)
         ])
   ];
 }
   where
     order : InOrder IsLearnedBefore (x ∷ xs)
-    order = in_order (x ∷ xs) may.news_order
+    order = learned_in_order (x ∷ xs) may.news_order
 
 -- a record may be learned where it and others may
-pub may_learn_first : (c : Copied) (x : SentRecord) (xs : List SentRecord) → MayLackNews c (x ∷ xs) → MayLackNews c (x ∷ [])
+pub may_learn_first : (c : PageReplica) (x : SentRecord) (xs : List SentRecord) → CopyMayLackNews c (x ∷ xs) → CopyMayLackNews c (x ∷ [])
 may_learn_first c x xs may = record {
   room = let all = may.room in omega arith;
   clean = λ _. may.clean (λ none. cc);
   order = may.order;
-  news_order = joined_in_order_single (λ (a b : Missing). a.place < b.place) (news_of_notice x);
-  apart = λ y z has new. elim ((has-cons x [] z).0 new) [
+  news_order = joined_list_in_order_single (λ (a b : MissingInterval). a.place < b.place) (page_news_of_notice x);
+  apart = λ y z has new. elim ((joined_list_has-cons x [] z).0 new) [
     | inl same ↦ may.apart y z has (zero, ap (λ (r : SentRecord). Some r) same)
-    | inr none ↦ absurd (has-nil z none)
+    | inr none ↦ absurd (joined_list_has-nil z none)
   ];
 }

@@ -8,8 +8,8 @@ pub record BacklogOfCopy : Type 0 where
   pub room : ℕ
 
 -- no records, and memory for none
-abbrev pub no_backlog : BacklogOfCopy
-no_backlog = record { records = []; room = 0 }
+abbrev pub backlog_of_none : BacklogOfCopy
+backlog_of_none = record { records = []; room = 0 }
 
 -- a list read round from its k-th item on
 abbrev pub backlog_read_from : {A : Type 0} → ℕ → List A → List A
@@ -22,7 +22,7 @@ pub record IsPlaceInBacklog (missing : List SentRecord) (place k : ℕ) : Type 0
   pub behind : (i : ℕ) (x : SentRecord) → k ≤ i → slice_get missing i ≡ Some x → place < x.place
 
 -- the record stands behind those that were closed no later than it, and before the others
-pub record IsPutInBacklog (old : List SentRecord) (x : SentRecord) (new : List SentRecord) : Type 0 where
+pub record IsInsertedInBacklog (old : List SentRecord) (x : SentRecord) (new : List SentRecord) : Type 0 where
   pub at : ℕ
   pub among : IsPlaceInBacklog old x.place at
   pub put : new ≡ take at old ++ x ∷ drop at old

@@ -7,7 +7,7 @@ use Rattle.journal.specs.Sizes.{Sizes}
 use Rattle.journal.specs.Events.{events_of}
 use Rattle.journal.specs.DidEvent.{event}
 use Rattle.turn.specs.Chairs.{ChairLockId}
-use Rattle.cluster.specs.Copies.PageReplica.{Copied, zero_replica}
+use Rattle.cluster.specs.Copies.PageReplica.{PageReplica, zero_page_replica}
 
 -- its lock and how often it has entered; its number and the cluster's sizes; the history as it left it last, how many
 -- of its first events were cut off then, and how many its own cuts took off in all; its open block; its copy of each page, and to which pages it may have
@@ -22,7 +22,7 @@ pub record Local : Type 0 where
   pub cut : ℕ
   pub own_cut : ℕ
   pub block : List Event
-  pub copies : List Copied
+  pub copies : List PageReplica
   pub stored : List Bool
   pub time : List ℕ
   pub held : List Bool
@@ -37,8 +37,8 @@ abbrev pub local_noted : Local → Kind → Local
 local_noted m k = record m { block = m.block ++ event m.number k ∷ [] }
 
 -- a copy of a page that nobody stored to
-abbrev pub blank : Sizes → Copied
-blank s = zero_replica s.words
+abbrev pub blank_local_copy : Sizes → PageReplica
+blank_local_copy s = zero_page_replica s.words
 
 -- processor p of this lock before its first call
 abbrev pub new_local : ChairLockId → ℕ → Sizes → Local
@@ -51,7 +51,7 @@ new_local l p s = record {
   cut = 0;
   own_cut = 0;
   block = [];
-  copies = replicate s.pages (blank s);
+  copies = replicate s.pages (blank_local_copy s);
   stored = replicate most_pages false;
   time = replicate s.processors 0;
   held = replicate s.locks false;

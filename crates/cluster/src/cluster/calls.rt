@@ -3,7 +3,7 @@
 ghost use Rattle.std.specs.Prelude.{◌≡◌};
 ghost use Rattle.std.specs.Result.{result_err};
 ghost use Rattle.journal.specs.declared.event.Kind.TheVariants.{Ask, Release, Arrive, Set, Watch};
-ghost use Rattle.cluster.specs.Prelude.{arrive_refusal, ask_refusal, release_refusal, flag_refusal, IsClosingCall};
+ghost use Rattle.cluster.specs.Prelude.{processor_refusal_of_arrival, processor_refusal_of_ask, processor_refusal_of_release, processor_refusal_of_flag, IsClosingCall};
 
 use super::Cluster;
 use crate::keeper::BookTurn;
@@ -29,7 +29,7 @@ impl<T: BookTurn> Cluster<T> {
         lock: usize,
     ) -> Result<(), Refused>
         requires own { processor.old.lock ≡ self.now.lock }
-        ensures { IsClosingCall (ask_refusal processor.old lock) (Ask lock)
+        ensures { IsClosingCall (processor_refusal_of_ask processor.old lock) (Ask lock)
             processor.old processor.new (result_err result) }
     {
         self.close(rt, processor, Closing::Ask(lock))
@@ -46,7 +46,7 @@ impl<T: BookTurn> Cluster<T> {
         lock: usize,
     ) -> Result<(), Refused>
         requires own { processor.old.lock ≡ self.now.lock }
-        ensures { IsClosingCall (release_refusal processor.old lock) (Release lock)
+        ensures { IsClosingCall (processor_refusal_of_release processor.old lock) (Release lock)
             processor.old processor.new (result_err result) }
     {
         self.close(rt, processor, Closing::Release(lock))
@@ -58,7 +58,7 @@ impl<T: BookTurn> Cluster<T> {
     /// Refused as [`ask`](Cluster::ask) is, with none of the reasons that name the lock.
     pub fn arrive<R: Wait>(&self, rt: &R, processor: &mut Processor<T>) -> Result<(), Refused>
         requires own { processor.old.lock ≡ self.now.lock }
-        ensures { IsClosingCall (arrive_refusal processor.old) Arrive
+        ensures { IsClosingCall (processor_refusal_of_arrival processor.old) Arrive
             processor.old processor.new (result_err result) }
     {
         self.close(rt, processor, Closing::Arrive)
@@ -76,7 +76,7 @@ impl<T: BookTurn> Cluster<T> {
         flag: usize,
     ) -> Result<(), Refused>
         requires own { processor.old.lock ≡ self.now.lock }
-        ensures { IsClosingCall (flag_refusal processor.old flag) (Set flag)
+        ensures { IsClosingCall (processor_refusal_of_flag processor.old flag) (Set flag)
             processor.old processor.new (result_err result) }
     {
         self.close(rt, processor, Closing::Set(flag))
@@ -93,7 +93,7 @@ impl<T: BookTurn> Cluster<T> {
         flag: usize,
     ) -> Result<(), Refused>
         requires own { processor.old.lock ≡ self.now.lock }
-        ensures { IsClosingCall (flag_refusal processor.old flag) (Watch flag)
+        ensures { IsClosingCall (processor_refusal_of_flag processor.old flag) (Watch flag)
             processor.old processor.new (result_err result) }
     {
         self.close(rt, processor, Closing::Watch(flag))

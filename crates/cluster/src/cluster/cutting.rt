@@ -2,7 +2,7 @@
 ghost use Rattle.std.specs.Prelude.{◌≡◌, IfErr, OnErr, OnOk};
 ghost use Rattle.std.specs.Result.{result_err};
 ghost use Rattle.book.specs.Prelude.{WasBookCut};
-ghost use Rattle.cluster.specs.Prelude.{IsCuttingCall, IsCuttingFault};
+ghost use Rattle.cluster.specs.Prelude.{IsCuttingCall, IsCuttingCallFault};
 
 use super::Cluster;
 use crate::keeper::BookTurn;
@@ -25,19 +25,19 @@ impl<T: BookTurn> Cluster<T> {
         requires own { processor.old.lock ≡ self.now.lock }
         ensures { IsCuttingCall processor.old processor.new (result_err result) }
     {
-        let (held, mut book) = self.take_book(rt, &mut processor.chair)?;
-        let cut = cut_off(&mut book);
-        self.give_book(&mut processor.chair, held, book);
+        let (held, mut book) = self.enter_book(rt, &mut processor.chair)?;
+        let cut = cluster_cut_off(&mut book);
+        self.give_entered_book(&mut processor.chair, held, book);
         cut?;
         Ok(())
     }
 }
 
 /// The book's part of a cut, and the refusal that a call answers.
-fn cut_off(book: &mut Book) -> Result<(), Refused>
+fn cluster_cut_off(book: &mut Book) -> Result<(), Refused>
     ensures ok { OnOk result (WasBookCut book.old book.new) }
     ensures err { OnErr result (book.new ≡ book.old) }
-    ensures fault { IfErr result (λ e. IsCuttingFault book.old.journal e) }
+    ensures fault { IfErr result (λ e. IsCuttingCallFault book.old.journal e) }
 {
     book.cut()?;
     Ok(())

@@ -2,9 +2,9 @@
 ghost use Rattle.std.specs.Prelude.{◌≡◌, ◌+◌, ◌<◌, IfOk, IfErr, List};
 ghost use Rattle.turn.specs.Prelude.{lock, entries, IsChairOutside, IsChairInside};
 ghost use Rattle.journal.specs.declared.event.Event.{Event};
-ghost use Rattle.book.specs.Prelude.{State};
+ghost use Rattle.book.specs.Prelude.{BookState};
 ghost use Rattle.cluster.specs.Copies.Prelude.{Local};
-ghost use Rattle.cluster.specs.Prelude.{IsEnteringChairOf, IsCallOf, FindsBookOnEntering, HasEntered, HasLeftAfterEntering};
+ghost use Rattle.cluster.specs.Prelude.{IsEnteringChairOf, IsEnteringCallOf, FindsBookOnEntering, HasEntered, HasEnteredAndLeft};
 
 use super::Cluster;
 use crate::keeper::{BookTurn, Looking, Rule};
@@ -18,7 +18,7 @@ impl<T: BookTurn> Cluster<T> {
     /// [`SeatSpent`](Refused::SeatSpent) exactly if the chair has entered as often as it may.
     // It stands in its callers, since a take that comes too early does little else.
     #[inline(always)]
-    pub(super) fn take_book<R: Wait>(
+    pub(super) fn enter_book<R: Wait>(
         &self,
         rt: &R,
         chair: &mut Chair<Book, Rule>,
@@ -38,11 +38,11 @@ impl<T: BookTurn> Cluster<T> {
     }
 
     /// Gives the book back, which the processor's call left so.
-    pub(super) fn give_book(&self, chair: &mut Chair<Book, Rule>, held: Held, book: Book)
+    pub(super) fn give_entered_book(&self, chair: &mut Chair<Book, Rule>, held: Held, book: Book)
         requires own { lock chair.old ≡ self.now.lock }
-        requires call { (m : Local) × (found : State) × (es : List Event)
-            × IsEnteringChairOf m chair.old × IsChairInside chair.old held found × IsCallOf m found es book }
-        ensures { HasLeftAfterEntering chair.old chair.new held book }
+        requires call { (m : Local) × (found : BookState) × (es : List Event)
+            × IsEnteringChairOf m chair.old × IsChairInside chair.old held found × IsEnteringCallOf m found es book }
+        ensures { HasEnteredAndLeft chair.old chair.new held book }
     {
         let turn = &self.turn;
         turn.leave::<Looking>(chair, held, book);

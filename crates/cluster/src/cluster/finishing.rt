@@ -5,7 +5,7 @@ ghost use Rattle.journal.specs.declared.event.Event.{Event as AnEvent};
 ghost use Rattle.journal.specs.Sizes.{Sizes};
 ghost use Rattle.base.specs.Limits.{most_processors};
 ghost use Rattle.cluster.specs.Copies.Local.{Local};
-ghost use Rattle.cluster.specs.Finishing.{AreAllToFinish, AreTakenApartToFinish, AreBlocksToFinish, IsFinished, IsFinishing};
+ghost use Rattle.cluster.specs.Finishing.{AreAllToFinish, AreDismantledToFinish, AreBlocksToFinish, IsFinished, IsFinishing};
 
 use super::Cluster;
 use crate::keeper::{BookTurn, Rule};
@@ -18,17 +18,17 @@ use turn::Chair;
 
 /// Room for the chairs and the blocks of all processors, with which [`Cluster::finish`] takes no memory.
 #[derive(Drop)]
-pub(super) struct Spare {
+pub(super) struct FinishingRoom {
     chairs: Vec<Chair<Book, Rule>>,
     blocks: Vec<Vec<Event>>,
     ghost no_chairs: { (chairs.items ≡ []) × (most_processors ≤ vec_capacity chairs) },
     ghost no_blocks: { (blocks.items ≡ []) × (most_processors ≤ vec_capacity blocks) },
 }
 
-impl Spare {
+impl FinishingRoom {
     /// Room for as many as a cluster may have.
-    pub(super) fn new(alloc: Global) -> Result<Spare, AllocError> {
-        Ok(Spare {
+    pub(super) fn new(alloc: Global) -> Result<FinishingRoom, AllocError> {
+        Ok(FinishingRoom {
             chairs: Vec::with_capacity(alloc, MOST_PROCESSORS)?,
             blocks: Vec::with_capacity(alloc, MOST_PROCESSORS)?,
         })
@@ -48,22 +48,22 @@ impl<T: BookTurn> Cluster<T> {
             bells: _,
             spare,
         } = self;
-        let (chairs, blocks) = take_apart(processors, spare.into_inner());
+        let (chairs, blocks) = finish_taking_apart(processors, spare.into_inner());
         let mut book = turn.close(chairs);
-        hand_in_all(&mut book, blocks.as_slice());
+        finish_handing_in(&mut book, blocks.as_slice());
         book.into_journal()
     }
 }
 
 /// The chairs of the processors, and their open blocks.
-fn take_apart<T: BookTurn>(
+fn finish_taking_apart<T: BookTurn>(
     processors: Vec<Processor<T>>,
-    spare: Spare,
+    spare: FinishingRoom,
 ) -> (Vec<Chair<Book, Rule>>, Vec<Vec<Event>>)
     requires { vec_len processors ≤ most_processors }
-    ensures { AreTakenApartToFinish processors.items result.0.items (map vec_items result.1.items) }
+    ensures { AreDismantledToFinish processors.items result.0.items (map vec_items result.1.items) }
 {
-    let Spare {
+    let FinishingRoom {
         mut chairs,
         mut blocks,
     } = spare;
@@ -76,7 +76,7 @@ fn take_apart<T: BookTurn>(
 }
 
 /// Hands the blocks in, the one at place p as that of processor p.
-fn hand_in_all(book: &mut Book, blocks: &[Vec<Event>])
+fn finish_handing_in(book: &mut Book, blocks: &[Vec<Event>])
     requires { (s : Sizes) × (ms : List Local) × (h : List AnEvent)
         × IsFinishing s ms 0 h book.old × AreBlocksToFinish ms (map vec_items blocks.now) }
     ensures { (s : Sizes) (ms : List Local) (h : List AnEvent)

@@ -1,7 +1,7 @@
 //! Calls that hand the open block in, and do no more.
 ghost use Rattle.std.specs.Prelude.{◌≡◌, IfOk};
 ghost use Rattle.std.specs.Result.{result_err};
-ghost use Rattle.cluster.specs.Prelude.{IsHandingCall, IsAudit};
+ghost use Rattle.cluster.specs.Prelude.{IsProcessorHandingCall, IsFaithfulJournalAudit};
 
 use super::Cluster;
 use crate::keeper::BookTurn;
@@ -19,11 +19,11 @@ impl<T: BookTurn> Cluster<T> {
     /// more of the journal.
     pub fn flush<R: Wait>(&self, rt: &R, processor: &mut Processor<T>) -> Result<(), Refused>
         requires own { processor.old.lock ≡ self.now.lock }
-        ensures { IsHandingCall processor.old processor.new (result_err result) }
+        ensures { IsProcessorHandingCall processor.old processor.new (result_err result) }
     {
-        let (held, mut book) = self.take_book(rt, &mut processor.chair)?;
+        let (held, mut book) = self.enter_book(rt, &mut processor.chair)?;
         let handed = book.hand_in(processor.number, processor.block.as_slice());
-        self.give_book(&mut processor.chair, held, book);
+        self.give_entered_book(&mut processor.chair, held, book);
         handed?;
         processor.block.clear();
         Ok(())
@@ -32,12 +32,12 @@ impl<T: BookTurn> Cluster<T> {
     /// Hands the open block in as [`flush`](Cluster::flush) does, and answers a copy of the whole journal after it.
     pub fn audit<R: Wait>(&self, rt: &R, processor: &mut Processor<T>) -> Result<Journal, Refused>
         requires own { processor.old.lock ≡ self.now.lock }
-        ensures call { IsHandingCall processor.old processor.new (result_err result) }
-        ensures journal { IfOk result (λ j. IsAudit processor.old processor.new j) }
+        ensures call { IsProcessorHandingCall processor.old processor.new (result_err result) }
+        ensures journal { IfOk result (λ j. IsFaithfulJournalAudit processor.old processor.new j) }
     {
-        let (held, mut book) = self.take_book(rt, &mut processor.chair)?;
+        let (held, mut book) = self.enter_book(rt, &mut processor.chair)?;
         let audited = book.audit(processor.number, processor.block.as_slice());
-        self.give_book(&mut processor.chair, held, book);
+        self.give_entered_book(&mut processor.chair, held, book);
         let journal = audited?;
         processor.block.clear();
         Ok(journal)

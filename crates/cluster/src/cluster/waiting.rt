@@ -3,7 +3,7 @@ ghost use Rattle.std.specs.Prelude.{◌≡◌, ◌↔◌, List};
 ghost use Rattle.journal.specs.Prelude.{Sizes, Ready, IsDeadlock};
 ghost use Rattle.journal.specs.declared.event.Event.{Event};
 ghost use Rattle.book.specs.Prelude.{Represents, AllowsSomeTakeCall};
-ghost use Rattle.cluster.specs.Prelude.{IsWaitingCall, waited_answer};
+ghost use Rattle.cluster.specs.Prelude.{IsWaitingCall, waiting_call_answer};
 
 use super::Cluster;
 use crate::bells::Bells;
@@ -32,10 +32,10 @@ impl<T: BookTurn> Cluster<T> {
         if !processor.waiting() {
             return Ok(Waited::MayHaveCome);
         }
-        let (held, book) = self.take_book(rt, &mut processor.chair)?;
-        let found = look(&self.bells, &book, processor.number);
-        self.give_book(&mut processor.chair, held, book);
-        Ok(settle(rt, &self.bells, processor.number, found))
+        let (held, book) = self.enter_book(rt, &mut processor.chair)?;
+        let found = look_while_waiting(&self.bells, &book, processor.number);
+        self.give_entered_book(&mut processor.chair, held, book);
+        Ok(settle_waiting(rt, &self.bells, processor.number, found))
     }
 
     /// Says that the processor with this number makes no more calls, so that nobody waits for it in vain: a thread that
@@ -46,12 +46,12 @@ impl<T: BookTurn> Cluster<T> {
 }
 
 /// What processor `p` finds: an answer, or None if it has to sleep. If nothing has come it forgets what it was told.
-fn look(bells: &Bells, book: &Book, p: usize) -> Option<Waited>
+fn look_while_waiting(bells: &Bells, book: &Book, p: usize) -> Option<Waited>
     requires call { AllowsSomeTakeCall book.now p }
     ensures stuck { (s : Sizes) (h : List Event) → Represents s h book.now
-        → waited_answer result ≡ Waited.Stuck ↔ IsDeadlock s h }
+        → waiting_call_answer result ≡ Waited.Stuck ↔ IsDeadlock s h }
     ensures deserted { (s : Sizes) (h : List Event) → Represents s h book.now
-        → waited_answer result ≡ Waited.Deserted → ¬ Ready s h p }
+        → waiting_call_answer result ≡ Waited.Deserted → ¬ Ready s h p }
 {
     if book.is_ready(p) {
         return Some(Waited::MayHaveCome);
@@ -67,8 +67,8 @@ fn look(bells: &Bells, book: &Book, p: usize) -> Option<Waited>
 }
 
 /// Answers what was found, and tells all others if nothing can come any more; or waits until `p` is told.
-fn settle<R: Wait>(rt: &R, bells: &Bells, p: usize, found: Option<Waited>) -> Waited
-    ensures { result ≡ waited_answer found }
+fn settle_waiting<R: Wait>(rt: &R, bells: &Bells, p: usize, found: Option<Waited>) -> Waited
+    ensures { result ≡ waiting_call_answer found }
 {
     match found {
         None => {

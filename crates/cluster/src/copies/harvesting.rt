@@ -2,10 +2,10 @@
 ghost use Rattle.std.specs.Prelude.{◌≡◌, IfOk, IsOk, false, map, replicate};
 ghost use Rattle.std.specs.Arc.{arc_value};
 ghost use Rattle.base.specs.Prelude.{most_pages};
-ghost use Rattle.cluster.specs.Copies.Prelude.{AreHarvests, DirtyAreMarked, copy_cleaned_after_news};
+ghost use Rattle.cluster.specs.Copies.Prelude.{AreHarvestsOfCopies, CopiesToHarvestAreMarked, copy_cleaned_after_news};
 
-use crate::copies::marks::Marks;
-use crate::copies::page_copy::Replica;
+use crate::copies::mark_set::MarkSet;
+use crate::copies::replica::Replica;
 use page::Record;
 use std::alloc::{AllocError, Global};
 use std::sync::Arc;
@@ -17,10 +17,10 @@ use std::sync::Arc;
 pub fn harvest(
     alloc: Global,
     replicas: &[Replica],
-    stored: &Marks,
+    stored: &MarkSet,
 ) -> Result<Vec<Arc<Record>>, AllocError>
-    requires { DirtyAreMarked replicas.now stored.now }
-    ensures harvests { IfOk result (λ records. AreHarvests replicas.now
+    requires { CopiesToHarvestAreMarked replicas.now stored.now }
+    ensures harvests { IfOk result (λ records. AreHarvestsOfCopies replicas.now
         (map arc_value records.items)) }
     ensures unmarked { stored.now ≡ replicate most_pages false → IsOk result }
 {
@@ -40,8 +40,8 @@ pub fn harvest(
 
 /// Cleans the words of all copies, and unmarks all pages. `stored` marks each page with a dirty word: only pages with a
 /// mark are looked at.
-pub fn clean(replicas: &mut [Replica], stored: &mut Marks)
-    requires { DirtyAreMarked replicas.old stored.old }
+pub fn clean(replicas: &mut [Replica], stored: &mut MarkSet)
+    requires { CopiesToHarvestAreMarked replicas.old stored.old }
     ensures copies { replicas.new ≡ map copy_cleaned_after_news replicas.old }
     ensures marks { stored.new ≡ replicate most_pages false }
 {
@@ -53,5 +53,5 @@ pub fn clean(replicas: &mut [Replica], stored: &mut Marks)
         replicas[page].clean();
         next = page + 1;
     }
-    *stored = Marks::none();
+    *stored = MarkSet::none();
 }

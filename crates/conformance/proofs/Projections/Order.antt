@@ -2,38 +2,38 @@
 use Rattle.std.proofs.Common.{ℕ, List, Bool, sym, ◌∙◌}
 use Rattle.journal.specs.declared.event.Event.{Event}
 use Rattle.journal.specs.declared.event.Kind.{Kind}
-use Rattle.journal.specs.Events.{is_arrive, is_depart}
-use Rattle.journal.specs.HappensBeforeEdges.{Edge, EdgesMeetAt, HappensBefore, Link}
+use Rattle.journal.specs.Events.{event_arrives, event_departs}
+use Rattle.journal.specs.HappensBeforeEdges.{Edge, HappensBeforeEdgesMeet, HappensBefore, Link}
 use Rattle.journal.specs.HappensBeforeEdges.Link.{same, lets, meets}
 use Rattle.journal.specs.HappensBeforeEdges.HappensBefore.{edge, on}
-use Rattle.conformance.proofs.Projections.Embeds.{IsProjection}
-use Rattle.conformance.proofs.Projections.WellFormed.{KeepsSynchronization, projected_arrivals, projected_departures}
+use Rattle.conformance.proofs.Projections.Embeds.{IsEmbeddedProjection}
+use Rattle.conformance.proofs.Projections.WellFormed.{KeepsSynchronization, well_formed_projection_arrivals, well_formed_projection_departures}
 
 -- the projection g of h
-module _ (keep : Kind → Bool) (keeps : KeepsSynchronization keep) (g h : List Event) (x : IsProjection keep g h) where
-  meet_in_whole : {i k : ℕ} {e f : Event} → EdgesMeetAt g i k e f → EdgesMeetAt h (x.embeds.place i) (x.embeds.place k) e f
-  meet_in_whole {i = i} {k = k} {e = e} {f = f} m =
-      let arrivals = x.fronts i is_arrive (projected_arrivals keep keeps) e.processor in
-      let departures = x.fronts k is_depart (projected_departures keep keeps) f.processor in
+module _ (keep : Kind → Bool) (keeps : KeepsSynchronization keep) (g h : List Event) (x : IsEmbeddedProjection keep g h) where
+  projection_order_meet : {i k : ℕ} {e f : Event} → HappensBeforeEdgesMeet g i k e f → HappensBeforeEdgesMeet h (x.embeds.place i) (x.embeds.place k) e f
+  projection_order_meet {i = i} {k = k} {e = e} {f = f} m =
+      let arrivals = x.fronts i event_arrives (well_formed_projection_arrivals keep keeps) e.processor in
+      let departures = x.fronts k event_departs (well_formed_projection_departures keep keeps) f.processor in
       record { arrives = m.arrives; departs = m.departs; episode = sym arrivals ∙ m.episode ∙ departures }
 
-  link_in_whole : {i k : ℕ} {e f : Event} → Link g i k e f → Link h (x.embeds.place i) (x.embeds.place k) e f
-  link_in_whole (same s) = same s
-  link_in_whole (lets l) = lets l
-  link_in_whole (meets m) = meets (meet_in_whole m)
+  projection_order_link : {i k : ℕ} {e f : Event} → Link g i k e f → Link h (x.embeds.place i) (x.embeds.place k) e f
+  projection_order_link (same s) = same s
+  projection_order_link (lets l) = lets l
+  projection_order_link (meets m) = meets (projection_order_meet m)
 
-  edge_in_whole : {i k : ℕ} → Edge g i k → Edge h (x.embeds.place i) (x.embeds.place k)
-  edge_in_whole {i = i} {k = k} e =
+  projection_order_edge : {i k : ℕ} → Edge g i k → Edge h (x.embeds.place i) (x.embeds.place k)
+  projection_order_edge {i = i} {k = k} e =
       record {
         before = x.embeds.rises i k e.before;
         from = e.from;
         to = e.to;
         from_at = x.embeds.there i e.from e.from_at;
         to_at = x.embeds.there k e.to e.to_at;
-        link = link_in_whole e.link;
+        link = projection_order_link e.link;
       }
 
   -- what happens before what, happens so in the whole
-  pub before_in_whole : {i k : ℕ} → HappensBefore g i k → HappensBefore h (x.embeds.place i) (x.embeds.place k)
-  before_in_whole (edge e) = edge (edge_in_whole e)
-  before_in_whole (on b e) = on (before_in_whole b) (edge_in_whole e)
+  pub projection_order_before : {i k : ℕ} → HappensBefore g i k → HappensBefore h (x.embeds.place i) (x.embeds.place k)
+  projection_order_before (edge e) = edge (projection_order_edge e)
+  projection_order_before (on b e) = on (projection_order_before b) (projection_order_edge e)

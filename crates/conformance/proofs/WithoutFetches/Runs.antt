@@ -5,20 +5,20 @@ use Rattle.std.proofs.lemmas.Option.{none-some, same_Some}
 use Rattle.journal.specs.declared.event.Event.{Event}
 use Rattle.journal.specs.declared.event.Kind.{Kind}
 use Rattle.journal.specs.declared.event.Kind.TheVariants.{Store, Fetch}
-use Rattle.journal.specs.FlatMemory.{flat_write, Replays}
-use Rattle.base.specs.LastWritten.{wrote}
+use Rattle.journal.specs.ReplayMemory.{replay_memory_write, Replays}
+use Rattle.base.specs.LastWrite.{wrote}
 use Rattle.lrc_script.specs.Plan.{Plan}
 use Rattle.lrc_script.specs.Lawful.{plan_addresses}
 use Rattle.conformance.specs.Follows.{plan_sizes, is_fetch, calls_of}
 use Rattle.conformance.specs.FlatRuns.{IsFlatRun, FlatRunHasNoFetch}
-use Rattle.conformance.proofs.Calls.{calls_of_first, calls_of_first-fetch, calls_of_first-other}
-use Rattle.conformance.proofs.Recomputing.Replaying.{replay_answers_first, replays_rest, replays_first}
-use Rattle.conformance.proofs.WithoutFetches.Embeds.{without_fetches, by_events_without_fetches, without_fetches_of}
+use Rattle.conformance.proofs.FollowedCalls.{followed_calls_first, followed_calls_first-fetch, followed_calls_first-other}
+use Rattle.conformance.proofs.Recomputing.EventReplays.{event_replays_answers_first, event_replays_rest, event_replays_first}
+use Rattle.conformance.proofs.WithoutFetches.HistoryWithoutFetches.{without_fetches, by_events_without_fetches, without_fetches_of}
 use Rattle.conformance.proofs.WithoutFetches.WellFormed.{well_formed_without_fetches}
 
 -- nothing is fetched in what is left
-pub no_fetch_in : (h : List Event) → FlatRunHasNoFetch (without_fetches h)
-no_fetch_in = by_events_without_fetches (λ g h. FlatRunHasNoFetch g) (λ i e at. absurd (none-some e at)) (λ e h is x. x) call
+pub run_without_fetches_has_none : (h : List Event) → FlatRunHasNoFetch (without_fetches h)
+run_without_fetches_has_none = by_events_without_fetches (λ g h. FlatRunHasNoFetch g) (λ i e at. absurd (none-some e at)) (λ e h is x. x) call
   where
     call : (e : Event) (h : List Event) → is_fetch e.kind ≡ false → FlatRunHasNoFetch (without_fetches h)
         → FlatRunHasNoFetch (e ∷ without_fetches h)
@@ -26,25 +26,25 @@ no_fetch_in = by_events_without_fetches (λ g h. FlatRunHasNoFetch g) (λ i e at
     call e h is x (suc i) f at = x i f at
 
 -- each processor's calls are the same
-pub calls_without_fetches : (p : ℕ) (h : List Event) → calls_of (without_fetches h) p ≡ calls_of h p
-calls_without_fetches p = by_events_without_fetches (λ g h. calls_of g p ≡ calls_of h p) refl fetch call
+pub run_calls_without_fetches : (p : ℕ) (h : List Event) → calls_of (without_fetches h) p ≡ calls_of h p
+run_calls_without_fetches p = by_events_without_fetches (λ g h. calls_of g p ≡ calls_of h p) refl fetch call
   where
     fetch : (e : Event) (h : List Event) → is_fetch e.kind ≡ true → calls_of (without_fetches h) p ≡ calls_of h p
         → calls_of (without_fetches h) p ≡ calls_of (e ∷ h) p
-    fetch e h is same = same ∙ sym (calls_of_first-fetch e.processor p e.kind h is)
+    fetch e h is same = same ∙ sym (followed_calls_first-fetch e.processor p e.kind h is)
 
     own : (e : Event) (h : List Event) → is_fetch e.kind ≡ false
         → calls_of (without_fetches h) e.processor ≡ calls_of h e.processor
         → calls_of (e ∷ without_fetches h) e.processor ≡ calls_of (e ∷ h) e.processor
     own e h is same =
-        calls_of_first e.processor e.kind (without_fetches h) is ∙ ap (λ ks. e.kind ∷ ks) same
-        ∙ sym (calls_of_first e.processor e.kind h is)
+        followed_calls_first e.processor e.kind (without_fetches h) is ∙ ap (λ ks. e.kind ∷ ks) same
+        ∙ sym (followed_calls_first e.processor e.kind h is)
 
     other : (e : Event) (h : List Event) → e.processor ≢ p → calls_of (without_fetches h) p ≡ calls_of h p
         → calls_of (e ∷ without_fetches h) p ≡ calls_of (e ∷ h) p
     other e h apart same =
-        calls_of_first-other e.processor p e.kind (without_fetches h) apart ∙ same
-        ∙ sym (calls_of_first-other e.processor p e.kind h apart)
+        followed_calls_first-other e.processor p e.kind (without_fetches h) apart ∙ same
+        ∙ sym (followed_calls_first-other e.processor p e.kind h apart)
 
     call : (e : Event) (h : List Event) → is_fetch e.kind ≡ false → calls_of (without_fetches h) p ≡ calls_of h p
         → calls_of (e ∷ without_fetches h) p ≡ calls_of (e ∷ h) p
@@ -56,36 +56,36 @@ calls_without_fetches p = by_events_without_fetches (λ g h. calls_of g p ≡ ca
     ]
 
 -- a fetch writes nothing
-fetch_writes : (memory : List ℕ) (k : Kind) → is_fetch k ≡ true → wrote memory (flat_write k) ≡ memory
-fetch_writes memory (Fetch w n r d) is = refl
-fetch_writes memory (Store a v) is = absurd (cc)
-fetch_writes memory _ is = refl
+run_fetch_writes_nothing : (memory : List ℕ) (k : Kind) → is_fetch k ≡ true → wrote memory (replay_memory_write k) ≡ memory
+run_fetch_writes_nothing memory (Fetch w n r d) is = refl
+run_fetch_writes_nothing memory (Store a v) is = absurd (cc)
+run_fetch_writes_nothing memory _ is = refl
 
 -- what replays does so without its fetches
-pub replays_without_fetches : (h : List Event) (memory : List ℕ) → Replays memory h → Replays memory (without_fetches h)
-replays_without_fetches = by_events_without_fetches (λ g h. (memory : List ℕ) → Replays memory h → Replays memory g)
+pub run_replays_without_fetches : (h : List Event) (memory : List ℕ) → Replays memory h → Replays memory (without_fetches h)
+run_replays_without_fetches = by_events_without_fetches (λ g h. (memory : List ℕ) → Replays memory h → Replays memory g)
     (λ memory replays. replays) fetch call
   where
     fetch : (e : Event) (h : List Event) → is_fetch e.kind ≡ true
         → ((memory : List ℕ) → Replays memory h → Replays memory (without_fetches h)) → (memory : List ℕ)
         → Replays memory (e ∷ h) → Replays memory (without_fetches h)
     fetch e h is more memory replays =
-        let rest = replays_rest memory e h replays in
-        more memory (subst (λ (m : List ℕ). Replays m h) (fetch_writes memory e.kind is) rest)
+        let rest = event_replays_rest memory e h replays in
+        more memory (subst (λ (m : List ℕ). Replays m h) (run_fetch_writes_nothing memory e.kind is) rest)
 
     call : (e : Event) (h : List Event) → is_fetch e.kind ≡ false
         → ((memory : List ℕ) → Replays memory h → Replays memory (without_fetches h)) → (memory : List ℕ)
         → Replays memory (e ∷ h) → Replays memory (e ∷ without_fetches h)
     call e h is more memory replays =
-        let first = replay_answers_first memory e.processor e.kind h replays in
-        replays_first memory e (without_fetches h) first
-        (more (wrote memory (flat_write e.kind)) (replays_rest memory e h replays))
+        let first = event_replays_answers_first memory e.processor e.kind h replays in
+        event_replays_first memory e (without_fetches h) first
+        (more (wrote memory (replay_memory_write e.kind)) (event_replays_rest memory e h replays))
 
 -- a flat run is one without its fetches
 pub run_without_fetches : (s : Plan) (h : List Event) → IsFlatRun s h → IsFlatRun s (without_fetches h)
 run_without_fetches s h run =
     record {
       well_formed = well_formed_without_fetches (plan_sizes s) (without_fetches h) h (without_fetches_of h) run.well_formed;
-      follows = λ p section at. rw (calls_without_fetches p h) (run.follows p section at);
-      replays = replays_without_fetches h (replicate (plan_addresses s) 0) run.replays;
+      follows = λ p section at. rw (run_calls_without_fetches p h) (run.follows p section at);
+      replays = run_replays_without_fetches h (replicate (plan_addresses s) 0) run.replays;
     }

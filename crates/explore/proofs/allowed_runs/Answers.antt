@@ -3,20 +3,20 @@ use Rattle.std.proofs.Common.{ℕ, ◌≡◌, ◌≢◌, ◌+◌, ◌⊎◌, ◌
 use Rattle.std.proofs.lemmas.Bool.{cases_eq}
 use Rattle.std.proofs.lemmas.Option.{same_Some, slice_get_within}
 use Rattle.base.specs.InOrderOnce.{Has, IsOnce}
-use Rattle.base.proofs.Joined.{has-append, has-cons, has-nil, in_order-append, in_order-nil, joined_in_order_single}
+use Rattle.base.proofs.JoinedLists.{joined_list_has-append, joined_list_has-cons, joined_list_has-nil, joined_list_in_order-append, joined_list_in_order-nil, joined_list_in_order_single}
 use Rattle.journal.specs.declared.event.Event.{Event}
 use Rattle.journal.specs.declared.event.Kind.TheVariants.{Load, Store}
 use Rattle.journal.specs.DidEvent.{did, event}
-use Rattle.journal.specs.Events.{At}
-use Rattle.journal.specs.ExplainedAnswers.{IsAnswer, LatestStore}
-use Rattle.journal.proofs.Order.CountedAndNumbered.{numbered_at_same, numbered_at_shorter}
-use Rattle.journal.proofs.Order.HappensBefore.{before_goes_forward}
+use Rattle.journal.specs.Events.{EventAt}
+use Rattle.journal.specs.ExplainedAnswers.{IsAnswer, LatestExplainedAnswer}
+use Rattle.journal.proofs.Order.EventPlacesAndCounts.{event_place_same, event_place_shorter}
+use Rattle.journal.proofs.Order.HappensBefore.{happens_before_goes_forward}
 use Rattle.judge.specs.Sources.Latest.{IsLatest}
-use Rattle.judge.proofs.sources.Answering.{answering_latest_at, answers_law}
-use Rattle.explore.specs.AllowedAnswers.{AreStoredAt, HasAnswerMore, IsStoredAt, answer_stored}
+use Rattle.judge.proofs.sources.Answering.{answering_store_at, answering_law}
+use Rattle.explore.specs.AllowedAnswers.{AreAllowedAnswersStoredAt, HasAllowedAnswerMore, IsAllowedAnswerStoredAt, allowed_answer_stored}
 
 -- one more answer
-pub allowed_answer_there : (old new : List ℕ) (v : ℕ) → Has old v → new ≡ old → HasAnswerMore old new v
+pub allowed_answer_there : (old new : List ℕ) (v : ℕ) → Has old v → new ≡ old → HasAllowedAnswerMore old new v
 allowed_answer_there old new v has is = record {
   each = λ x. (
     λ there. inl (subst (λ xs. Has xs x) is there),
@@ -25,34 +25,34 @@ allowed_answer_there old new v has is = record {
   once = λ once. subst IsOnce (sym is) once;
 }
 
-pub allowed_answer_pushed : (old new : List ℕ) (v : ℕ) → ¬ Has old v → new ≡ old ++ v ∷ [] → HasAnswerMore old new v
+pub allowed_answer_pushed : (old new : List ℕ) (v : ℕ) → ¬ Has old v → new ≡ old ++ v ∷ [] → HasAllowedAnswerMore old new v
 allowed_answer_pushed old new v hasnt is = record {
   each = λ x. (
-    λ there. elim ((has-append old (v ∷ []) x).0 (subst (λ xs. Has xs x) is there)) [
+    λ there. elim ((joined_list_has-append old (v ∷ []) x).0 (subst (λ xs. Has xs x) is there)) [
       | inl was ↦ inl was
-      | inr now ↦ elim ((has-cons v [] x).0 now) [ inl own ↦ inr (sym own) | inr none ↦ absurd (has-nil x none) ]
+      | inr now ↦ elim ((joined_list_has-cons v [] x).0 now) [ inl own ↦ inr (sym own) | inr none ↦ absurd (joined_list_has-nil x none) ]
     ],
-    λ either. subst (λ xs. Has xs x) (sym is) ((has-append old (v ∷ []) x).1 (elim either [
+    λ either. subst (λ xs. Has xs x) (sym is) ((joined_list_has-append old (v ∷ []) x).1 (elim either [
       | inl was ↦ inl was
-      | inr now ↦ inr ((has-cons v [] x).1 (inl (sym now)))
+      | inr now ↦ inr ((joined_list_has-cons v [] x).1 (inl (sym now)))
     ])),
   );
   once = λ once. subst IsOnce (sym is)
-      (in_order-append (λ (a b : ℕ). a ≢ b) old (v ∷ []) once (joined_in_order_single (λ (a b : ℕ). a ≢ b) v)
-      (λ a b here there same. elim ((has-cons v [] b).0 there) [
+      (joined_list_in_order-append (λ (a b : ℕ). a ≢ b) old (v ∷ []) once (joined_list_in_order_single (λ (a b : ℕ). a ≢ b) v)
+      (λ a b here there same. elim ((joined_list_has-cons v [] b).0 there) [
         | inl own ↦ hasnt (subst (Has old) (same ∙ sym own) here)
-        | inr none ↦ has-nil b none
+        | inr none ↦ joined_list_has-nil b none
       ]));
 }
 
 -- the values that are stored at the first places
-pub allowed_stored_start : (j : List Event) (places : List (Option ℕ)) → AreStoredAt j places 0 []
+pub allowed_stored_start : (j : List Event) (places : List (Option ℕ)) → AreAllowedAnswersStoredAt j places 0 []
 allowed_stored_start j places = record {
-  each = λ x. ((λ has. absurd (has-nil x has)), (λ is. absurd (let lt = is.within in omega arith)));
-  once = in_order-nil (λ (a b : ℕ). a ≢ b);
+  each = λ x. ((λ has. absurd (joined_list_has-nil x has)), (λ is. absurd (let lt = is.within in omega arith)));
+  once = joined_list_in_order-nil (λ (a b : ℕ). a ≢ b);
 }
 
-allowed_stored_more : (j : List Event) (places : List (Option ℕ)) (n x : ℕ) → IsStoredAt j places n x → IsStoredAt j places (n + 1) x
+allowed_stored_more : (j : List Event) (places : List (Option ℕ)) (n x : ℕ) → IsAllowedAnswerStoredAt j places n x → IsAllowedAnswerStoredAt j places (n + 1) x
 allowed_stored_more j places n x is = record {
   by = is.by;
   within = (let lt = is.within in omega arith);
@@ -64,8 +64,8 @@ allowed_stored_more j places n x is = record {
 }
 
 -- of those of one place more, the last one, or one of the old ones
-allowed_stored_cases : (j : List Event) (places : List (Option ℕ)) (n x : ℕ) (is : IsStoredAt j places (n + 1) x)
-    → (is.by ≡ n) ⊎ IsStoredAt j places n x
+allowed_stored_cases : (j : List Event) (places : List (Option ℕ)) (n x : ℕ) (is : IsAllowedAnswerStoredAt j places (n + 1) x)
+    → (is.by ≡ n) ⊎ IsAllowedAnswerStoredAt j places n x
 allowed_stored_cases j places n x is = elim (cases_eq is.by n) [
   | inl own ↦ inl own
   | inr isnt ↦ inr (record {
@@ -80,8 +80,8 @@ allowed_stored_cases j places n x is = elim (cases_eq is.by n) [
 ]
 
 pub allowed_stored_some : (j : List Event) (places : List (Option ℕ)) (n i : ℕ) (e : Event) (old new : List ℕ)
-    → slice_get places n ≡ Some (Some i) → At j i e → AreStoredAt j places n old → HasAnswerMore old new (answer_stored e.kind)
-    → AreStoredAt j places (n + 1) new
+    → slice_get places n ≡ Some (Some i) → EventAt j i e → AreAllowedAnswersStoredAt j places n old → HasAllowedAnswerMore old new (allowed_answer_stored e.kind)
+    → AreAllowedAnswersStoredAt j places (n + 1) new
 allowed_stored_some j places n i e old new place at stored more = record {
   each = λ x. (
     λ has. elim ((more.each x).0 has) [
@@ -93,8 +93,8 @@ allowed_stored_some j places n i e old new place at stored more = record {
           (let there = subst (λ b. slice_get places b ≡ Some (Some is.place)) own is.is_place in
           let both = same_Some (Some i) (Some is.place) (sym place ∙ there) in
           let same = same_Some i is.place both in
-          let one = numbered_at_same j i e is.event at (subst (λ k. At j k is.event) (sym same) is.at) in
-          inr (sym (ap (λ (y : Event). answer_stored y.kind) one ∙ is.stores)))
+          let one = event_place_same j i e is.event at (subst (λ k. EventAt j k is.event) (sym same) is.at) in
+          inr (sym (ap (λ (y : Event). allowed_answer_stored y.kind) one ∙ is.stores)))
       | inr old_one ↦ inl ((stored.each x).1 old_one)
     ]),
   );
@@ -102,7 +102,7 @@ allowed_stored_some j places n i e old new place at stored more = record {
 }
 
 pub allowed_stored_none : (j : List Event) (places : List (Option ℕ)) (n : ℕ) (old : List ℕ)
-    → ((i : ℕ) → slice_get places n ≢ Some (Some i)) → AreStoredAt j places n old → AreStoredAt j places (n + 1) old
+    → ((i : ℕ) → slice_get places n ≢ Some (Some i)) → AreAllowedAnswersStoredAt j places n old → AreAllowedAnswersStoredAt j places (n + 1) old
 allowed_stored_none j places n old none stored = record {
   each = λ x. (
     λ has. allowed_stored_more j places n x ((stored.each x).0 has),
@@ -117,7 +117,7 @@ allowed_stored_none j places n old none stored = record {
 -- the places of the latest stores tell what a load may answer
 module _ (j : List Event) (p a : ℕ) (latest : List (Option ℕ)) (found : List ℕ)
     (tells : (v q i : ℕ) → (slice_get latest q ≡ Some (Some i)) ↔ IsLatest (did j p (Load a v)) (length j) a q i)
-    (stored : AreStoredAt j latest (length latest) found) where
+    (stored : AreAllowedAnswersStoredAt j latest (length latest) found) where
   abbrev IsAllowedNext : ℕ → Type 0
   IsAllowedNext x = IsAnswer (did j p (Load a x)) (length j) a x
 
@@ -126,17 +126,17 @@ module _ (j : List Event) (p a : ℕ) (latest : List (Option ℕ)) (found : List
   allowed_found_answer x has =
       let is = (stored.each x).0 has in
       let l = (tells x is.by is.place).0 is.is_place in
-      let there = answering_latest_at j p a x is.by is.place l in
-      let same = numbered_at_same j is.place (event is.by (Store a l.value)) is.event there is.at in
-      let value : l.value ≡ x = ap (λ (y : Event). answer_stored y.kind) same ∙ is.stores in
-      inr (subst (λ v. LatestStore (did j p (Load a x)) (length j) a v) value l.store)
+      let there = answering_store_at j p a x is.by is.place l in
+      let same = event_place_same j is.place (event is.by (Store a l.value)) is.event there is.at in
+      let value : l.value ≡ x = ap (λ (y : Event). allowed_answer_stored y.kind) same ∙ is.stores in
+      inr (subst (λ v. LatestExplainedAnswer (did j p (Load a x)) (length j) a v) value l.store)
 
-  allowed_answer_found : (x q i : ℕ) → IsLatest (did j p (Load a x)) (length j) a q i → At (did j p (Load a x)) i (event q (Store a x)) → Has found x
+  allowed_answer_found : (x q i : ℕ) → IsLatest (did j p (Load a x)) (length j) a q i → EventAt (did j p (Load a x)) i (event q (Store a x)) → Has found x
   allowed_answer_found x q i l at =
       let place = (tells x q i).1 l in
-      let lt = before_goes_forward (did j p (Load a x)) l.store.before in
+      let lt = happens_before_goes_forward (did j p (Load a x)) l.store.before in
       let is = l.place in
-      let here : At j i (event q (Store a x)) = numbered_at_shorter j (event p (Load a x) ∷ []) i (event q (Store a x)) (omega arith) at in
+      let here : EventAt j i (event q (Store a x)) = event_place_shorter j (event p (Load a x) ∷ []) i (event q (Store a x)) (omega arith) at in
       (stored.each x).1 (record {
         by = q;
         within = slice_get_within latest q (Some i) place;
@@ -156,7 +156,7 @@ module _ (j : List Event) (p a : ℕ) (latest : List (Option ℕ)) (found : List
       first_of (y ∷ ys) not_empty = (y, (0, refl))
 
       back : IsAllowedNext x → Has found x
-      back answer = elim ((answers_law (did j p (Load a x)) (length j) a x).0 answer) [
+      back answer = elim ((answering_law (did j p (Load a x)) (length j) a x).0 answer) [
         | inl none ↦
             (let one = first_of found some in
             let is = (stored.each one.0).0 one.1 in
@@ -170,9 +170,9 @@ module _ (j : List Event) (p a : ℕ) (latest : List (Option ℕ)) (found : List
     where
       nothing : (q i : ℕ) → ¬ IsLatest (did j p (Load a x)) (length j) a q i
       nothing q i l =
-          let at = answering_latest_at j p a x q i l in
+          let at = answering_store_at j p a x q i l in
           let place = (tells x q i).1 l in
-          has-nil l.value (subst (λ xs. Has xs l.value) none ((stored.each l.value).1 (record {
+          joined_list_has-nil l.value (subst (λ xs. Has xs l.value) none ((stored.each l.value).1 (record {
             by = q;
             within = slice_get_within latest q (Some i) place;
             place = i;
@@ -183,13 +183,13 @@ module _ (j : List Event) (p a : ℕ) (latest : List (Option ℕ)) (found : List
           })))
 
       there : Has (0 ∷ []) x → IsAllowedNext x
-      there has = elim ((has-cons 0 [] x).0 has) [
-        | inl is ↦ (answers_law (did j p (Load a x)) (length j) a x).1 (inl (sym is, nothing))
-        | inr more ↦ absurd (has-nil x more)
+      there has = elim ((joined_list_has-cons 0 [] x).0 has) [
+        | inl is ↦ (answering_law (did j p (Load a x)) (length j) a x).1 (inl (sym is, nothing))
+        | inr more ↦ absurd (joined_list_has-nil x more)
       ]
 
       back : IsAllowedNext x → Has (0 ∷ []) x
-      back answer = elim ((answers_law (did j p (Load a x)) (length j) a x).0 answer) [
-        | inl is ↦ (has-cons 0 [] x).1 (inl (sym is.0))
+      back answer = elim ((answering_law (did j p (Load a x)) (length j) a x).0 answer) [
+        | inl is ↦ (joined_list_has-cons 0 [] x).1 (inl (sym is.0))
         | inr l ↦ absurd (nothing l.0 l.1 l.2)
       ]

@@ -9,25 +9,25 @@ use Rattle.std.proofs.lemmas.List.Elements.{All-get_or}
 use Rattle.std.proofs.lemmas.Option.{none-some, same_Some, slice_get-get_or, slice_get_within}
 use Rattle.std.proofs.lemmas.List.{length-take-le}
 use Rattle.std.proofs.lemmas.List.Sums.{count_by-le-length, fold-append}
-use Rattle.base.proofs.SlicesAndCounts.{count_by-append, slice_push_cases, take-suc_at}
+use Rattle.base.proofs.SlicesAndCounts.{slice_count_by-append, slice_push_cases, slice_take-suc_at}
 use Rattle.base.proofs.SliceSets.{slice_get-set_same, slice_get-set_other}
 use Rattle.journal.specs.declared.event.Kind.{Kind}
 use Rattle.journal.specs.declared.event.Kind.TheVariants as kind
-use Rattle.journal.specs.Events.{address_of}
-use Rattle.journal.specs.WellFormed.{KindInRange}
+use Rattle.journal.specs.Events.{event_address}
+use Rattle.journal.specs.WellFormed.{WellFormedKindInRange}
 use Rattle.lrc_script.specs.Plan.{Plan}
 use Rattle.lrc_script.specs.Lawful.{plan_addresses, IsLawful, IsLawfulSection}
 use Rattle.conformance.specs.Follows.{plan_sizes}
 use Rattle.explore.specs.declared.prefixes.script_call.ScriptCall.{ScriptCall}
 use Rattle.explore.specs.declared.prefixes.script_call.ScriptCall.TheVariants.{Call, Adds}
-use Rattle.explore.specs.declared.guarded.Users.{Users}
-use Rattle.explore.specs.declared.guarded.WordUse.{WordUse}
-use Rattle.explore.specs.Guarded.{IsGuarded, guard_step_departs, guard_held_after_step, guard_held_at, guard_phase_at, guarded_step_address, guarded_step_stores}
+use Rattle.explore.specs.declared.guarded.GuardedUsers.{GuardedUsers}
+use Rattle.explore.specs.declared.guarded.GuardedWordUse.{GuardedWordUse}
+use Rattle.explore.specs.TextGuards.{IsGuardedByText, text_guard_step_departs, text_guard_held_after_step, text_guard_held_at, text_guard_departures_at, text_guarded_step_address, text_guarded_step_stores}
 use Rattle.explore.specs.Machines.{AreLawfulMachineSteps, IsProperMachineStep}
-use Rattle.explore.specs.Prefixes.Calling.{calling_shown_by}
+use Rattle.explore.specs.Prefixes.ScriptCalls.{script_calls_shown_by}
 use Rattle.explore.proofs.Lengths.{section_length_few, shown_length_few}
-use Rattle.explore.proofs.Machines.{IsMachineRow, machine_row_proper, machine_row_steps}
-use Rattle.explore.specs.Users.{AreStepUsersNoted, AreUserRowsFew, AreUserRowsNoted, AreUserRowsWithin, AllUsersSound, HasUsersNoted, AreCleanUsers, IsUser, IsUserLockSmall, AreSoundUsers, HasUser, HasUserAt, IsUserStepWithin, KeepUsers}
+use Rattle.explore.proofs.MachineSteps.{IsMachineStepRow, machine_step_row_proper, machine_step_row}
+use Rattle.explore.specs.Users.{AreStepUsersNoted, AreUserRowsFew, AreUserRowsNoted, AreUserRowsWithin, UsersAreAllSound, HasUsersNoted, UsersAreClean, IsUser, IsUserLockSmall, UsersAreSound, HasUser, HasUserAt, IsUserStepWithin, UsersAreKept}
 
 -- another key than this
 lockset_noted_apart_key : (k q : ℕ) → k ≢ q → is_at (nat_cmp k) q ≡ false
@@ -38,13 +38,13 @@ lockset_noted_apart_key k q isnt = go (nat_lt k q) refl
     go false is = rw (is, ne_eqb k q isnt) refl
 
 -- users that have others with them are put under their phase
-pub noted_word : (old new : WordUse) (phase : ℕ) (user users : Users)
+pub lockset_noted_word : (old new : GuardedWordUse) (phase : ℕ) (user users : GuardedUsers)
     → Updates nat_cmp old.phases new.phases phase (Some users)
-    → ((u : Users) → get nat_cmp old.phases phase ≡ Some u → (p : ℕ) (store : Bool) (held : ℕ → Bool)
+    → ((u : GuardedUsers) → get nat_cmp old.phases phase ≡ Some u → (p : ℕ) (store : Bool) (held : ℕ → Bool)
     → IsUser u p store held → IsUser users p store held)
     → ((p : ℕ) (store : Bool) (held : ℕ → Bool) → IsUser user p store held → IsUser users p store held)
-    → (IsTrue new.is_guarded → IsTrue old.is_guarded × AreCleanUsers users) → HasUsersNoted old new phase user
-noted_word old new phase user users updates was now clean = record {
+    → (IsTrue new.is_guarded → IsTrue old.is_guarded × UsersAreClean users) → HasUsersNoted old new phase user
+lockset_noted_word old new phase user users updates was now clean = record {
   keeps = λ ph p store held used. elim (cases_eq phase ph) [
     | inl is ↦
         (let there = subst (λ n. get nat_cmp old.phases n ≡ Some used.users) (sym is) used.at in
@@ -63,20 +63,20 @@ noted_word old new phase user users updates was now clean = record {
   sound = λ sound guarded ph u at. elim (cases_eq phase ph) [
     | inl is ↦
         (let there = subst (λ n. get nat_cmp new.phases n ≡ Some u) (sym is) at in
-        subst AreCleanUsers (same_Some users u (sym updates.1 ∙ there)) (clean guarded).1)
+        subst UsersAreClean (same_Some users u (sym updates.1 ∙ there)) (clean guarded).1)
     | inr isnt ↦ sound (clean guarded).0 ph u (sym (updates.2 ph (lockset_noted_apart_key phase ph isnt)) ∙ at)
   ];
 }
 
 -- one word of several
-module _ (words : List WordUse) (a : ℕ) (old new : WordUse) (phase : ℕ) (user : Users) (at : slice_get words a ≡ Some old)
+module _ (words : List GuardedWordUse) (a : ℕ) (old new : GuardedWordUse) (phase : ℕ) (user : GuardedUsers) (at : slice_get words a ≡ Some old)
     (noted : HasUsersNoted old new phase user) where
   lockset_noted_new_at : slice_get (slice_set words a new) a ≡ Some new
   lockset_noted_new_at = slice_get-set_same words a new (slice_get_within words a old at)
 
-  pub notes_set : (p : ℕ) (store : Bool) (held : ℕ → Bool) → IsUser user p store held
+  pub lockset_noted_set : (p : ℕ) (store : Bool) (held : ℕ → Bool) → IsUser user p store held
       → HasUserAt (slice_set words a new) a phase p store held
-  notes_set p store held covered = record { word = new; at = lockset_noted_new_at; used = noted.notes p store held covered }
+  lockset_noted_set p store held covered = record { word = new; at = lockset_noted_new_at; used = noted.notes p store held covered }
 
   lockset_noted_keeps_at : (w ph p : ℕ) (store : Bool) (held : ℕ → Bool) → HasUserAt words w ph p store held
       → HasUserAt (slice_set words a new) w ph p store held
@@ -95,48 +95,48 @@ module _ (words : List WordUse) (a : ℕ) (old new : WordUse) (phase : ℕ) (use
     }
   ]
 
-  lockset_noted_sound_at : AllUsersSound words → AllUsersSound (slice_set words a new)
+  lockset_noted_sound_at : UsersAreAllSound words → UsersAreAllSound (slice_set words a new)
   lockset_noted_sound_at sound w word here = elim (cases_eq w a) [
     | inl is ↦
         (let same = same_Some new word (sym lockset_noted_new_at ∙ ap (slice_get (slice_set words a new)) (sym is) ∙ here) in
-        subst AreSoundUsers same (noted.sound (sound a old at)))
+        subst UsersAreSound same (noted.sound (sound a old at)))
     | inr isnt ↦ sound w word (sym (slice_get-set_other words a w new isnt) ∙ here)
   ]
 
-  pub lockset_noted_keeps_set : length (slice_set words a new) ≡ length words → KeepUsers words (slice_set words a new)
+  pub lockset_noted_keeps_set : length (slice_set words a new) ≡ length words → UsersAreKept words (slice_set words a new)
   lockset_noted_keeps_set long = record { long = long; keeps = lockset_noted_keeps_at; sound = lockset_noted_sound_at }
 
-pub lockset_noted_keeps_same : (words : List WordUse) → KeepUsers words words
+pub lockset_noted_keeps_same : (words : List GuardedWordUse) → UsersAreKept words words
 lockset_noted_keeps_same words = record { long = refl; keeps = λ w ph p store held used. used; sound = λ sound. sound }
 
-pub lockset_noted_keeps_on : (a b c : List WordUse) → KeepUsers a b → KeepUsers b c → KeepUsers a c
+pub lockset_noted_keeps_on : (a b c : List GuardedWordUse) → UsersAreKept a b → UsersAreKept b c → UsersAreKept a c
 lockset_noted_keeps_on a b c first second = record {
   long = second.long ∙ first.long;
   keeps = λ w ph p store held used. second.keeps w ph p store held (first.keeps w ph p store held used);
   sound = λ sound. second.sound (first.sound sound);
 }
 
-pub noted_kept : (a b : List WordUse) (p : ℕ) (row : List ScriptCall) (n : ℕ) → KeepUsers a b → AreStepUsersNoted a p row n
+pub lockset_noted_keeps_steps : (a b : List GuardedWordUse) (p : ℕ) (row : List ScriptCall) (n : ℕ) → UsersAreKept a b → AreStepUsersNoted a p row n
     → AreStepUsersNoted b p row n
-noted_kept a b p row n keeps noted i w step lt at address =
-    keeps.keeps w (guard_phase_at row i) p (guarded_step_stores step) (guard_held_at row i) (noted i w step lt at address)
+lockset_noted_keeps_steps a b p row n keeps noted i w step lt at address =
+    keeps.keeps w (text_guard_departures_at row i) p (text_guarded_step_stores step) (text_guard_held_at row i) (noted i w step lt at address)
 
 -- one step more
-pub noted_more : (words : List WordUse) (p : ℕ) (row : List ScriptCall) (n : ℕ) (step : ScriptCall)
+pub lockset_noted_next : (words : List GuardedWordUse) (p : ℕ) (row : List ScriptCall) (n : ℕ) (step : ScriptCall)
     → slice_get row n ≡ Some step → AreStepUsersNoted words p row n
-    → ((w : ℕ) → guarded_step_address step ≡ Some w → HasUserAt words w (guard_phase_at row n) p (guarded_step_stores step) (guard_held_at row n))
+    → ((w : ℕ) → text_guarded_step_address step ≡ Some w → HasUserAt words w (text_guard_departures_at row n) p (text_guarded_step_stores step) (text_guard_held_at row n))
     → AreStepUsersNoted words p row (n + 1)
-noted_more words p row n step at noted now i w other lt there address = elim (cases_eq i n) [
+lockset_noted_next words p row n step at noted now i w other lt there address = elim (cases_eq i n) [
   | inl is ↦
       (let same = same_Some other step (sym there ∙ ap (slice_get row) is ∙ at) in
-      let here = now w (ap guarded_step_address (sym same) ∙ address) in
-      subst (λ m. HasUserAt words w (guard_phase_at row m) p (guarded_step_stores other) (guard_held_at row m)) (sym is)
-      (subst (λ x. HasUserAt words w (guard_phase_at row n) p (guarded_step_stores x) (guard_held_at row n)) (sym same) here))
+      let here = now w (ap text_guarded_step_address (sym same) ∙ address) in
+      subst (λ m. HasUserAt words w (text_guard_departures_at row m) p (text_guarded_step_stores other) (text_guard_held_at row m)) (sym is)
+      (subst (λ x. HasUserAt words w (text_guard_departures_at row n) p (text_guarded_step_stores x) (text_guard_held_at row n)) (sym same) here))
   | inr isnt ↦ noted i w other (omega arith) there address
 ]
 
 -- a single user
-pub lockset_noted_covers_self : (u : Users) (p : ℕ) (store : Bool) (held : ℕ → Bool) → u.processor ≡ p → u.stores ≡ store
+pub lockset_noted_covers_self : (u : GuardedUsers) (p : ℕ) (store : Bool) (held : ℕ → Bool) → u.processor ≡ p → u.stores ≡ store
     → ((l : ℕ) → slice_index_or u.locks l false ≡ held l) → IsUser u p store held
 lockset_noted_covers_self u p store held is stores locks = record {
   alone = λ alone. is;
@@ -145,7 +145,7 @@ lockset_noted_covers_self u p store held is stores locks = record {
 }
 
 -- users that are clean have a lock in common, where they are two and one stores
-pub lockset_noted_clean_common : (u : Users) (p q : ℕ) (a b : Bool) (x y : ℕ → Bool) → AreCleanUsers u → IsUser u p a x
+pub lockset_noted_clean_common : (u : GuardedUsers) (p q : ℕ) (a b : Bool) (x y : ℕ → Bool) → UsersAreClean u → IsUser u p a x
     → IsUser u q b y → p ≢ q → IsTrue a ⊎ IsTrue b → (l : ℕ) × IsTrue (x l) × IsTrue (y l)
 lockset_noted_clean_common u p q a b x y (inl alone) first second apart stores = absurd (apart (sym (first.alone alone) ∙ second.alone alone))
 lockset_noted_clean_common u p q a b x y (inr (inl none)) first second apart (inl is) = absurd (false≢true (sym none ∙ first.stores is))
@@ -154,9 +154,9 @@ lockset_noted_clean_common u p q a b x y (inr (inr lock)) first second apart sto
     (lock.0, first.locks lock.0 lock.1, second.locks lock.0 lock.1)
 
 -- a word that is called guarded is
-pub lockset_noted_guarded_word : (words : List WordUse) (rows : List (Vec ScriptCall)) (w : ℕ) (word : WordUse)
-    → AreUserRowsNoted words rows (length rows) → AllUsersSound words → slice_get words w ≡ Some word
-    → IsTrue word.is_guarded → IsGuarded rows w
+pub lockset_noted_guarded_word : (words : List GuardedWordUse) (rows : List (Vec ScriptCall)) (w : ℕ) (word : GuardedWordUse)
+    → AreUserRowsNoted words rows (length rows) → UsersAreAllSound words → slice_get words w ≡ Some word
+    → IsTrue word.is_guarded → IsGuardedByText rows w
 lockset_noted_guarded_word words rows w word noted sound at guarded p q i k a b x y apart stores phases =
     let first = noted p x.row (slice_get_within rows p x.row x.row_at) x.row_at i w a
     (slice_get_within x.row.items i a x.at) x.at x.address in
@@ -164,44 +164,44 @@ lockset_noted_guarded_word words rows w word noted sound at guarded p q i k a b 
     (slice_get_within y.row.items k b y.at) y.at y.address in
     let one = same_Some first.word word (sym first.at ∙ at) in
     let two = same_Some second.word word (sym second.at ∙ at) in
-    let mine = subst (λ z. HasUser z (guard_phase_at x.row.items i) p (guarded_step_stores a) (guard_held_at x.row.items i)) one first.used in
-    let theirs = subst (λ z. HasUser z (guard_phase_at y.row.items k) q (guarded_step_stores b) (guard_held_at y.row.items k)) two second.used in
+    let mine = subst (λ z. HasUser z (text_guard_departures_at x.row.items i) p (text_guarded_step_stores a) (text_guard_held_at x.row.items i)) one first.used in
+    let theirs = subst (λ z. HasUser z (text_guard_departures_at y.row.items k) q (text_guarded_step_stores b) (text_guard_held_at y.row.items k)) two second.used in
     let there = subst (λ n. get nat_cmp word.phases n ≡ Some theirs.users) (sym phases) theirs.at in
     let same = same_Some theirs.users mine.users (sym there ∙ mine.at) in
-    let covered = subst (λ u. IsUser u q (guarded_step_stores b) (guard_held_at y.row.items k)) same theirs.covered in
-    let clean = sound w word at guarded (guard_phase_at x.row.items i) mine.users mine.at in
-    let common = lockset_noted_clean_common mine.users p q (guarded_step_stores a) (guarded_step_stores b) (guard_held_at x.row.items i) (guard_held_at y.row.items k)
+    let covered = subst (λ u. IsUser u q (text_guarded_step_stores b) (text_guard_held_at y.row.items k)) same theirs.covered in
+    let clean = sound w word at guarded (text_guard_departures_at x.row.items i) mine.users mine.at in
+    let common = lockset_noted_clean_common mine.users p q (text_guarded_step_stores a) (text_guarded_step_stores b) (text_guard_held_at x.row.items i) (text_guard_held_at y.row.items k)
     clean mine.covered covered apart stores in
     record { lock = common.0; first = common.1; second = common.2 }
 
 -- a word that no step accesses is guarded
 pub lockset_noted_unused_guarded : (rows : List (Vec ScriptCall)) (w : ℕ)
     → ((p : ℕ) (row : Vec ScriptCall) (i : ℕ) (step : ScriptCall) → slice_get rows p ≡ Some row
-    → slice_get row.items i ≡ Some step → guarded_step_address step ≢ Some w) → IsGuarded rows w
+    → slice_get row.items i ≡ Some step → text_guarded_step_address step ≢ Some w) → IsGuardedByText rows w
 lockset_noted_unused_guarded rows w none p q i k a b x y apart stores phases = absurd (none p x.row i a x.row_at x.at x.address)
 
 -- a new word that nobody uses
-pub lockset_noted_sound_push : (words : List WordUse) (word : WordUse) → AllUsersSound words
-    → ((phase : ℕ) → get nat_cmp word.phases phase ≡ None) → AllUsersSound (words ++ word ∷ [])
+pub lockset_noted_sound_push : (words : List GuardedWordUse) (word : GuardedWordUse) → UsersAreAllSound words
+    → ((phase : ℕ) → get nat_cmp word.phases phase ≡ None) → UsersAreAllSound (words ++ word ∷ [])
 lockset_noted_sound_push words word sound none w other at = elim (slice_push_cases words word w other at) [
   | inl old ↦ sound w other old.1
-  | inr now ↦ subst AreSoundUsers now.1 (λ guarded phase u is. absurd (none-some u (sym (none phase) ∙ is)))
+  | inr now ↦ subst UsersAreSound now.1 (λ guarded phase u is. absurd (none-some u (sym (none phase) ∙ is)))
 ]
 
 -- what is read of words
-pub lockset_noted_flags_of : (words : List WordUse) (w : ℕ) → IsTrue (slice_index_or (map (λ (x : WordUse). x.is_guarded) words) w false)
-    → (word : WordUse) × (slice_get words w ≡ Some word) × IsTrue word.is_guarded
+pub lockset_noted_flags_of : (words : List GuardedWordUse) (w : ℕ) → IsTrue (slice_index_or (map (λ (x : GuardedWordUse). x.is_guarded) words) w false)
+    → (word : GuardedWordUse) × (slice_get words w ≡ Some word) × IsTrue word.is_guarded
 lockset_noted_flags_of [] w is = absurd (false≢true is)
 lockset_noted_flags_of (x ∷ words) zero is = (x, refl, is)
 lockset_noted_flags_of (x ∷ words) (suc w) is = lockset_noted_flags_of words w is
 
 -- the numbers of a lawful script's steps are small
-lockset_noted_small_address : (s : Plan) (k : Kind) → KindInRange (plan_sizes s) k → (w : ℕ) → address_of k ≡ Some w → w < plan_addresses s
+lockset_noted_small_address : (s : Plan) (k : Kind) → WellFormedKindInRange (plan_sizes s) k → (w : ℕ) → event_address k ≡ Some w → w < plan_addresses s
 lockset_noted_small_address s (kind.Load a v) range w at = subst (λ n. n < plan_addresses s) (same_Some a w at) range
 lockset_noted_small_address s (kind.Store a v) range w at = subst (λ n. n < plan_addresses s) (same_Some a w at) range
 lockset_noted_small_address s _ range w at = absurd (none-some w at)
 
-lockset_noted_small_lock : (s : Plan) (k : Kind) → s.locks ≤ 32 → KindInRange (plan_sizes s) k → IsUserLockSmall k
+lockset_noted_small_lock : (s : Plan) (k : Kind) → s.locks ≤ 32 → WellFormedKindInRange (plan_sizes s) k → IsUserLockSmall k
 lockset_noted_small_lock s (kind.Acquire l) most range = omega (arith, range)
 lockset_noted_small_lock s (kind.Release l) most range = omega (arith, range)
 lockset_noted_small_lock s _ most range = tt
@@ -213,84 +213,84 @@ lockset_noted_within_proper s (Adds a v) most proper = proper
 pub lockset_noted_rows_within : (s : Plan) (rows : List (Vec ScriptCall)) → AreLawfulMachineSteps s rows → AreUserRowsWithin (plan_addresses s) rows
 lockset_noted_rows_within s rows steps p row at i step there =
     lockset_noted_within_proper s step steps.lawful.but_uneven.sizes.locks
-    (machine_row_proper s p row i step steps.lawful (machine_row_steps s rows p row steps.are at) there)
+    (machine_step_row_proper s p row i step steps.lawful (machine_step_row s rows p row steps.are at) there)
 
-pub lockset_noted_address_within : (size w : ℕ) (step : ScriptCall) → IsUserStepWithin size step → guarded_step_address step ≡ Some w → w < size
+pub lockset_noted_address_within : (size w : ℕ) (step : ScriptCall) → IsUserStepWithin size step → text_guarded_step_address step ≡ Some w → w < size
 lockset_noted_address_within size w (Call k) within at = within.0 w at
 lockset_noted_address_within size w (Adds a v) within at = subst (λ n. n < size) (same_Some a w at) within
 
 -- a step more of a row
 pub lockset_noted_phase_next : (row : List ScriptCall) (n : ℕ) (step : ScriptCall) → slice_get row n ≡ Some step
-    → guard_phase_at row (n + 1) ≡ guard_phase_at row n + cond (guard_step_departs step) 1 0
+    → text_guard_departures_at row (n + 1) ≡ text_guard_departures_at row n + cond (text_guard_step_departs step) 1 0
 lockset_noted_phase_next row n step at =
-    let longer = ap (λ m. count_by guard_step_departs (take m row)) (add-one n) ∙ ap (count_by guard_step_departs) (take-suc_at row n step at) in
-    let sum = count_by-append guard_step_departs (take n row) (step ∷ []) in
+    let longer = ap (λ m. count_by text_guard_step_departs (take m row)) (add-one n) ∙ ap (count_by text_guard_step_departs) (slice_take-suc_at row n step at) in
+    let sum = slice_count_by-append text_guard_step_departs (take n row) (step ∷ []) in
     omega arith
 
-pub lockset_noted_held_next : (row : List ScriptCall) (n : ℕ) (step : ScriptCall) (l : ℕ) → slice_get row n ≡ Some step
-    → guard_held_at row (n + 1) l ≡ guard_held_after_step l (guard_held_at row n l) step
-lockset_noted_held_next row n step l at =
-    ap (λ m. fold (guard_held_after_step l) false (take m row)) (add-one n)
-    ∙ ap (fold (guard_held_after_step l) false) (take-suc_at row n step at)
-    ∙ fold-append (guard_held_after_step l) false (take n row) (step ∷ [])
+pub lockset_noted_holds_next : (row : List ScriptCall) (n : ℕ) (step : ScriptCall) (l : ℕ) → slice_get row n ≡ Some step
+    → text_guard_held_at row (n + 1) l ≡ text_guard_held_after_step l (text_guard_held_at row n l) step
+lockset_noted_holds_next row n step l at =
+    ap (λ m. fold (text_guard_held_after_step l) false (take m row)) (add-one n)
+    ∙ ap (fold (text_guard_held_after_step l) false) (slice_take-suc_at row n step at)
+    ∙ fold-append (text_guard_held_after_step l) false (take n row) (step ∷ [])
 
-pub lockset_noted_phase_small : (row : List ScriptCall) (n : ℕ) → n ≤ length row → guard_phase_at row n ≤ n
+pub lockset_noted_phase_small : (row : List ScriptCall) (n : ℕ) → n ≤ length row → text_guard_departures_at row n ≤ n
 lockset_noted_phase_small row n le =
-    let few = count_by-le-length guard_step_departs (take n row) in
+    let few = count_by-le-length text_guard_step_departs (take n row) in
     let long = length-take-le n row le in
     omega arith
 
 -- at first no lock is held
-pub lockset_noted_none_held : (n q : ℕ) → slice_index_or (replicate n false) q false ≡ false
-lockset_noted_none_held zero q = refl
-lockset_noted_none_held (suc n) zero = refl
-lockset_noted_none_held (suc n) (suc q) = lockset_noted_none_held n q
+pub lockset_noted_holds_none : (n q : ℕ) → slice_index_or (replicate n false) q false ≡ false
+lockset_noted_holds_none zero q = refl
+lockset_noted_holds_none (suc n) zero = refl
+lockset_noted_holds_none (suc n) (suc q) = lockset_noted_holds_none n q
 
 -- a row more
-pub lockset_noted_rows_more : (a b : List WordUse) (rows : List (Vec ScriptCall)) (n : ℕ) (row : Vec ScriptCall)
-    → slice_get rows n ≡ Some row → KeepUsers a b → AreUserRowsNoted a rows n → AreStepUsersNoted b n row.items (length row.items)
+pub lockset_noted_rows_more : (a b : List GuardedWordUse) (rows : List (Vec ScriptCall)) (n : ℕ) (row : Vec ScriptCall)
+    → slice_get rows n ≡ Some row → UsersAreKept a b → AreUserRowsNoted a rows n → AreStepUsersNoted b n row.items (length row.items)
     → AreUserRowsNoted b rows (n + 1)
 lockset_noted_rows_more a b rows n row at keeps noted now p other lt there = elim (cases_eq p n) [
   | inl is ↦
       (let same = same_Some row other (sym at ∙ ap (slice_get rows) (sym is) ∙ there) in
       subst (λ q. AreStepUsersNoted b q other.items (length other.items)) (sym is)
       (subst (λ (v : Vec ScriptCall). AreStepUsersNoted b n v.items (length v.items)) same now))
-  | inr isnt ↦ noted_kept a b p other.items (length other.items) keeps (noted p other (omega arith) there)
+  | inr isnt ↦ lockset_noted_keeps_steps a b p other.items (length other.items) keeps (noted p other (omega arith) there)
 ]
 
-lockset_noted_row_few : (s : Plan) (p : ℕ) (row : Vec ScriptCall) → IsLawful s → IsMachineRow s p row → length row.items < 2 ^ 20
+lockset_noted_row_few : (s : Plan) (p : ℕ) (row : Vec ScriptCall) → IsLawful s → IsMachineStepRow s p row → length row.items < 2 ^ 20
 lockset_noted_row_few s p row lawful of =
     let within = slice_get_within s.sections p of.section of.at in
     let is = subst (IsLawfulSection s)
     (same_Some (slice_index_or s.sections p []) of.section (sym (slice_get-get_or s.sections p [] within) ∙ of.at))
     (All-get_or (IsLawfulSection s) s.sections p [] within lawful.but_uneven.sections) in
-    let few = section_length_few of.section (calling_shown_by s p) is.most (shown_length_few s p lawful) in
+    let few = section_length_few of.section (script_calls_shown_by s p) is.most (shown_length_few s p lawful) in
     let same = ap (λ (xs : List ScriptCall). length xs) of.are in
     omega (arith, few, same)
 
 pub lockset_noted_each_few : (s : Plan) (rows : List (Vec ScriptCall)) → AreLawfulMachineSteps s rows → AreUserRowsFew rows
-lockset_noted_each_few s rows steps p row at = lockset_noted_row_few s p row steps.lawful (machine_row_steps s rows p row steps.are at)
+lockset_noted_each_few s rows steps p row at = lockset_noted_row_few s p row steps.lawful (machine_step_row s rows p row steps.are at)
 
-pub lockset_noted_used_phase : (words : List WordUse) (w m n p : ℕ) (store : Bool) (held : ℕ → Bool) → m ≡ n
+pub lockset_noted_used_phase : (words : List GuardedWordUse) (w m n p : ℕ) (store : Bool) (held : ℕ → Bool) → m ≡ n
     → HasUserAt words w m p store held → HasUserAt words w n p store held
 lockset_noted_used_phase words w m n p store held same used = subst (λ k. HasUserAt words w k p store held) same used
 
 pub lockset_noted_within_size : (m n : ℕ) (step : ScriptCall) → m ≡ n → IsUserStepWithin m step → IsUserStepWithin n step
 lockset_noted_within_size m n step same within = subst (λ size. IsUserStepWithin size step) same within
 
-pub lockset_noted_phase_step : (row : List ScriptCall) (n a b : ℕ) (step : ScriptCall) → b ≡ a + cond (guard_step_departs step) 1 0
-    → a ≡ guard_phase_at row n → slice_get row n ≡ Some step → b ≡ guard_phase_at row (n + 1)
-lockset_noted_phase_step row n a b step is was at = is ∙ ap (λ m. m + cond (guard_step_departs step) 1 0) was ∙ sym (lockset_noted_phase_next row n step at)
+pub lockset_noted_phase_step : (row : List ScriptCall) (n a b : ℕ) (step : ScriptCall) → b ≡ a + cond (text_guard_step_departs step) 1 0
+    → a ≡ text_guard_departures_at row n → slice_get row n ≡ Some step → b ≡ text_guard_departures_at row (n + 1)
+lockset_noted_phase_step row n a b step is was at = is ∙ ap (λ m. m + cond (text_guard_step_departs step) 1 0) was ∙ sym (lockset_noted_phase_next row n step at)
 
-pub lockset_noted_held_step : (row : List ScriptCall) (n q : ℕ) (h k : Bool) (step : ScriptCall) → k ≡ guard_held_after_step q h step
-    → h ≡ guard_held_at row n q → slice_get row n ≡ Some step → k ≡ guard_held_at row (n + 1) q
-lockset_noted_held_step row n q h k step is was at =
-    is ∙ ap (λ b. guard_held_after_step q b step) was ∙ sym (lockset_noted_held_next row n step q at)
+pub lockset_noted_holds_step : (row : List ScriptCall) (n q : ℕ) (h k : Bool) (step : ScriptCall) → k ≡ text_guard_held_after_step q h step
+    → h ≡ text_guard_held_at row n q → slice_get row n ≡ Some step → k ≡ text_guard_held_at row (n + 1) q
+lockset_noted_holds_step row n q h k step is was at =
+    is ∙ ap (λ b. text_guard_held_after_step q b step) was ∙ sym (lockset_noted_holds_next row n step q at)
 
 -- the user that was noted of one word
-pub notes_user : (words : List WordUse) (a : ℕ) (old new : WordUse) (phase : ℕ) (user : Users)
+pub lockset_noted_user : (words : List GuardedWordUse) (a : ℕ) (old new : GuardedWordUse) (phase : ℕ) (user : GuardedUsers)
     → slice_get words a ≡ Some old → HasUsersNoted old new phase user → (p : ℕ) (store : Bool) (held : ℕ → Bool)
     → user.processor ≡ p → user.stores ≡ store → ((l : ℕ) → slice_index_or user.locks l false ≡ held l)
     → HasUserAt (slice_set words a new) a phase p store held
-notes_user words a old new phase user at noted p store held is stores locks =
-    notes_set words a old new phase user at noted p store held (lockset_noted_covers_self user p store held is stores locks)
+lockset_noted_user words a old new phase user at noted p store held is stores locks =
+    lockset_noted_set words a old new phase user at noted p store held (lockset_noted_covers_self user p store held is stores locks)

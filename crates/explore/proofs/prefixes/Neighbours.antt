@@ -4,4 +4,4 @@
 pub mod Replies
 pub mod Racing
 pub mod LastRace
-pub mod Law
+pub mod NoNeighbours

@@ -13,63 +13,63 @@ use Rattle.journal.specs.declared.event.Event.{Event}
 use Rattle.journal.specs.declared.event.Kind.{Kind}
 use Rattle.journal.specs.declared.event.Kind.TheVariants.{Ask, Load}
 use Rattle.journal.specs.DidEvent.{did, event}
-use Rattle.journal.specs.Events.{At}
-use Rattle.journal.specs.FlatMemory.{AnswersFlatWord, memory_after}
+use Rattle.journal.specs.Events.{EventAt}
+use Rattle.journal.specs.ReplayMemory.{AnswersReplayMemory, memory_after}
 use Rattle.lrc_script.specs.Plan.{Plan}
 use Rattle.lrc_script.specs.Lawful.{plan_addresses}
 use Rattle.conformance.specs.Follows.{calls_of}
 use Rattle.explore.specs.declared.prefixes.script_call.ScriptCall.{ScriptCall}
 use Rattle.explore.specs.declared.prefixes.script_call.ScriptCall.TheVariants.{Call, Adds}
-use Rattle.explore.specs.Free.{IsFree}
-use Rattle.journal.proofs.Order.CountedAndNumbered.{numbered_at_longer}
+use Rattle.explore.specs.FreeChoice.{IsFreeForChoice}
+use Rattle.journal.proofs.Order.EventPlacesAndCounts.{event_place_longer}
 use Rattle.explore.specs.Machines.{AreLawfulMachineSteps}
-use Rattle.explore.specs.Prefixes.Beginnings.{IsFlatBeginning}
-use Rattle.explore.specs.Prefixes.Calling.{IsCallOfStep, last_reply_of_calls, replyless_call}
+use Rattle.explore.specs.Prefixes.FlatBeginnings.{IsFlatBeginning}
+use Rattle.explore.specs.Prefixes.ScriptCalls.{FitsScriptCall, last_reply_of_script_calls, replyless_script_call}
 use Rattle.explore.proofs.Lengths.{history_length_few}
-use Rattle.explore.proofs.Machines.{machine_some_at}
-use Rattle.explore.proofs.prefixes.Beginnings.{beginning_front, beginning_next}
-use Rattle.explore.proofs.reduced.Same.{IsSame, same_on}
-use Rattle.explore.proofs.reduced.Swapping.{IsCalm, IsNoRival, ask_or_not, reduced_swapped_comes_first, swapped_no_ask_now}
+use Rattle.explore.proofs.MachineSteps.{machine_step_some_at}
+use Rattle.explore.proofs.prefixes.Beginnings.{prefix_beginning_front, prefix_beginning_next}
+use Rattle.explore.proofs.reduced.SameBeginnings.{IsSameBeginning, same_beginning_goes_on}
+use Rattle.explore.proofs.reduced.Swapping.{IsCalmInReducedSwap, HasNoReducedSwapRival, reduced_swapped_ask_or_not, reduced_swapped_comes_first, reduced_swapped_no_ask}
 
 -- one reply is the memory's
-once : (memory : List ℕ) (j k : Kind) → replyless_call j ≡ replyless_call k → AnswersFlatWord memory j → AnswersFlatWord memory k → j ≡ k
-once memory (Load a v) (Load b u) same one two =
+reduced_reaching_reply_once : (memory : List ℕ) (j k : Kind) → replyless_script_call j ≡ replyless_script_call k → AnswersReplayMemory memory j → AnswersReplayMemory memory k → j ≡ k
+reduced_reaching_reply_once memory (Load a v) (Load b u) same one two =
     let place : a ≡ b = cc in
     let value : v ≡ u = same_Some v u (sym one ∙ ap (slice_get memory) place ∙ two) in
     cc
-once memory (Load a v) k same one two = absurd cc
-once memory j (Load b u) same one two = absurd cc
-once memory j k same one two = same
+reduced_reaching_reply_once memory (Load a v) k same one two = absurd cc
+reduced_reaching_reply_once memory j (Load b u) same one two = absurd cc
+reduced_reaching_reply_once memory j k same one two = same
 
-reduced_reaching_step_once : (reply : ℕ) (memory : List ℕ) (step : ScriptCall) (j k : Kind) → IsCallOfStep reply step j → IsCallOfStep reply step k
-    → AnswersFlatWord memory j → AnswersFlatWord memory k → j ≡ k
-reduced_reaching_step_once reply memory (Call c) j k first second one two = once memory j k (first ∙ sym second) one two
+reduced_reaching_step_once : (reply : ℕ) (memory : List ℕ) (step : ScriptCall) (j k : Kind) → FitsScriptCall reply step j → FitsScriptCall reply step k
+    → AnswersReplayMemory memory j → AnswersReplayMemory memory k → j ≡ k
+reduced_reaching_step_once reply memory (Call c) j k first second one two = reduced_reaching_reply_once memory j k (first ∙ sym second) one two
 reduced_reaching_step_once reply memory (Adds a v) j k first second one two = first ∙ sym second
 
 -- a processor has one next event
-pub reduced_reaching_next_once : (s : Plan) (g : List Event) (p : ℕ) (j k : Kind) → length s.sections ≡ s.processors
+pub reduced_reaching_event_once : (s : Plan) (g : List Event) (p : ℕ) (j k : Kind) → length s.sections ≡ s.processors
     → IsFlatBeginning s (did g p j) → IsFlatBeginning s (did g p k) → j ≡ k
-reduced_reaching_next_once s g p j k long first second =
-    let one = ((beginning_next s g p j).0 first).1 in
-    let two = ((beginning_next s g p k).0 second).1 in
+reduced_reaching_event_once s g p j k long first second =
+    let one = ((prefix_beginning_next s g p j).0 first).1 in
+    let two = ((prefix_beginning_next s g p k).0 second).1 in
     let inside = one.may_follow.processor in
-    let section = machine_some_at s.sections p (omega arith) in
+    let section = machine_step_some_at s.sections p (omega arith) in
     let here = one.calls.next section.0 section.1 in
     let there = two.calls.next section.0 section.1 in
     let same : there.step ≡ here.step = same_Some there.step here.step (sym there.at ∙ here.at) in
-    reduced_reaching_step_once (last_reply_of_calls (calls_of g p)) (memory_after (replicate (plan_addresses s) 0) g) here.step j k here.is
-    (subst (λ x. IsCallOfStep (last_reply_of_calls (calls_of g p)) x k) same there.is) one.answers two.answers
+    reduced_reaching_step_once (last_reply_of_script_calls (calls_of g p)) (memory_after (replicate (plan_addresses s) 0) g) here.step j k here.is
+    (subst (λ x. FitsScriptCall (last_reply_of_script_calls (calls_of g p)) x k) same there.is) one.answers two.answers
 
 -- p's first event among some, or none of them is its
-pub record FirstReaching (w : List Event) (p : ℕ) : Type 0 where
+pub record ReducedReachingFirst (w : List Event) (p : ℕ) : Type 0 where
   pub before : List Event
   pub own : Event
   pub after : List Event
   pub are : w ≡ before ++ own ∷ after
   pub mine : own.processor ≡ p
-  pub away : (m : ℕ) (f : Event) → At before m f → f.processor ≢ p
+  pub away : (m : ℕ) (f : Event) → EventAt before m f → f.processor ≢ p
 
-pub reduced_reaching_first_of : (w : List Event) (p : ℕ) → FirstReaching w p ⊎ ((m : ℕ) (f : Event) → At w m f → f.processor ≢ p)
+pub reduced_reaching_first_of : (w : List Event) (p : ℕ) → ReducedReachingFirst w p ⊎ ((m : ℕ) (f : Event) → EventAt w m f → f.processor ≢ p)
 reduced_reaching_first_of [] p = inr (λ m f at. absurd (none-some f at))
 reduced_reaching_first_of (e ∷ w) p = elim (cases_eq e.processor p) [
   | inl is ↦ inl (record {
@@ -93,21 +93,21 @@ reduced_reaching_first_of (e ∷ w) p = elim (cases_eq e.processor p) [
   ]
 ]
   where
-    further : (e : Event) (w xs : List Event) (p : ℕ) → e.processor ≢ p → ((m : ℕ) (f : Event) → At xs m f → f.processor ≢ p)
-        → (m : ℕ) (f : Event) → At (e ∷ xs) m f → f.processor ≢ p
+    further : (e : Event) (w xs : List Event) (p : ℕ) → e.processor ≢ p → ((m : ℕ) (f : Event) → EventAt xs m f → f.processor ≢ p)
+        → (m : ℕ) (f : Event) → EventAt (e ∷ xs) m f → f.processor ≢ p
     further e w xs p isnt away zero f at = subst (λ (x : Event). x.processor ≢ p) (same_Some e f at) isnt
     further e w xs p isnt away (suc m) f at = away m f at
 
 -- what was followed of a prefix: all that may come next, or one free event
-pub record ReachingFollowsOne (s : Plan) (rows : List (Vec ScriptCall)) (V : List Event → Type 0) (h : List Event) : Type 0 where
+pub record ReducedReachingFollowsOne (s : Plan) (rows : List (Vec ScriptCall)) (V : List Event → Type 0) (h : List Event) : Type 0 where
   pub processor : ℕ
   pub kind : Kind
-  pub free : IsFree rows kind
+  pub free : IsFreeForChoice rows kind
   pub next : IsFlatBeginning s (did h processor kind)
   pub found : V (did h processor kind)
 
 -- or the asks for one lock, if nobody else will ask for it
-pub record FollowsAsks (s : Plan) (V : List Event → Type 0) (h : List Event) : Type 0 where
+pub record ReachingFollowsAsks (s : Plan) (V : List Event → Type 0) (h : List Event) : Type 0 where
   pub lock : ℕ
   pub processor : ℕ
   pub next : IsFlatBeginning s (did h processor (Ask lock))
@@ -115,21 +115,21 @@ pub record FollowsAsks (s : Plan) (V : List Event → Type 0) (h : List Event) :
   pub others : (more : List Event) (p : ℕ) → IsFlatBeginning s (did (h ++ more) p (Ask lock))
       → IsFlatBeginning s (did h p (Ask lock))
 
-abbrev pub ReachingFollowsAll : Plan → (List Event → Type 0) → List Event → Type 0
-ReachingFollowsAll s V h = (p : ℕ) (k : Kind) → IsFlatBeginning s (did h p k) → V (did h p k)
+abbrev pub ReducedReachingFollowsAll : Plan → (List Event → Type 0) → List Event → Type 0
+ReducedReachingFollowsAll s V h = (p : ℕ) (k : Kind) → IsFlatBeginning s (did h p k) → V (did h p k)
 
 -- the first ask for the lock among some events, or there is none
-record FirstAsk (w : List Event) (l : ℕ) : Type 0 where
+record ReducedReachingFirstAsk (w : List Event) (l : ℕ) : Type 0 where
   before : List Event
   own : Event
   after : List Event
   are : w ≡ before ++ own ∷ after
   asks : Ask l ≡ own.kind
-  none : IsNoRival (Ask l) before
+  none : HasNoReducedSwapRival (Ask l) before
 
-first_ask : (w : List Event) (l : ℕ) → FirstAsk w l ⊎ IsNoRival (Ask l) w
-first_ask [] l = inr (λ m f at. absurd (none-some f at))
-first_ask (e ∷ w) l = elim (ask_or_not l e.kind) [
+reduced_reaching_first_ask : (w : List Event) (l : ℕ) → ReducedReachingFirstAsk w l ⊎ HasNoReducedSwapRival (Ask l) w
+reduced_reaching_first_ask [] l = inr (λ m f at. absurd (none-some f at))
+reduced_reaching_first_ask (e ∷ w) l = elim (reduced_swapped_ask_or_not l e.kind) [
   | inl is ↦ inl (record {
     before = [];
     own = e;
@@ -138,7 +138,7 @@ first_ask (e ∷ w) l = elim (ask_or_not l e.kind) [
     asks = is;
     none = λ m f at. absurd (none-some f at);
   })
-  | inr isnt ↦ elim (first_ask w l) [
+  | inr isnt ↦ elim (reduced_reaching_first_ask w l) [
     | inl found ↦ inl (record {
       before = e ∷ found.before;
       own = found.own;
@@ -151,24 +151,24 @@ first_ask (e ∷ w) l = elim (ask_or_not l e.kind) [
   ]
 ]
   where
-    further : (e : Event) (w xs : List Event) (l : ℕ) → Ask l ≢ e.kind → IsNoRival (Ask l) xs → IsNoRival (Ask l) (e ∷ xs)
+    further : (e : Event) (w xs : List Event) (l : ℕ) → Ask l ≢ e.kind → HasNoReducedSwapRival (Ask l) xs → HasNoReducedSwapRival (Ask l) (e ∷ xs)
     further e w xs l isnt none zero f at m is =
         subst (λ (x : Event). Ask m ≢ x.kind) (same_Some e f at) (subst (λ c. c ≢ e.kind) (sym is) isnt)
     further e w xs l isnt none (suc n) f at m is = none n f at m is
 
 -- an ask accesses nothing
-calm_ask : {rows : List (Vec ScriptCall)} (l : ℕ) → IsCalm rows (Ask l)
-calm_ask l w at = absurd (none-some w at)
+reaching_calm_ask : {rows : List (Vec ScriptCall)} (l : ℕ) → IsCalmInReducedSwap rows (Ask l)
+reaching_calm_ask l w at = absurd (none-some w at)
 
 -- the event behind some
-at_behind : (xs : List Event) (e : Event) (ys : List Event) → At (xs ++ e ∷ ys) (length xs) e
-at_behind [] e ys = refl
-at_behind (x ∷ xs) e ys = at_behind xs e ys
+reaching_at_behind : (xs : List Event) (e : Event) (ys : List Event) → EventAt (xs ++ e ∷ ys) (length xs) e
+reaching_at_behind [] e ys = refl
+reaching_at_behind (x ∷ xs) e ys = reaching_at_behind xs e ys
 
 -- a property that is looked for
 pub record IsReachingLasting (s : Plan) (rows : List (Vec ScriptCall)) (T : List Event → Type 0) : Type 0 where
-  pub shared : (g h : List Event) → IsSame s g h → IsFlatBeginning s h → T g → T h
-  pub stays : (g : List Event) (p : ℕ) (k : Kind) → IsCalm rows k → IsFlatBeginning s (did g p k) → T g → T (did g p k)
+  pub shared : (g h : List Event) → IsSameBeginning s g h → IsFlatBeginning s h → T g → T h
+  pub stays : (g : List Event) (p : ℕ) (k : Kind) → IsCalmInReducedSwap rows k → IsFlatBeginning s (did g p k) → T g → T (did g p k)
 
 -- what is left once the free event has come first
 record IsReachingLeft (s : Plan) (T : List Event → Type 0) (h : List Event) : Type 0 where
@@ -184,23 +184,23 @@ pub record IsReached (V T : List Event → Type 0) : Type 0 where
 
 module _ (s : Plan) (rows : List (Vec ScriptCall)) (steps : AreLawfulMachineSteps s rows) (V T : List Event → Type 0)
     (lasting : IsReachingLasting s rows T)
-    (closed : (h : List Event) → V h → ReachingFollowsAll s V h ⊎ (ReachingFollowsOne s rows V h ⊎ FollowsAsks s V h)) where
-  reduced_reaching_left_first : (h w : List Event) (p : ℕ) (k : Kind) → IsCalm rows k → IsFlatBeginning s (did h p k)
-      → IsFlatBeginning s (h ++ w) → T (h ++ w) → (f : FirstReaching w p) → IsNoRival k f.before → IsReachingLeft s T (did h p k)
+    (closed : (h : List Event) → V h → ReducedReachingFollowsAll s V h ⊎ (ReducedReachingFollowsOne s rows V h ⊎ ReachingFollowsAsks s V h)) where
+  reduced_reaching_left_first : (h w : List Event) (p : ℕ) (k : Kind) → IsCalmInReducedSwap rows k → IsFlatBeginning s (did h p k)
+      → IsFlatBeginning s (h ++ w) → T (h ++ w) → (f : ReducedReachingFirst w p) → HasNoReducedSwapRival k f.before → IsReachingLeft s T (did h p k)
   reduced_reaching_left_first h w p k calm next whole has f no_rival =
       let parted : h ++ w ≡ (h ++ f.before) ++ f.own ∷ f.after =
       ap (λ xs. h ++ xs) f.are ∙ sym (append_assoc h f.before (f.own ∷ f.after)) in
       let joined : (h ++ f.before) ++ f.own ∷ f.after ≡ ((h ++ f.before) ++ f.own ∷ []) ++ f.after =
       sym (append_assoc (h ++ f.before) (f.own ∷ []) f.after) in
       let all = subst (IsFlatBeginning s) (parted ∙ joined) whole in
-      let with_own = beginning_front s ((h ++ f.before) ++ f.own ∷ []) f.after all in
-      let before = beginning_front s (h ++ f.before) (f.own ∷ []) with_own in
+      let with_own = prefix_beginning_front s ((h ++ f.before) ++ f.own ∷ []) f.after all in
+      let before = prefix_beginning_front s (h ++ f.before) (f.own ∷ []) with_own in
       let moved = reduced_swapped_comes_first s rows steps p k calm f.before h f.away no_rival next before in
       let mine = subst (λ q. IsFlatBeginning s (did (h ++ f.before) q f.own.kind)) f.mine with_own in
-      let same : k ≡ f.own.kind = reduced_reaching_next_once s (h ++ f.before) p k f.own.kind steps.lawful.but_uneven.one_each moved.last mine in
+      let same : k ≡ f.own.kind = reduced_reaching_event_once s (h ++ f.before) p k f.own.kind steps.lawful.but_uneven.one_each moved.last mine in
       let is : event p k ≡ f.own = ap (event p) same ∙ ap (λ q. event q f.own.kind) (sym f.mine) in
-      let own_same = subst (λ e. IsSame s ((h ++ f.before) ++ e ∷ []) (did h p k ++ f.before)) is moved.same in
-      let on = same_on s f.after ((h ++ f.before) ++ f.own ∷ []) (did h p k ++ f.before) own_same moved.first all in
+      let own_same = subst (λ e. IsSameBeginning s ((h ++ f.before) ++ e ∷ []) (did h p k ++ f.before)) is moved.same in
+      let on = same_beginning_goes_on s f.after ((h ++ f.before) ++ f.own ∷ []) (did h p k ++ f.before) own_same moved.first all in
       let end : (did h p k ++ f.before) ++ f.after ≡ did h p k ++ (f.before ++ f.after) =
       append_assoc (did h p k) f.before f.after in
       record {
@@ -209,8 +209,8 @@ module _ (s : Plan) (rows : List (Vec ScriptCall)) (steps : AreLawfulMachineStep
         has = subst T end (lasting.shared _ _ on.1 on.0 (subst T (parted ∙ joined) has));
       }
 
-  reduced_reaching_left_behind : (h w : List Event) (p : ℕ) (k : Kind) → IsCalm rows k → IsFlatBeginning s (did h p k)
-      → IsFlatBeginning s (h ++ w) → T (h ++ w) → ((m : ℕ) (f : Event) → At w m f → f.processor ≢ p) → IsNoRival k w
+  reduced_reaching_left_behind : (h w : List Event) (p : ℕ) (k : Kind) → IsCalmInReducedSwap rows k → IsFlatBeginning s (did h p k)
+      → IsFlatBeginning s (h ++ w) → T (h ++ w) → ((m : ℕ) (f : Event) → EventAt w m f → f.processor ≢ p) → HasNoReducedSwapRival k w
       → IsReachingLeft s T (did h p k)
   reduced_reaching_left_behind h w p k calm next whole has away no_rival =
       let moved = reduced_swapped_comes_first s rows steps p k calm w h away no_rival next whole in
@@ -220,69 +220,69 @@ module _ (s : Plan) (rows : List (Vec ScriptCall)) (steps : AreLawfulMachineStep
         has = lasting.shared _ _ moved.same moved.first (lasting.stays (h ++ w) p k calm moved.last has);
       }
 
-  left : (h w : List Event) (p : ℕ) (k : Kind) → IsFree rows k → IsFlatBeginning s (did h p k)
+  reduced_reaching_left : (h w : List Event) (p : ℕ) (k : Kind) → IsFreeForChoice rows k → IsFlatBeginning s (did h p k)
       → IsFlatBeginning s (h ++ w) → T (h ++ w) → IsReachingLeft s T (did h p k)
-  left h w p k free next whole has = elim (reduced_reaching_first_of w p) [
-    | inl f ↦ reduced_reaching_left_first h w p k free.guarded next whole has f (λ m e at l is. absurd (swapped_no_ask_now k l free.no_ask is))
-    | inr away ↦ reduced_reaching_left_behind h w p k free.guarded next whole has away (λ m e at l is. absurd (swapped_no_ask_now k l free.no_ask is))
+  reduced_reaching_left h w p k free next whole has = elim (reduced_reaching_first_of w p) [
+    | inl f ↦ reduced_reaching_left_first h w p k free.guarded next whole has f (λ m e at l is. absurd (reduced_swapped_no_ask k l free.no_ask is))
+    | inr away ↦ reduced_reaching_left_behind h w p k free.guarded next whole has away (λ m e at l is. absurd (reduced_swapped_no_ask k l free.no_ask is))
   ]
 
   -- who may ask for the lock next does nothing before that
-  away_of : (h w : List Event) (p l : ℕ) → IsFlatBeginning s (did h p (Ask l)) → IsFlatBeginning s (h ++ w) → IsNoRival (Ask l) w
-      → (m : ℕ) (f : Event) → At w m f → f.processor ≢ p
-  away_of h w p l next whole no_rival = elim (reduced_reaching_first_of w p) [
+  reaching_away_before_ask : (h w : List Event) (p l : ℕ) → IsFlatBeginning s (did h p (Ask l)) → IsFlatBeginning s (h ++ w) → HasNoReducedSwapRival (Ask l) w
+      → (m : ℕ) (f : Event) → EventAt w m f → f.processor ≢ p
+  reaching_away_before_ask h w p l next whole no_rival = elim (reduced_reaching_first_of w p) [
     | inl f ↦
         (let parted : h ++ w ≡ (h ++ f.before) ++ f.own ∷ f.after =
         ap (λ xs. h ++ xs) f.are ∙ sym (append_assoc h f.before (f.own ∷ f.after)) in
         let joined : (h ++ f.before) ++ f.own ∷ f.after ≡ ((h ++ f.before) ++ f.own ∷ []) ++ f.after =
         sym (append_assoc (h ++ f.before) (f.own ∷ []) f.after) in
         let all = subst (IsFlatBeginning s) (parted ∙ joined) whole in
-        let with_own = beginning_front s ((h ++ f.before) ++ f.own ∷ []) f.after all in
-        let before = beginning_front s (h ++ f.before) (f.own ∷ []) with_own in
-        let rivals = subst (IsNoRival (Ask l)) f.are no_rival in
-        let moved = reduced_swapped_comes_first s rows steps p (Ask l) (calm_ask l) f.before h f.away
-        (λ m e at. rivals m e (numbered_at_longer f.before (f.own ∷ f.after) m e at)) next before in
+        let with_own = prefix_beginning_front s ((h ++ f.before) ++ f.own ∷ []) f.after all in
+        let before = prefix_beginning_front s (h ++ f.before) (f.own ∷ []) with_own in
+        let rivals = subst (HasNoReducedSwapRival (Ask l)) f.are no_rival in
+        let moved = reduced_swapped_comes_first s rows steps p (Ask l) (reaching_calm_ask l) f.before h f.away
+        (λ m e at. rivals m e (event_place_longer f.before (f.own ∷ f.after) m e at)) next before in
         let mine = subst (λ q. IsFlatBeginning s (did (h ++ f.before) q f.own.kind)) f.mine with_own in
         let same : Ask l ≡ f.own.kind =
-        reduced_reaching_next_once s (h ++ f.before) p (Ask l) f.own.kind steps.lawful.but_uneven.one_each moved.last mine in
-        absurd (rivals (length f.before) f.own (at_behind f.before f.own f.after) l refl same))
+        reduced_reaching_event_once s (h ++ f.before) p (Ask l) f.own.kind steps.lawful.but_uneven.one_each moved.last mine in
+        absurd (rivals (length f.before) f.own (reaching_at_behind f.before f.own f.after) l refl same))
     | inr away ↦ away
   ]
 
   -- one of the asks for the lock, once it has come first
-  record IsAskLeft (h : List Event) (l : ℕ) : Type 0 where
+  record IsReachingAskLeft (h : List Event) (l : ℕ) : Type 0 where
     p : ℕ
     next : IsFlatBeginning s (did h p (Ask l))
     rest : IsReachingLeft s T (did h p (Ask l))
 
-  asked_left : (h w : List Event) → IsFlatBeginning s (h ++ w) → T (h ++ w) → (l : ℕ) → (next : (q : ℕ) × IsFlatBeginning s (did h q (Ask l)))
+  reaching_asked_left : (h w : List Event) → IsFlatBeginning s (h ++ w) → T (h ++ w) → (l : ℕ) → (next : (q : ℕ) × IsFlatBeginning s (did h q (Ask l)))
       → ((more : List Event) (p : ℕ) → IsFlatBeginning s (did (h ++ more) p (Ask l)) → IsFlatBeginning s (did h p (Ask l)))
-      → IsAskLeft h l
-  asked_left h w whole has l next others = elim (first_ask w l) [
+      → IsReachingAskLeft h l
+  reaching_asked_left h w whole has l next others = elim (reduced_reaching_first_ask w l) [
     | inl f ↦
         (let parted : h ++ w ≡ (h ++ f.before) ++ f.own ∷ f.after =
         ap (λ xs. h ++ xs) f.are ∙ sym (append_assoc h f.before (f.own ∷ f.after)) in
         let joined : (h ++ f.before) ++ f.own ∷ f.after ≡ ((h ++ f.before) ++ f.own ∷ []) ++ f.after =
         sym (append_assoc (h ++ f.before) (f.own ∷ []) f.after) in
-        let with_own = beginning_front s ((h ++ f.before) ++ f.own ∷ []) f.after (subst (IsFlatBeginning s) (parted ∙ joined) whole) in
+        let with_own = prefix_beginning_front s ((h ++ f.before) ++ f.own ∷ []) f.after (subst (IsFlatBeginning s) (parted ∙ joined) whole) in
         let asked = subst (λ c. IsFlatBeginning s (did (h ++ f.before) f.own.processor c)) (sym f.asks) with_own in
         let first = others f.before f.own.processor asked in
         record {
           p = f.own.processor;
           next = first;
-          rest = reduced_reaching_left_first h w f.own.processor (Ask l) (calm_ask l) first whole has (record {
+          rest = reduced_reaching_left_first h w f.own.processor (Ask l) (reaching_calm_ask l) first whole has (record {
             before = f.before;
             own = f.own;
             after = f.after;
             are = f.are;
             mine = refl;
-            away = away_of h f.before f.own.processor l first (beginning_front s (h ++ f.before) (f.own ∷ []) with_own) f.none;
+            away = reaching_away_before_ask h f.before f.own.processor l first (prefix_beginning_front s (h ++ f.before) (f.own ∷ []) with_own) f.none;
           }) f.none;
         })
     | inr none ↦ record {
       p = next.0;
       next = next.1;
-      rest = reduced_reaching_left_behind h w next.0 (Ask l) (calm_ask l) next.1 whole has (away_of h w next.0 l next.1 whole none) none;
+      rest = reduced_reaching_left_behind h w next.0 (Ask l) (reaching_calm_ask l) next.1 whole has (reaching_away_before_ask h w next.0 l next.1 whole none) none;
     }
   ]
 
@@ -292,22 +292,22 @@ module _ (s : Plan) (rows : List (Vec ScriptCall)) (steps : AreLawfulMachineStep
 
   reach : (n : ℕ) (h w : List Event) → most_held ≤ length h + n → V h → IsFlatBeginning s (h ++ w) → T (h ++ w) → IsReached V T
   reach zero h w le found whole has =
-      let few = history_length_few s h steps.lawful (beginning_front s h w whole) in absurd (omega arith)
+      let few = history_length_few s h steps.lawful (prefix_beginning_front s h w whole) in absurd (omega arith)
   reach (suc n) h [] le found whole has = record { events = h; found = found; has = subst T (append-nil h) has }
   reach (suc n) h (e ∷ w) le found whole has = elim (closed h found) [
     | inl all ↦
         (let joined = sym (append_assoc h (e ∷ []) w) in
         let longer_whole = subst (IsFlatBeginning s) joined whole in
-        let next = beginning_front s (h ++ e ∷ []) w longer_whole in
+        let next = prefix_beginning_front s (h ++ e ∷ []) w longer_whole in
         reach n (h ++ e ∷ []) w (reduced_reaching_longer h e.processor e.kind next n le) (all e.processor e.kind next) longer_whole (subst T joined has))
     | inr some ↦ elim some [
       | inl one ↦
-          (let rest = left h (e ∷ w) one.processor one.kind one.free one.next whole has in
+          (let rest = reduced_reaching_left h (e ∷ w) one.processor one.kind one.free one.next whole has in
           reach n (did h one.processor one.kind) rest.more (reduced_reaching_longer h one.processor one.kind one.next n le) one.found rest.begins
           rest.has)
       | inr asks ↦
           (let l = asks.lock in
-          let ask = asked_left h (e ∷ w) whole has l (asks.processor, asks.next) asks.others in
+          let ask = reaching_asked_left h (e ∷ w) whole has l (asks.processor, asks.next) asks.others in
           reach n (did h ask.p (Ask l)) ask.rest.more (reduced_reaching_longer h ask.p (Ask l) ask.next n le) (asks.found ask.p ask.next)
           ask.rest.begins ask.rest.has)
     ]

@@ -1,4 +1,4 @@
 -- The words that contracts name, passed on from one place. Declares nothing.
-pub use Rattle.explore.specs.Prefixes.Beginnings.{IsFlatBeginning, IsFlatRaceFree, IsWholeBeginning, IsHangingBeginning}
-pub use Rattle.explore.specs.Prefixes.Calling.{calling_steps, calling_steps_of_all, calling_load_steps, calling_section_steps, calling_shown_by, AreCallingSteps}
-pub use Rattle.explore.specs.Prefixes.Laws.{NeverRacesLaw, EmptyLaw, FrontLaw, NextLaw, WholeRunLaw, HasNoNeighbours, NeighboursLaw, RacingLaw}
+pub use Rattle.explore.specs.Prefixes.FlatBeginnings.{IsFlatBeginning, AreFlatBeginningsRaceFree, IsFlatBeginningWhole, IsFlatBeginningHanging}
+pub use Rattle.explore.specs.Prefixes.ScriptCalls.{script_calls_of_one, script_calls_of_all, script_call_loads, script_calls_of_section, script_calls_shown_by, AreScriptCallRows}
+pub use Rattle.explore.specs.Prefixes.PrefixLaws.{PrefixNeverRacesLaw, PrefixEmptyLaw, PrefixFrontLaw, PrefixNextLaw, PrefixDoneLaw, PrefixHasNoNeighbours, PrefixNeighboursLaw, PrefixRacingLaw}

@@ -1,7 +1,7 @@
 //! What a script says of each call of a processor.
 ghost use Rattle.std.specs.Prelude.{◌≡◌, ◌++◌, OnOk, IfOk, option_to_list};
-ghost use Rattle.explore.specs.Prefixes.Prelude.{calling_steps, calling_section_steps, calling_load_steps, calling_steps_of_all, AreCallingSteps};
-ghost use Rattle.explore.specs.Prefixes.Prelude.{calling_shown_by};
+ghost use Rattle.explore.specs.Prefixes.Prelude.{script_calls_of_one, script_calls_of_section, script_call_loads, script_calls_of_all, AreScriptCallRows};
+ghost use Rattle.explore.specs.Prefixes.Prelude.{script_calls_shown_by};
 ghost use Rattle.lrc_script.specs.Prelude.{plan_of};
 
 use journal::Kind;
@@ -19,7 +19,7 @@ pub enum ScriptCall {
 
 /// The steps of an instruction, of which it has two at most.
 fn script_call_pair(instruction: Instruction) -> (Option<ScriptCall>, Option<ScriptCall>)
-    ensures { option_to_list result.0 ++ option_to_list result.1 ≡ calling_steps instruction }
+    ensures { option_to_list result.0 ++ option_to_list result.1 ≡ script_calls_of_one instruction }
 {
     match instruction {
         Instruction::Load(address) => (Some(ScriptCall::Call(Kind::Load(address, 0))), None),
@@ -62,8 +62,11 @@ fn push_some_script_call(
 }
 
 /// Puts the steps of an instruction at the end.
-fn push_instruction(steps: &mut Vec<ScriptCall>, instruction: Instruction) -> Result<(), AllocError>
-    ensures { OnOk result (steps.new.items ≡ steps.old.items ++ calling_steps instruction) }
+fn push_script_calls_of(
+    steps: &mut Vec<ScriptCall>,
+    instruction: Instruction,
+) -> Result<(), AllocError>
+    ensures { OnOk result (steps.new.items ≡ steps.old.items ++ script_calls_of_one instruction) }
 {
     let (first, second) = script_call_pair(instruction);
     push_some_script_call(steps, first)?;
@@ -75,18 +78,18 @@ fn script_call_own_steps(
     alloc: Global,
     section: &[Instruction],
 ) -> Result<Vec<ScriptCall>, AllocError>
-    ensures { IfOk result (λ v. v.items ≡ calling_steps_of_all section.now) }
+    ensures { IfOk result (λ v. v.items ≡ script_calls_of_all section.now) }
 {
     let mut steps = Vec::new(alloc);
     for instruction in section {
-        push_instruction(&mut steps, *instruction)?;
+        push_script_calls_of(&mut steps, *instruction)?;
     }
     Ok(steps)
 }
 
 /// Puts a load of each of these addresses at the end.
-fn push_script_loads(steps: &mut Vec<ScriptCall>, shown: &[usize]) -> Result<(), AllocError>
-    ensures { OnOk result (steps.new.items ≡ steps.old.items ++ calling_load_steps shown.now) }
+fn push_script_call_loads(steps: &mut Vec<ScriptCall>, shown: &[usize]) -> Result<(), AllocError>
+    ensures { OnOk result (steps.new.items ≡ steps.old.items ++ script_call_loads shown.now) }
 {
     for address in shown {
         steps.push(ScriptCall::Call(Kind::Load(*address, 0)))?;
@@ -95,33 +98,40 @@ fn push_script_loads(steps: &mut Vec<ScriptCall>, shown: &[usize]) -> Result<(),
 }
 
 /// All that a processor calls which has this section, and shows these addresses.
-fn script_section_steps(
+fn script_calls_of_section(
     alloc: Global,
     section: &[Instruction],
     shown: &[usize],
 ) -> Result<Vec<ScriptCall>, AllocError>
-    ensures { IfOk result (λ v. v.items ≡ calling_section_steps section.now shown.now) }
+    ensures { IfOk result (λ v. v.items ≡ script_calls_of_section section.now shown.now) }
 {
     let mut steps = script_call_own_steps(alloc, section)?;
-    push_instruction(&mut steps, Instruction::Barrier)?;
-    push_script_loads(&mut steps, shown)?;
+    push_script_calls_of(&mut steps, Instruction::Barrier)?;
+    push_script_call_loads(&mut steps, shown)?;
     Ok(steps)
 }
 
 /// What the processor shows at the end.
-fn script_shown_by(script: &Script, processor: usize) -> &[usize]
-    ensures { result.now ≡ calling_shown_by (plan_of script.now) processor }
+fn script_calls_shown_by(script: &Script, processor: usize) -> &[usize]
+    ensures { result.now ≡ script_calls_shown_by (plan_of script.now) processor }
 {
     if processor == 0 { &script.shown } else { &[] }
 }
 
 /// Of each processor of a script, all that it calls. The only error is running out of memory.
-pub fn steps_of_script(alloc: Global, script: &Script) -> Result<Vec<Vec<ScriptCall>>, AllocError>
-    ensures { IfOk result (λ v. AreCallingSteps (plan_of script.now) v.items) }
+pub fn script_calls_of_all(
+    alloc: Global,
+    script: &Script,
+) -> Result<Vec<Vec<ScriptCall>>, AllocError>
+    ensures { IfOk result (λ v. AreScriptCallRows (plan_of script.now) v.items) }
 {
     let mut all = Vec::new(alloc);
     for (processor, section) in script.sections.iter().enumerate() {
-        let steps = script_section_steps(alloc, section, script_shown_by(script, processor))?;
+        let steps = script_calls_of_section(
+            alloc,
+            section,
+            script_calls_shown_by(script, processor),
+        )?;
         all.push(steps)?;
     }
     Ok(all)

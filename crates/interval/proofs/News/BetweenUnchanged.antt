@@ -5,16 +5,16 @@ use Rattle.std.proofs.lemmas.Bool.{cases_Bool, cond-false, and_parts, and_right,
 use Rattle.std.proofs.lemmas.List.{append-nil}
 use Rattle.std.proofs.lemmas.List.Elements.{filter-append}
 use Rattle.base.proofs.Filters.{filter_passed}
-use Rattle.interval.specs.declared.kept_interval.KeptInterval.{KeptInterval}
+use Rattle.interval.specs.declared.interval.KeptInterval.{KeptInterval}
 use Rattle.interval.specs.SentIntervals.{ClosedInterval}
-use Rattle.interval.specs.Closings.{Closings, pushed, closings_trimmed_below, is_trimmed_from_closings, is_news_of_closings, closings_sent_interval, closings_between}
+use Rattle.interval.specs.KeptClosings.{KeptClosings, kept_closings_pushed, kept_closings_trimmed_below, is_trimmed_from_kept_closings, is_news_of_kept_closings, kept_closing_sent_interval, kept_closings_between}
 
 -- intervals that the receiver has performed are not sent to it
-pub closings_between-trimmed : (c : Closings) (owner to : ℕ) (old new : List ℕ) → to ≤ slice_index old owner
-    → closings_between (closings_trimmed_below c owner to) old new ≡ closings_between c old new
-closings_between-trimmed c owner to old new performed =
-    let stays : (k : KeptInterval) → is_news_of_closings old new k ≡ true → not (is_trimmed_from_closings owner to k) ≡ true = λ k news.
-    elim (cases_Bool (is_trimmed_from_closings owner to k)) [
+pub between_unchanged_by_trim : (c : KeptClosings) (owner to : ℕ) (old new : List ℕ) → to ≤ slice_index old owner
+    → kept_closings_between (kept_closings_trimmed_below c owner to) old new ≡ kept_closings_between c old new
+between_unchanged_by_trim c owner to old new performed =
+    let stays : (k : KeptInterval) → is_news_of_kept_closings old new k ≡ true → not (is_trimmed_from_kept_closings owner to k) ≡ true = λ k news.
+    elim (cases_Bool (is_trimmed_from_kept_closings owner to k)) [
       | inl t ↦
           let parts = and_parts _ _ t in
           let owned : k.interval.owner ≡ owner = eqb-true _ _ parts.0 in
@@ -24,15 +24,15 @@ closings_between-trimmed c owner to old new performed =
           absurd (omega arith)
       | inr f ↦ ap not f
     ] in
-    ap (flat_map closings_sent_interval) (filter_passed (is_news_of_closings old new) (λ k. not (is_trimmed_from_closings owner to k)) c.kept stays)
+    ap (flat_map kept_closing_sent_interval) (filter_passed (is_news_of_kept_closings old new) (λ k. not (is_trimmed_from_kept_closings owner to k)) c.kept stays)
 
 -- an interval that the receiver is not to perform is not sent to it
-pub closings_between-pushed : (c : Closings) (i : ClosedInterval) (old new : List ℕ) → slice_index new i.owner ≤ i.number
-    → closings_between (pushed c i) old new ≡ closings_between c old new
-closings_between-pushed c i old new uncovered =
+pub between_unchanged_by_push : (c : KeptClosings) (i : ClosedInterval) (old new : List ℕ) → slice_index new i.owner ≤ i.number
+    → kept_closings_between (kept_closings_pushed c i) old new ≡ kept_closings_between c old new
+between_unchanged_by_push c i old new uncovered =
     let k : KeptInterval = record { place = c.pushed; interval = i } in
-    let no_news : is_news_of_closings old new k ≡ false = and_right _ _ (le-ltb _ _ uncovered) in
-    let last : filter (is_news_of_closings old new) (k ∷ []) ≡ [] = cond-false (is_news_of_closings old new k) (k ∷ []) [] no_news in
-    ap (flat_map closings_sent_interval) (filter-append (is_news_of_closings old new) c.kept (k ∷ [])
-    ∙ ap (λ (ys : List KeptInterval). filter (is_news_of_closings old new) c.kept ++ ys) last
-    ∙ append-nil (filter (is_news_of_closings old new) c.kept))
+    let no_news : is_news_of_kept_closings old new k ≡ false = and_right _ _ (le-ltb _ _ uncovered) in
+    let last : filter (is_news_of_kept_closings old new) (k ∷ []) ≡ [] = cond-false (is_news_of_kept_closings old new k) (k ∷ []) [] no_news in
+    ap (flat_map kept_closing_sent_interval) (filter-append (is_news_of_kept_closings old new) c.kept (k ∷ [])
+    ∙ ap (λ (ys : List KeptInterval). filter (is_news_of_kept_closings old new) c.kept ++ ys) last
+    ∙ append-nil (filter (is_news_of_kept_closings old new) c.kept))

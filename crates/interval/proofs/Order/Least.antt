@@ -2,8 +2,8 @@
 use Rattle.std.proofs.Common.{◌≡◌, ◌≤◌, suc, Bool, true, false, inl, inr, Some, List, ◌∷◌, [], find, refl, ap, arith, ◌∙◌}
 use Rattle.std.proofs.lemmas.Bool.{cond-true, cond-false, cases_Bool}
 use Rattle.base.specs.InOrderOnce.{Has}
-use Rattle.base.proofs.Joined.{has-nil, has-cons}
-use Rattle.interval.specs.declared.kept_interval.KeptInterval.{KeptInterval}
+use Rattle.base.proofs.JoinedLists.{joined_list_has-nil, joined_list_has-cons}
+use Rattle.interval.specs.declared.interval.KeptInterval.{KeptInterval}
 use Rattle.interval.proofs.Order.RisingByPlace.{Rises, rises_first, rises_rest}
 
 -- none that passes was closed before k
@@ -21,8 +21,8 @@ least_skipped p x xs k rises later least = elim (cases_Bool (p x)) [
 -- the earliest is found first
 pub find_least : (p : KeptInterval → Bool) (xs : List KeptInterval) (k : KeptInterval) → Rises xs → Has xs k → p k ≡ true → IsLeast p xs k
     → find p xs ≡ Some k
-find_least p [] k rises here passes least = absurd (has-nil k here)
-find_least p (x ∷ xs) k rises here passes least = elim ((has-cons x xs k).0 here) [
+find_least p [] k rises here passes least = absurd (joined_list_has-nil k here)
+find_least p (x ∷ xs) k rises here passes least = elim ((joined_list_has-cons x xs k).0 here) [
   | inl same ↦ cond-true (p x) (Some x) (find p xs) (ap p same ∙ passes) ∙ ap Some same
   | inr later ↦ cond-false (p x) (Some x) (find p xs) (least_skipped p x xs k rises later least)
       ∙ find_least p xs k (rises_rest x xs rises) later passes (λ j h. least j (suc h.0, h.1))

@@ -3,40 +3,40 @@ use Rattle.std.proofs.Common.{◌≡◌, ℕ, zero, suc, ◌<◌, ◌≤◌, ◌
 use Rattle.std.specs.Option.{MatchOption, option_and_then}
 use Rattle.std.proofs.lemmas.Bool.{cases_order, cases_Bool, and_parts, and_from, eqb-true, eq-eqb}
 use Rattle.std.proofs.lemmas.Option.{slice_get_within, slice_get-get_or, slice_get_read}
-use Rattle.page.specs.RisingChanges.{Changes}
+use Rattle.page.specs.PageChanges.{PageChanges}
 use Rattle.interval.specs.declared.notice.Notice.{Notice}
-use Rattle.interval.specs.declared.kept_interval.KeptInterval.{KeptInterval}
-use Rattle.interval.specs.Closings.{Closings, is_noticed_closing, record_of}
-use Rattle.interval.specs.Queues.{Queue, merged_queues, AreQueues}
+use Rattle.interval.specs.declared.interval.KeptInterval.{KeptInterval}
+use Rattle.interval.specs.KeptClosings.{KeptClosings, is_noticed_kept_closing, record_of}
+use Rattle.interval.specs.IntervalQueues.{IntervalQueue, interval_queues_merged, AreIntervalQueues}
 use Rattle.base.specs.InOrderOnce.{Has}
 use Rattle.base.proofs.Filters.{filter_find_none}
 use Rattle.interval.proofs.Order.Least.{find_least}
-use Rattle.interval.proofs.Queues.Merged.{QueuesHold, LiesInMerged, merged_lies, lies_merged, rises-merged, queued}
+use Rattle.interval.proofs.Queues.Merged.{MergedQueuesHold, LiesInMerged, merged_lies, lies_merged, rises-merged, merged_queue_interval}
 
 -- an owner's interval lies in the owner's queue
-pub in_own_queue : (queues : List Queue) (count : ℕ) → AreQueues queues count → (k : KeptInterval) → LiesInMerged queues k
-    → (owner : ℕ) → k.interval.owner ≡ owner → (queue : Queue) → slice_get queues owner ≡ Some queue
+pub first_found_in_own_queue : (queues : List IntervalQueue) (count : ℕ) → AreIntervalQueues queues count → (k : KeptInterval) → LiesInMerged queues k
+    → (owner : ℕ) → k.interval.owner ≡ owner → (queue : IntervalQueue) → slice_get queues owner ≡ Some queue
     → (i : ℕ) × (slice_get queue.kept i ≡ Some k)
-in_own_queue queues count are k l owner is queue owned =
-    let q = queued queues count are k l in
+first_found_in_own_queue queues count are k l owner is queue owned =
+    let q = merged_queue_interval queues count are k l in
     let same : l.owner ≡ owner = sym q.owner_is ∙ is in
     let queue_is : l.queue ≡ queue =
     let there : slice_get queues owner ≡ Some l.queue = ap (slice_get queues) (sym same) ∙ l.owned in
     cc (there, owned) in
-    (l.index, ap (λ (q : Queue). slice_get q.kept l.index) (sym queue_is) ∙ l.at)
+    (l.index, ap (λ (q : IntervalQueue). slice_get q.kept l.index) (sym queue_is) ∙ l.at)
 
 -- the first of the owner's intervals in closing order is the first of its queue
-pub first_of : (queues : List Queue) (count owner : ℕ) (queue : Queue) → AreQueues queues count
+pub first_found_of_owner : (queues : List IntervalQueue) (count owner : ℕ) (queue : IntervalQueue) → AreIntervalQueues queues count
     → slice_get queues owner ≡ Some queue
-    → find (λ (k : KeptInterval). k.interval.owner == owner) (merged_queues queues) ≡ slice_get queue.kept 0
-first_of queues count owner queue are owned =
+    → find (λ (k : KeptInterval). k.interval.owner == owner) (interval_queues_merged queues) ≡ slice_get queue.kept 0
+first_found_of_owner queues count owner queue are owned =
     let test : KeptInterval → Bool = λ k. k.interval.owner == owner in
     let go : (o : Option KeptInterval) → slice_get queue.kept 0 ≡ o
-    → find test (merged_queues queues)
-    ≡ o = λ o. elim o as (λ (o : Option KeptInterval). slice_get queue.kept 0 ≡ o → find test (merged_queues queues) ≡ o) [
-      | None ↦ λ e. filter_find_none test (merged_queues queues) (λ j h. elim (cases_Bool (test j)) [
+    → find test (interval_queues_merged queues)
+    ≡ o = λ o. elim o as (λ (o : Option KeptInterval). slice_get queue.kept 0 ≡ o → find test (interval_queues_merged queues) ≡ o) [
+      | None ↦ λ e. filter_find_none test (interval_queues_merged queues) (λ j h. elim (cases_Bool (test j)) [
         | inl t ↦
-            let at = in_own_queue queues count are j (merged_lies queues j h) owner (eqb-true _ _ t) queue owned in
+            let at = first_found_in_own_queue queues count are j (merged_lies queues j h) owner (eqb-true _ _ t) queue owned in
             let within = slice_get_within queue.kept at.0 j at.1 in
             let there = slice_get-get_or queue.kept 0 j (omega arith) in
             cc
@@ -44,10 +44,10 @@ first_of queues count owner queue are owned =
       ])
       | Some k ↦ λ e.
           let l : LiesInMerged queues k = record { owner = owner; queue = queue; index = 0; owned = owned; at = e } in
-          let is = (queued queues count are k l).owner_is in
-          find_least test (merged_queues queues) k (rises-merged queues) (lies_merged queues count are k l) (eq-eqb _ _ is)
+          let is = (merged_queue_interval queues count are k l).owner_is in
+          find_least test (interval_queues_merged queues) k (rises-merged queues) (lies_merged queues count are k l) (eq-eqb _ _ is)
           (λ j h t.
-          let at = in_own_queue queues count are j (merged_lies queues j h) owner (eqb-true _ _ t) queue owned in
+          let at = first_found_in_own_queue queues count are j (merged_lies queues j h) owner (eqb-true _ _ t) queue owned in
           elim (cases_order 0 at.0) [
             | inl same ↦ let there : slice_get queue.kept 0 ≡ Some j = ap (slice_get queue.kept) same ∙ at.1 in
                 let one : k ≡ j = cc (e, there) in let place = ap (λ (z : KeptInterval). z.place) one in omega arith
@@ -60,14 +60,14 @@ first_of queues count owner queue are owned =
     go (slice_get queue.kept 0) refl
 
 -- what `first` answers is the number of that interval, or the owner's next number
-pub first_number : {queues : List Queue} {count : ℕ} {value : Closings} {queue : Queue} {n : ℕ} → (owner : ℕ)
-    → QueuesHold queues count value → slice_get queues owner ≡ Some queue → n ≡ queue.first
+pub first_found_number : {queues : List IntervalQueue} {count : ℕ} {value : KeptClosings} {queue : IntervalQueue} {n : ℕ} → (owner : ℕ)
+    → MergedQueuesHold queues count value → slice_get queues owner ≡ Some queue → n ≡ queue.first
     → MatchOption (find (λ (k : KeptInterval). k.interval.owner == owner) value.kept) (slice_get value.next owner ≡ Some n)
     (λ k. k.interval.number ≡ n)
-first_number {queues} {count} {value} {queue} {n} owner hold owned n_is =
+first_found_number {queues} {count} {value} {queue} {n} owner hold owned n_is =
     let are = hold.are in
-    let kepts : merged_queues queues ≡ value.kept = ap (λ (c : Closings). c.kept) hold.seen in
-    let nexts : map (λ (q : Queue). q.first + length q.kept) queues ≡ value.next = ap (λ (c : Closings). c.next) hold.seen in
+    let kepts : interval_queues_merged queues ≡ value.kept = ap (λ (c : KeptClosings). c.kept) hold.seen in
+    let nexts : map (λ (q : IntervalQueue). q.first + length q.kept) queues ≡ value.next = ap (λ (c : KeptClosings). c.next) hold.seen in
     let go : (o : Option KeptInterval) → slice_get queue.kept 0 ≡ o
     → MatchOption o (slice_get value.next owner ≡ Some n) (λ k. k.interval.number ≡ n) = λ o. elim o as (λ
     (o : Option KeptInterval). slice_get queue.kept 0
@@ -75,16 +75,16 @@ first_number {queues} {count} {value} {queue} {n} owner hold owned n_is =
     → MatchOption o (slice_get value.next owner ≡ Some n) (λ k. k.interval.number ≡ n)) [
       | None ↦ λ e.
           let none : length queue.kept ≡ 0 = empty queue.kept e in
-          let entry : slice_get (map (λ (q : Queue). q.first + length q.kept) queues) owner
+          let entry : slice_get (map (λ (q : IntervalQueue). q.first + length q.kept) queues) owner
           ≡ Some (queue.first + length queue.kept) =
-          got (λ (q : Queue). q.first + length q.kept) queues owner queue owned in
+          got (λ (q : IntervalQueue). q.first + length q.kept) queues owner queue owned in
           let number : queue.first + length queue.kept ≡ n = omega arith in
           ap (λ (ns : List ℕ). slice_get ns owner) (sym nexts) ∙ entry ∙ ap Some number
       | Some k ↦ λ e. let number = ((are.each owner queue owned).each 0 k e).number_is in omega arith
     ] in
     let P : Option KeptInterval → Type 0 =
     λ o. MatchOption o (slice_get value.next owner ≡ Some n) (λ k. k.interval.number ≡ n) in
-    subst P (sym (first_of queues count owner queue are owned)
+    subst P (sym (first_found_of_owner queues count owner queue are owned)
     ∙ ap (find (λ (k : KeptInterval). k.interval.owner == owner)) kepts)
     (go (slice_get queue.kept 0) refl)
   where
@@ -92,20 +92,20 @@ first_number {queues} {count} {value} {queue} {n} owner hold owned n_is =
     empty [] e = refl
     empty (k ∷ ks) e = absurd (cc e)
 
-    got : (f : Queue → ℕ) (queues : List Queue) (owner : ℕ) (queue : Queue) → slice_get queues owner ≡ Some queue
+    got : (f : IntervalQueue → ℕ) (queues : List IntervalQueue) (owner : ℕ) (queue : IntervalQueue) → slice_get queues owner ≡ Some queue
         → slice_get (map f queues) owner ≡ Some (f queue)
     got f [] owner queue at = absurd (cc at)
-    got f (q ∷ qs) zero queue at = let same : q ≡ queue = cc at in ap (λ (q : Queue). Some (f q)) same
+    got f (q ∷ qs) zero queue at = let same : q ≡ queue = cc at in ap (λ (q : IntervalQueue). Some (f q)) same
     got f (q ∷ qs) (suc owner) queue at = got f qs owner queue at
 
 -- no such owner
-pub none_found : (queues : List Queue) (count : ℕ) (n : Notice) → AreQueues queues count → length queues ≤ n.owner
-    → find (is_noticed_closing n) (merged_queues queues) ≡ None
-none_found queues count n are past =
-    filter_find_none (is_noticed_closing n) (merged_queues queues) (λ j h. elim (cases_Bool (is_noticed_closing n j)) [
+pub first_found_none_without_owner : (queues : List IntervalQueue) (count : ℕ) (n : Notice) → AreIntervalQueues queues count → length queues ≤ n.owner
+    → find (is_noticed_kept_closing n) (interval_queues_merged queues) ≡ None
+first_found_none_without_owner queues count n are past =
+    filter_find_none (is_noticed_kept_closing n) (interval_queues_merged queues) (λ j h. elim (cases_Bool (is_noticed_kept_closing n j)) [
       | inl t ↦
           let l = merged_lies queues j h in
-          let owner = (queued queues count are j l).owner_is in
+          let owner = (merged_queue_interval queues count are j l).owner_is in
           let is : j.interval.owner ≡ n.owner = eqb-true _ _ (and_parts _ _ t).0 in
           let within = slice_get_within queues l.owner l.queue l.owned in
           absurd (omega arith)
@@ -113,31 +113,31 @@ none_found queues count n are past =
     ])
 
 -- the interval of a notice is found in its owner's queue, by its number
-pub noticed_found_at : (queues : List Queue) (count : ℕ) (n : Notice) (queue : Queue) → AreQueues queues count
+pub first_found_by_notice : (queues : List IntervalQueue) (count : ℕ) (n : Notice) (queue : IntervalQueue) → AreIntervalQueues queues count
     → slice_get queues n.owner ≡ Some queue → queue.first ≤ n.number
-    → find (is_noticed_closing n) (merged_queues queues) ≡ slice_get queue.kept (n.number - queue.first)
-noticed_found_at queues count n queue are owned from =
+    → find (is_noticed_kept_closing n) (interval_queues_merged queues) ≡ slice_get queue.kept (n.number - queue.first)
+first_found_by_notice queues count n queue are owned from =
     let i : ℕ = n.number - queue.first in
-    let found_at : (j : KeptInterval) → Has (merged_queues queues) j → is_noticed_closing n j ≡ true
+    let found_at : (j : KeptInterval) → Has (interval_queues_merged queues) j → is_noticed_kept_closing n j ≡ true
     → slice_get queue.kept i ≡ Some j = λ j h t.
     let parts = and_parts _ _ t in
-    let at = in_own_queue queues count are j (merged_lies queues j h) n.owner (eqb-true _ _ parts.0) queue owned in
+    let at = first_found_in_own_queue queues count are j (merged_lies queues j h) n.owner (eqb-true _ _ parts.0) queue owned in
     let number = ((are.each n.owner queue owned).each at.0 j at.1).number_is in
     let is : j.interval.number ≡ n.number = eqb-true _ _ parts.1 in
     let index : at.0 ≡ i = omega arith in
     ap (slice_get queue.kept) (sym index) ∙ at.1 in
     let go : (o : Option KeptInterval) → slice_get queue.kept i ≡ o
-    → find (is_noticed_closing n) (merged_queues queues)
+    → find (is_noticed_kept_closing n) (interval_queues_merged queues)
     ≡ o = λ o. elim o as
-    (λ (o : Option KeptInterval). slice_get queue.kept i ≡ o → find (is_noticed_closing n) (merged_queues queues) ≡ o) [
-      | None ↦ λ e. filter_find_none (is_noticed_closing n) (merged_queues queues)
-          (λ j h. elim (cases_Bool (is_noticed_closing n j)) [ inl t ↦ let there = found_at j h t in cc | inr f ↦ f ])
+    (λ (o : Option KeptInterval). slice_get queue.kept i ≡ o → find (is_noticed_kept_closing n) (interval_queues_merged queues) ≡ o) [
+      | None ↦ λ e. filter_find_none (is_noticed_kept_closing n) (interval_queues_merged queues)
+          (λ j h. elim (cases_Bool (is_noticed_kept_closing n j)) [ inl t ↦ let there = found_at j h t in cc | inr f ↦ f ])
       | Some k ↦ λ e.
           let l : LiesInMerged queues k = record { owner = n.owner; queue = queue; index = i; owned = owned; at = e } in
-          let q = queued queues count are k l in
+          let q = merged_queue_interval queues count are k l in
           let number = q.number_is in
           let is : k.interval.number ≡ n.number = omega arith in
-          find_least (is_noticed_closing n) (merged_queues queues) k (rises-merged queues) (lies_merged queues count are k l)
+          find_least (is_noticed_kept_closing n) (interval_queues_merged queues) k (rises-merged queues) (lies_merged queues count are k l)
           (and_from _ _ (eq-eqb _ _ q.owner_is) (eq-eqb _ _ is))
           (λ j h t. let there = found_at j h t in let one : k ≡ j = cc (e, there) in
           let place = ap (λ (z : KeptInterval). z.place) one in omega arith)
@@ -145,15 +145,15 @@ noticed_found_at queues count n queue are owned from =
     go (slice_get queue.kept i) refl
 
 -- no interval has a number below the first one that is kept
-pub none_found_below : (queues : List Queue) (count : ℕ) (n : Notice) (queue : Queue) → AreQueues queues count
+pub first_found_none_below : (queues : List IntervalQueue) (count : ℕ) (n : Notice) (queue : IntervalQueue) → AreIntervalQueues queues count
     → slice_get queues n.owner ≡ Some queue → n.number < queue.first
-    → find (is_noticed_closing n) (merged_queues queues) ≡ None
-none_found_below queues count n queue are owned below =
-    filter_find_none (is_noticed_closing n) (merged_queues queues) (λ j h. elim (cases_Bool (is_noticed_closing n j)) [
+    → find (is_noticed_kept_closing n) (interval_queues_merged queues) ≡ None
+first_found_none_below queues count n queue are owned below =
+    filter_find_none (is_noticed_kept_closing n) (interval_queues_merged queues) (λ j h. elim (cases_Bool (is_noticed_kept_closing n j)) [
       | inl t ↦
           let parts = and_parts _ _ t in
           let at =
-          in_own_queue queues count are j (merged_lies queues j h) n.owner (eqb-true _ _ parts.0) queue owned in
+          first_found_in_own_queue queues count are j (merged_lies queues j h) n.owner (eqb-true _ _ parts.0) queue owned in
           let number = ((are.each n.owner queue owned).each at.0 j at.1).number_is in
           let is : j.interval.number ≡ n.number = eqb-true _ _ parts.1 in
           absurd (omega arith)
@@ -161,19 +161,19 @@ none_found_below queues count n queue are owned below =
     ])
 
 -- of the interval that is found, the record for the page
-pub record_found : {queues : List Queue} {count : ℕ} {value : Closings} {o : Option KeptInterval}
-    → QueuesHold queues count value → (n : Notice) → find (is_noticed_closing n) (merged_queues queues) ≡ o
+pub first_found_record : {queues : List IntervalQueue} {count : ℕ} {value : KeptClosings} {o : Option KeptInterval}
+    → MergedQueuesHold queues count value → (n : Notice) → find (is_noticed_kept_closing n) (interval_queues_merged queues) ≡ o
     → record_of value n
-    ≡ option_and_then (λ (k : KeptInterval). find (λ (r : Changes). r.page == n.page) k.interval.records) o
-record_found {queues} {value = value} hold n found =
-    let kepts : value.kept ≡ merged_queues queues = ap (λ (c : Closings). c.kept) (sym hold.seen) in
+    ≡ option_and_then (λ (k : KeptInterval). find (λ (r : PageChanges). r.page == n.page) k.interval.records) o
+first_found_record {queues} {value = value} hold n found =
+    let kepts : value.kept ≡ interval_queues_merged queues = ap (λ (c : KeptClosings). c.kept) (sym hold.seen) in
     ap (λ (ks : List KeptInterval). option_and_then
-    (λ (k : KeptInterval). find (λ (r : Changes). r.page == n.page) k.interval.records) (find (is_noticed_closing n) ks))
+    (λ (k : KeptInterval). find (λ (r : PageChanges). r.page == n.page) k.interval.records) (find (is_noticed_kept_closing n) ks))
     kepts
-    ∙ ap (option_and_then (λ (k : KeptInterval). find (λ (r : Changes). r.page == n.page) k.interval.records)) found
+    ∙ ap (option_and_then (λ (k : KeptInterval). find (λ (r : PageChanges). r.page == n.page) k.interval.records)) found
 
 -- the owner's queue, as it is read from a slice of the queues
-pub queue_read : (queues items : List Queue) (o : ℕ) (queue : Queue) → items ≡ queues → o < length items
+pub first_found_queue_read : (queues items : List IntervalQueue) (o : ℕ) (queue : IntervalQueue) → items ≡ queues → o < length items
     → queue ≡ get_or items o queue → slice_get queues o ≡ Some queue
-queue_read queues items o queue same inside read =
-    ap (λ (qs : List Queue). slice_get qs o) (sym same) ∙ slice_get_read items (length items) o queue refl inside read
+first_found_queue_read queues items o queue same inside read =
+    ap (λ (qs : List IntervalQueue). slice_get qs o) (sym same) ∙ slice_get_read items (length items) o queue refl inside read

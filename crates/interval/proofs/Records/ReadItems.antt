@@ -11,17 +11,17 @@ pub record ReadsItem {X : Type 0} (xs : List X) (k : ℕ) (x : X) : Type 0 where
   pub is : x ≡ get_or xs k x
 
 -- the items up to it, with it
-pub taken_item : {X : Type 0} {xs : List X} {k : ℕ} {x : X} → ReadsItem xs k x → take (k + 1) xs ≡ take k xs ++ x ∷ []
-taken_item {X} {xs} {k} {x} reads = let step = take_more xs k x reads.inside in rw (← reads.is) at step
+pub read_items_taken : {X : Type 0} {xs : List X} {k : ℕ} {x : X} → ReadsItem xs k x → take (k + 1) xs ≡ take k xs ++ x ∷ []
+read_items_taken {X} {xs} {k} {x} reads = let step = take_more xs k x reads.inside in rw (← reads.is) at step
 
 pub got_item : {X : Type 0} {xs : List X} {k : ℕ} {x : X} → ReadsItem xs k x → slice_get xs k ≡ Some x
 got_item {X} {xs} {k} {x} reads = slice_get_read xs (length xs) k x refl reads.inside reads.is
 
 -- what is made of the items up to it, with it
-pub taken_flat_map : {X Y : Type 0} {xs : List X} {k : ℕ} {x : X} → (f : X → List Y) → ReadsItem xs k x
+pub read_items_flat_mapped : {X Y : Type 0} {xs : List X} {k : ℕ} {x : X} → (f : X → List Y) → ReadsItem xs k x
     → flat_map f (take (k + 1) xs) ≡ flat_map f (take k xs) ++ f x
-taken_flat_map {X} {Y} {xs} {k} {x} f reads =
-    ap (flat_map f) (taken_item reads) ∙ flat_map-append f (take k xs) (x ∷ [])
+read_items_flat_mapped {X} {Y} {xs} {k} {x} f reads =
+    ap (flat_map f) (read_items_taken reads) ∙ flat_map-append f (take k xs) (x ∷ [])
     ∙ ap (λ (ys : List Y). flat_map f (take k xs) ++ ys) (append-nil (f x))
 
 -- in the list under a function it is the item under it

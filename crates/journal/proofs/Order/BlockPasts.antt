@@ -2,23 +2,23 @@
 use Rattle.std.proofs.Common.{◌≡◌, ℕ, ◌+◌, ◌<◌, ◌≤◌, ◌⊎◌, inl, inr, ◌↔◌, List, [], ◌∷◌, ◌++◌, length, false, subst, sym, refl, append_assoc, append-nil, length-append, arith}
 use Rattle.std.proofs.lemmas.Bool.{cases_lt}
 use Rattle.journal.specs.declared.event.Event.{Event}
-use Rattle.journal.specs.Events.{is_taking}
+use Rattle.journal.specs.Events.{event_takes}
 use Rattle.journal.specs.HappensBeforeEdges.{HappensBefore}
 use Rattle.journal.specs.Pasts.{InPast}
 use Rattle.journal.specs.Blocks.{IsBlock}
 use Rattle.base.proofs.SlicesAndCounts.{slice_push_induction}
-use Rattle.journal.proofs.Order.CountedAndNumbered.{numbered_at_longer, numbered_at_last}
-use Rattle.journal.proofs.Order.HappensBefore.{before_extension}
-use Rattle.journal.proofs.Order.EdgesIntoPast.{own_past, past_reaches_new}
+use Rattle.journal.proofs.Order.EventPlacesAndCounts.{event_place_longer, event_place_at_end}
+use Rattle.journal.proofs.Order.HappensBefore.{happens_before_extension}
+use Rattle.journal.proofs.Order.IntoPast.{into_past_own_push, into_past_reaches_new}
 
 -- a front of a block is one
-pub block_front : (p : ℕ) (block es : List Event) → IsBlock p (block ++ es) → IsBlock p block
-block_front p block es is k e at = is k e (numbered_at_longer block es k e at)
+pub block_pasts_front : (p : ℕ) (block es : List Event) → IsBlock p (block ++ es) → IsBlock p block
+block_pasts_front p block es is k e at = is k e (event_place_longer block es k e at)
 
 -- the last event of a block
-pub block_last : (p : ℕ) (block : List Event) (e : Event) → IsBlock p (block ++ e ∷ [])
-    → (e.processor ≡ p) × (is_taking e.kind ≡ false)
-block_last p block e is = is (length block) e (numbered_at_last block e)
+pub block_pasts_last : (p : ℕ) (block : List Event) (e : Event) → IsBlock p (block ++ e ∷ [])
+    → (e.processor ≡ p) × (event_takes e.kind ≡ false)
+block_pasts_last p block e is = is (length block) e (event_place_at_end block e)
 
 -- the past after a block is the past before it, and the block
 pub block_past : (j block : List Event) (p i : ℕ) → IsBlock p block
@@ -63,16 +63,16 @@ block_past j block p i =
         → InPast (j ++ (es ++ e ∷ [])) p i
         ↔ (InPast j p i ⊎ ((length j ≤ i) × (i < length j + length (es ++ e ∷ []))))
     step es e ih is =
-        let l = block_last p es e is in
+        let l = block_pasts_last p es e is in
         let P : ℕ → Type 0 =
         λ q. InPast ((j ++ es) ++ e ∷ []) q i ↔ (InPast (j ++ es) q i ⊎ (i ≡ length (j ++ es))) in
-        let own = subst P l.0 (own_past (j ++ es) e i l.1) in
-        rw append_assoc at (more es e (ih (block_front p es (e ∷ []) is)) own)
+        let own = subst P l.0 (into_past_own_push (j ++ es) e i l.1) in
+        rw append_assoc at (more es e (ih (block_pasts_front p es (e ∷ []) is)) own)
 
 -- what happens before an event of a block is the past before the block, and the block up to the event
-pub block_reaches : (j block : List Event) (p i m : ℕ) → IsBlock p block → m < length block
+pub block_pasts_reaches : (j block : List Event) (p i m : ℕ) → IsBlock p block → m < length block
     → HappensBefore (j ++ block) i (length j + m) ↔ (InPast j p i ⊎ ((length j ≤ i) × (i < length j + m)))
-block_reaches j block p i m =
+block_pasts_reaches j block p i m =
     slice_push_induction (λ es. IsBlock p es → m < length es
     → HappensBefore (j ++ es) i (length j + m) ↔ (InPast j p i ⊎ ((length j ≤ i) × (i < length j + m))))
     (λ is h. absurd (omega arith)) step block
@@ -81,10 +81,10 @@ block_reaches j block p i m =
         → HappensBefore ((j ++ es) ++ e ∷ []) i (length j + m)
         ↔ (InPast j p i ⊎ ((length j ≤ i) × (i < length j + m)))
     now es e is at =
-        let l = block_last p es e is in
+        let l = block_pasts_last p es e is in
         let P : ℕ → Type 0 = λ q. HappensBefore ((j ++ es) ++ e ∷ []) i (length (j ++ es)) ↔ InPast (j ++ es) q i in
-        let new = subst P l.0 (past_reaches_new (j ++ es) e i l.1) in
-        let past = block_past j es p i (block_front p es (e ∷ []) is) in
+        let new = subst P l.0 (into_past_reaches_new (j ++ es) e i l.1) in
+        let past = block_past j es p i (block_pasts_front p es (e ∷ []) is) in
         let long = length-append j es in
         let here : length (j ++ es) ≡ length j + m = omega arith in
         let Q : ℕ → Type 0 = λ x. HappensBefore ((j ++ es) ++ e ∷ []) i x in
@@ -105,8 +105,8 @@ block_reaches j block p i m =
         let one : length (e ∷ []) ≡ 1 = refl in
         let done : HappensBefore ((j ++ es) ++ e ∷ []) i (length j + m)
         ↔ (InPast j p i ⊎ ((length j ≤ i) × (i < length j + m))) = elim (cases_lt m (length es)) [
-          | inl lt ↦ (let same = before_extension (j ++ es) (e ∷ []) i (length j + m) (omega arith) in
-              let old = ih (block_front p es (e ∷ []) is) lt in
+          | inl lt ↦ (let same = happens_before_extension (j ++ es) (e ∷ []) i (length j + m) (omega arith) in
+              let old = ih (block_pasts_front p es (e ∷ []) is) lt in
               ((λ b. old.0 (same.0 b)), (λ y. same.1 (old.1 y))))
           | inr le ↦ now es e is (omega arith)
         ] in

@@ -4,38 +4,36 @@ use Rattle.std.specs.Prelude.{None, MatchOption, is_some, true, false}
 use Rattle.std.proofs.lemmas.Bool.{cases_lt}
 use Rattle.std.proofs.lemmas.Option.{same_Some}
 use Rattle.base.specs.InOrderOnce.{Has}
-use Rattle.base.specs.Limits.{most_locks, most_processors}
-use Rattle.base.proofs.SlicesAndCounts.{slice_get-from_take}
+use Rattle.base.specs.Limits.{most_processors}
 use Rattle.journal.specs.declared.event.Event.{Event}
 use Rattle.journal.specs.declared.event.Kind.{Kind}
-use Rattle.journal.specs.declared.event.Kind.TheVariants.{Acquire}
 use Rattle.journal.specs.DidEvent.{event}
-use Rattle.journal.specs.Events.{At, address_of, interval_at, is_closing, is_store}
+use Rattle.journal.specs.Events.{EventAt, event_address, event_interval_at, event_closes, event_stores}
 use Rattle.journal.specs.Races.{Conflict, Race}
 use Rattle.journal.specs.Sizes.{Sizes}
 use Rattle.journal.specs.WellFormed.{Does, Holds}
-use Rattle.journal.proofs.Order.CountedAndNumbered.{count_of-mono, numbered_at_same}
-use Rattle.journal.proofs.Passes.ReachedNextRaces.{race_by_time, race_events}
-use Rattle.judge.specs.declared.locksets.held.HeldLocks.{HeldLocks}
-use Rattle.judge.specs.declared.locksets.word.Guarded.{Guarded}
-use Rattle.judge.specs.declared.locksets.word.LockedAccess.{LockedAccess}
-use Rattle.judge.specs.Locksets.Unlocked.{unlocked_event, without_locks}
+use Rattle.journal.proofs.Order.EventPlacesAndCounts.{event_count-mono, event_place_same}
+use Rattle.journal.proofs.Passes.NextRaces.{next_race_by_time, next_race_events}
+use Rattle.judge.specs.declared.locksets.held_locks.HeldLocks.{HeldLocks}
+use Rattle.judge.specs.declared.locksets.watched_word.Guarded.{Guarded}
+use Rattle.judge.specs.declared.locksets.watched_word.LockedAccess.{LockedAccess}
+use Rattle.judge.specs.Locksets.Unlocked.{unlocked_event, unlocked_history}
 use Rattle.judge.specs.Locksets.Held.{AreHeldLocks, HasHeldLock, HeldLocksShare}
-use Rattle.judge.specs.Locksets.Pairs.{IsGuardedPair, IsHeldAt, IsUnguardedPair, NeedsLock}
-use Rattle.judge.specs.Locksets.Watched.{AccessesNeedLock, AreWatchedAccesses, ComesNextToWord, HasStandIn}
-use Rattle.judge.specs.Locksets.Watched.{IsGuardedOf, IsGuardedWith, IsLockedAccess, IsUnguardedOf, IsUnguardedWith, IsWatchedAccess}
-use Rattle.judge.proofs.locksets.WithoutLocks.{without_locks_address, without_locks_at, without_locks_store, without_locks_stood, StoodWithLocks}
+use Rattle.judge.specs.Locksets.Pairs.{IsGuardedPair, IsPairLockHeld, IsUnguardedPair, IsPairToLock}
+use Rattle.judge.specs.Locksets.Watched.{AreWatchedRacing, AreWatchedAccesses, IsWatchedNext, HasWatchedStandIn}
+use Rattle.judge.specs.Locksets.Watched.{IsWatchedGuarded, IsWatchedGuardedWith, IsWatchCandidate, IsWatchedUnguarded, IsWatchedUnguardedWith, IsWatchedAccess}
+use Rattle.judge.proofs.locksets.WithoutLocks.{without_locks_address, without_locks_at, without_locks_store, without_locks_stood, WithoutLocksStoodAt}
 
 -- the address of a race is that of its first event
-needing_race_address : {u : List Event} {i k a : ℕ} {f : Event} (r : Race u i k) → At u i f → address_of f.kind ≡ Some a
+needing_race_address : {u : List Event} {i k a : ℕ} {f : Event} (r : Race u i k) → EventAt u i f → event_address f.kind ≡ Some a
     → r.conflict.address ≡ a
 needing_race_address {u = u} {i = i} {f = f} r at is =
-    let same = numbered_at_same u i r.first f r.first_at at in
-    same_Some _ _ (sym r.conflict.first ∙ (ap (λ (e : Event). address_of e.kind) same ∙ is))
+    let same = event_place_same u i r.first f r.first_at at in
+    same_Some _ _ (sym r.conflict.first ∙ (ap (λ (e : Event). event_address e.kind) same ∙ is))
 
 -- what is kept and conflicts, uncounted, needs a lock with what comes next
-pub needing_kept : {s : Sizes} {j : List Event} {a n : ℕ} {x y : LockedAccess} {t : ℕ → ℕ} → ComesNextToWord s j a n y t
-    → IsWatchedAccess j a n x → AccessesNeedLock x y t → NeedsLock j a x.place n
+pub needing_kept : {s : Sizes} {j : List Event} {a n : ℕ} {x y : LockedAccess} {t : ℕ → ℕ} → IsWatchedNext s j a n y t
+    → IsWatchedAccess j a n x → AreWatchedRacing x y t → IsPairToLock j a x.place n
 needing_kept {j = j} {a = a} {n = n} {x = x} {y = y} {t = t} comes kept needs = record {
   race = race;
   address = needing_race_address race first_at (without_locks_address kept.access.kind ∙ kept.access.address);
@@ -48,10 +46,10 @@ needing_kept {j = j} {a = a} {n = n} {x = x} {y = y} {t = t} comes kept needs = 
     second : Event
     second = event y.processor comes.access.kind
 
-    first_at : At (without_locks j) x.place (unlocked_event first)
+    first_at : EventAt (unlocked_history j) x.place (unlocked_event first)
     first_at = without_locks_at j x.place first kept.access.does
 
-    second_at : At (without_locks j) n (unlocked_event second)
+    second_at : EventAt (unlocked_history j) n (unlocked_event second)
     second_at = without_locks_at j n second comes.access.does
 
     conflict : Conflict (unlocked_event first) (unlocked_event second)
@@ -65,9 +63,9 @@ needing_kept {j = j} {a = a} {n = n} {x = x} {y = y} {t = t} comes kept needs = 
       ];
     }
 
-    race : Race (without_locks j) x.place n
+    race : Race (unlocked_history j) x.place n
     race =
-        (race_by_time second_at first_at kept.below needs.apart conflict comes.time).1
+        (next_race_by_time second_at first_at kept.below needs.apart conflict comes.time).1
         (let later = needs.later in let same = kept.access.interval in omega arith)
 
 -- what needs a lock with what comes next, and what is kept for it
@@ -75,11 +73,11 @@ pub record NeedsKept (j : List Event) (xs : List LockedAccess) (y : LockedAccess
   pub by : ℕ
   pub kind : Kind
   pub does : Does j i by kind
-  pub kept : HasStandIn j xs i by kind
-  pub needs : AccessesNeedLock kept.access y t
+  pub kept : HasWatchedStandIn j xs i by kind
+  pub needs : AreWatchedRacing kept.access y t
 
 pub needing_stands : {s : Sizes} {j : List Event} {a n i : ℕ} {xs : List LockedAccess} {y : LockedAccess} {t : ℕ → ℕ}
-    → ComesNextToWord s j a n y t → AreWatchedAccesses j a n xs → NeedsLock j a i n → NeedsKept j xs y t i
+    → IsWatchedNext s j a n y t → AreWatchedAccesses j a n xs → IsPairToLock j a i n → NeedsKept j xs y t i
 needing_stands {j = j} {a = a} {n = n} {i = i} {xs = xs} {y = y} {t = t} comes are needs = record {
   by = first.event.processor;
   kind = first.event.kind;
@@ -88,27 +86,27 @@ needing_stands {j = j} {a = a} {n = n} {i = i} {xs = xs} {y = y} {t = t} comes a
   needs = record { apart = apart; stores = stores; later = later };
 }
   where
-    r : Race (without_locks j) i n
+    r : Race (unlocked_history j) i n
     r = needs.race
 
-    first : StoodWithLocks j i r.first
+    first : WithoutLocksStoodAt j i r.first
     first = without_locks_stood j i r.first r.first_at
 
-    second_at : At (without_locks j) n (unlocked_event (event y.processor comes.access.kind))
+    second_at : EventAt (unlocked_history j) n (unlocked_event (event y.processor comes.access.kind))
     second_at = without_locks_at j n (event y.processor comes.access.kind) comes.access.does
 
     both : (r.first.processor ≢ y.processor) × Conflict r.first (unlocked_event (event y.processor comes.access.kind))
-    both = race_events (without_locks j) n i (unlocked_event (event y.processor comes.access.kind)) r.first second_at r.first_at r
+    both = next_race_events (unlocked_history j) n i (unlocked_event (event y.processor comes.access.kind)) r.first second_at r.first_at r
 
     same : r.first.processor ≡ first.event.processor
     same = ap (λ (e : Event). e.processor) first.is
 
-    address : address_of first.event.kind ≡ Some a
+    address : event_address first.event.kind ≡ Some a
     address =
-        sym (without_locks_address first.event.kind) ∙ (sym (ap (λ (e : Event). address_of e.kind) first.is)
+        sym (without_locks_address first.event.kind) ∙ (sym (ap (λ (e : Event). event_address e.kind) first.is)
         ∙ (r.conflict.first ∙ ap (λ b. Some b) needs.address))
 
-    kept : HasStandIn j xs i first.event.processor first.event.kind
+    kept : HasWatchedStandIn j xs i first.event.processor first.event.kind
     kept = are.all i first.event.processor first.event.kind r.before first.at address needs.watched
 
     apart : kept.access.processor ≢ y.processor
@@ -117,97 +115,84 @@ needing_stands {j = j} {a = a} {n = n} {i = i} {xs = xs} {y = y} {t = t} comes a
     stores : IsTrue kept.access.stores ⊎ IsTrue y.stores
     stores = elim both.1.stores [
       | inl one ↦ inl (kept.stands.stores ∙ (sym (without_locks_store first.event.kind)
-          ∙ (sym (ap (λ (e : Event). is_store e.kind) first.is) ∙ one)))
+          ∙ (sym (ap (λ (e : Event). event_stores e.kind) first.is) ∙ one)))
       | inr other ↦ inr (comes.access.stores ∙ (sym (without_locks_store comes.access.kind) ∙ other))
     ]
 
-    low : t r.first.processor ≤ interval_at (without_locks j) r.first.processor i
-    low = (race_by_time second_at r.first_at r.before both.0 both.1 comes.time).0 r
+    low : t r.first.processor ≤ event_interval_at (unlocked_history j) r.first.processor i
+    low = (next_race_by_time second_at r.first_at r.before both.0 both.1 comes.time).0 r
 
     later : t kept.access.processor ≤ kept.access.interval
     later =
-        let up = count_of-mono is_closing (without_locks j) i kept.access.place r.first.processor kept.stands.later in
+        let up = event_count-mono event_closes (unlocked_history j) i kept.access.place r.first.processor kept.stands.later in
         let is = (are.each kept.access kept.has).access.interval in
         let below = low in
-        let one : t kept.access.processor ≤ interval_at (without_locks j) kept.access.processor kept.access.place =
-        subst (λ q. t q ≤ interval_at (without_locks j) q kept.access.place) (same ∙ sym kept.stands.processor) (omega arith) in
+        let one : t kept.access.processor ≤ event_interval_at (unlocked_history j) kept.access.processor kept.access.place =
+        subst (λ q. t q ≤ event_interval_at (unlocked_history j) q kept.access.place) (same ∙ sym kept.stands.processor) (omega arith) in
         omega arith
 
 -- ---- the locks that are held
 
--- a lock that is held is in range
-needing_lock_small : {s : Sizes} {j : List Event} {a n : ℕ} {y : LockedAccess} {t : ℕ → ℕ} → ComesNextToWord s j a n y t
-    → (i p l : ℕ) → Holds (take i j) p l → l < most_locks
-needing_lock_small {j = j} comes i p l holds =
-    let at : At j holds.place (event p (Acquire l)) = slice_get-from_take j i holds.place (event p (Acquire l)) holds.acquires in
-    let within = (comes.range holds.place (event p (Acquire l)) at).kind in
-    let few = comes.small.locks in
-    omega arith
-
 -- the processor of the event at place i holds this set there
-pub record HoldsSetAt (j : List Event) (i : ℕ) (h : HeldLocks) : Type 0 where
+pub record HoldsNeededLocksAt (j : List Event) (i : ℕ) (h : HeldLocks) : Type 0 where
   pub by : ℕ
   pub kind : Kind
   pub does : Does j i by kind
   pub held : AreHeldLocks (take i j) by h
 
-needing_set_of : {j : List Event} {a i : ℕ} {x : LockedAccess} → IsLockedAccess j a i x → HoldsSetAt j i x.held
+needing_set_of : {j : List Event} {a i : ℕ} {x : LockedAccess} → IsWatchCandidate j a i x → HoldsNeededLocksAt j i x.held
 needing_set_of {x = x} is = record { by = x.processor; kind = is.kind; does = is.does; held = is.held }
 
 needing_set_kept : {j : List Event} {xs : List LockedAccess} {y : LockedAccess} {t : ℕ → ℕ} {i : ℕ} (x : NeedsKept j xs y t i)
-    → HoldsSetAt j i x.kept.access.held
+    → HoldsNeededLocksAt j i x.kept.access.held
 needing_set_kept x = record { by = x.by; kind = x.kind; does = x.does; held = x.kept.stands.held }
 
 -- a lock that is held there is in the set, and the other way round
-needing_in_set : {s : Sizes} {j : List Event} {a n i l : ℕ} {y : LockedAccess} {t : ℕ → ℕ} {h : HeldLocks}
-    → ComesNextToWord s j a n y t → HoldsSetAt j i h → IsHeldAt j i l → (l < most_locks) × HasHeldLock h l
-needing_in_set {j = j} {i = i} {l = l} comes set at =
-    let same = ap (λ (e : Event). e.processor) (numbered_at_same j i at.by (event set.by set.kind) at.at set.does) in
-    let holds : Holds (take i j) set.by l = subst (λ p. Holds (take i j) p l) same at.holds in
-    let below = needing_lock_small comes i set.by l holds in
-    (below, (set.held l below).1 holds)
+needing_in_set : {j : List Event} {i l : ℕ} {h : HeldLocks} → HoldsNeededLocksAt j i h → IsPairLockHeld j i l → HasHeldLock h l
+needing_in_set {j = j} {i = i} {l = l} set at =
+    let same = ap (λ (e : Event). e.processor) (event_place_same j i at.by (event set.by set.kind) at.at set.does) in
+    (set.held l).1 (subst (λ p. Holds (take i j) p l) same at.holds)
 
-needing_from_set : {j : List Event} {i : ℕ} {h : HeldLocks} (l : ℕ) → HoldsSetAt j i h → l < most_locks → HasHeldLock h l → IsHeldAt j i l
-needing_from_set l set below has =
-    record { by = event set.by set.kind; at = set.does; holds = (set.held l below).0 has }
+needing_from_set : {j : List Event} {i : ℕ} {h : HeldLocks} (l : ℕ) → HoldsNeededLocksAt j i h → HasHeldLock h l → IsPairLockHeld j i l
+needing_from_set l set has = record { by = event set.by set.kind; at = set.does; holds = (set.held l).0 has }
 
 -- ---- pairs up to what comes next
 
 -- a pair that is found with it
 pub needing_guarded_new : {s : Sizes} {j : List Event} {a n : ℕ} {xs : List LockedAccess} {y : LockedAccess} {t : ℕ → ℕ} {g : Guarded}
-    → ComesNextToWord s j a n y t → AreWatchedAccesses j a n xs → IsGuardedWith xs y t g
+    → IsWatchedNext s j a n y t → AreWatchedAccesses j a n xs → IsWatchedGuardedWith xs y t g
     → IsGuardedPair j a g.places.0 g.places.1 g.lock
 needing_guarded_new {j = j} {a = a} {n = n} {y = y} {g = g} comes are found =
     let x = are.each found.access found.has in
     let pair : IsGuardedPair j a found.access.place n g.lock = record {
       needs = needing_kept comes x found.needs;
-      first = needing_from_set g.lock (needing_set_of x.access) found.shares.below found.shares.first;
-      second = needing_from_set g.lock (needing_set_of comes.access) found.shares.below found.shares.second;
+      first = needing_from_set g.lock (needing_set_of x.access) found.shares.first;
+      second = needing_from_set g.lock (needing_set_of comes.access) found.shares.second;
     } in
     subst (λ i. IsGuardedPair j a i g.places.1 g.lock) (sym found.first)
     (subst (λ k. IsGuardedPair j a found.access.place k g.lock) (sym (found.second ∙ comes.access.place)) pair)
 
 pub needing_unguarded_new : {s : Sizes} {j : List Event} {a n : ℕ} {xs : List LockedAccess} {y : LockedAccess} {t : ℕ → ℕ} {u : ℕ × ℕ}
-    → ComesNextToWord s j a n y t → AreWatchedAccesses j a n xs → IsUnguardedWith xs y t u → IsUnguardedPair j a u.0 u.1
+    → IsWatchedNext s j a n y t → AreWatchedAccesses j a n xs → IsWatchedUnguardedWith xs y t u → IsUnguardedPair j a u.0 u.1
 needing_unguarded_new {s = s} {j = j} {a = a} {n = n} {y = y} {u = u} comes are found =
     let x = are.each found.access found.has in
     let pair : IsUnguardedPair j a found.access.place n = record {
       needs = needing_kept comes x found.needs;
       none = λ l first second.
-          (let one = needing_in_set comes (needing_set_of x.access) first in
-          let other = needing_in_set comes (needing_set_of comes.access) second in
-          found.none l (record { below = one.0; first = one.1; second = other.1 }));
+          (let one = needing_in_set (needing_set_of x.access) first in
+          let other = needing_in_set (needing_set_of comes.access) second in
+          found.none l (record { first = one; second = other }));
     } in
     subst (λ i. IsUnguardedPair j a i u.1) (sym found.first)
     (subst (λ k. IsUnguardedPair j a found.access.place k) (sym (found.second ∙ comes.access.place)) pair)
 
 -- what is found, if there was none before
 pub needing_guarded_next : {s : Sizes} {j : List Event} {a n : ℕ} {xs : List LockedAccess} {y : LockedAccess} {t : ℕ → ℕ} (o : Option Guarded)
-    → ComesNextToWord s j a n y t → AreWatchedAccesses j a n xs
+    → IsWatchedNext s j a n y t → AreWatchedAccesses j a n xs
     → ((i k l : ℕ) → k < n → ¬ IsGuardedPair j a i k l)
-    → MatchOption o ((x : LockedAccess) (l : ℕ) → Has xs x → AccessesNeedLock x y t → ¬ HeldLocksShare x.held y.held l)
-    (IsGuardedWith xs y t)
-    → IsGuardedOf j a (n + 1) o
+    → MatchOption o ((x : LockedAccess) (l : ℕ) → Has xs x → AreWatchedRacing x y t → ¬ HeldLocksShare x.held y.held l)
+    (IsWatchedGuardedWith xs y t)
+    → IsWatchedGuarded j a (n + 1) o
 needing_guarded_next (Some g) comes are none found = needing_guarded_new comes are found
 needing_guarded_next {j = j} {a = a} {n = n} None comes are none without = λ i k l lt pair. elim (cases_lt k n) [
   | inl old ↦ none i k l old pair
@@ -215,17 +200,17 @@ needing_guarded_next {j = j} {a = a} {n = n} None comes are none without = λ i 
       (let same : k ≡ n = omega arith in
       let p : IsGuardedPair j a i n l = subst (λ m. IsGuardedPair j a i m l) same pair in
       let x = needing_stands comes are p.needs in
-      let one = needing_in_set comes (needing_set_kept x) p.first in
-      let other = needing_in_set comes (needing_set_of comes.access) p.second in
-      without x.kept.access l x.kept.has x.needs (record { below = one.0; first = one.1; second = other.1 }))
+      let one = needing_in_set (needing_set_kept x) p.first in
+      let other = needing_in_set (needing_set_of comes.access) p.second in
+      without x.kept.access l x.kept.has x.needs (record { first = one; second = other }))
 ]
 
 pub needing_unguarded_next : {s : Sizes} {j : List Event} {a n : ℕ} {xs : List LockedAccess} {y : LockedAccess} {t : ℕ → ℕ} (o : Option (ℕ × ℕ))
-    → ComesNextToWord s j a n y t → AreWatchedAccesses j a n xs
+    → IsWatchedNext s j a n y t → AreWatchedAccesses j a n xs
     → ((i k : ℕ) → k < n → ¬ IsUnguardedPair j a i k)
-    → MatchOption o ((x : LockedAccess) → Has xs x → AccessesNeedLock x y t → (l : ℕ) × HeldLocksShare x.held y.held l)
-    (IsUnguardedWith xs y t)
-    → IsUnguardedOf j a (n + 1) o
+    → MatchOption o ((x : LockedAccess) → Has xs x → AreWatchedRacing x y t → (l : ℕ) × HeldLocksShare x.held y.held l)
+    (IsWatchedUnguardedWith xs y t)
+    → IsWatchedUnguarded j a (n + 1) o
 needing_unguarded_next (Some u) comes are none found = needing_unguarded_new comes are found
 needing_unguarded_next {j = j} {a = a} {n = n} None comes are none without = λ i k lt pair. elim (cases_lt k n) [
   | inl old ↦ none i k old pair
@@ -234,32 +219,32 @@ needing_unguarded_next {j = j} {a = a} {n = n} None comes are none without = λ 
       let p : IsUnguardedPair j a i n = subst (IsUnguardedPair j a i) same pair in
       let x = needing_stands comes are p.needs in
       let shared = without x.kept.access x.kept.has x.needs in
-      p.none shared.0 (needing_from_set shared.0 (needing_set_kept x) shared.1.below shared.1.first)
-      (needing_from_set shared.0 (needing_set_of comes.access) shared.1.below shared.1.second))
+      p.none shared.0 (needing_from_set shared.0 (needing_set_kept x) shared.1.first)
+      (needing_from_set shared.0 (needing_set_of comes.access) shared.1.second))
 ]
 
 -- what was found before stays
-pub needing_guarded_old : (j : List Event) (a n : ℕ) (o : Option Guarded) → is_some o ≡ true → IsGuardedOf j a n o → IsGuardedOf j a (n + 1) o
+pub needing_guarded_old : (j : List Event) (a n : ℕ) (o : Option Guarded) → is_some o ≡ true → IsWatchedGuarded j a n o → IsWatchedGuarded j a (n + 1) o
 needing_guarded_old j a n None is of = absurd (cc is)
 needing_guarded_old j a n (Some g) is of = of
 
-pub needing_unguarded_old : (j : List Event) (a n : ℕ) (o : Option (ℕ × ℕ)) → is_some o ≡ true → IsUnguardedOf j a n o → IsUnguardedOf j a (n + 1) o
+pub needing_unguarded_old : (j : List Event) (a n : ℕ) (o : Option (ℕ × ℕ)) → is_some o ≡ true → IsWatchedUnguarded j a n o → IsWatchedUnguarded j a (n + 1) o
 needing_unguarded_old j a n None is of = absurd (cc is)
 needing_unguarded_old j a n (Some u) is of = of
 
 -- nothing was found before
-pub needing_guarded_none : (j : List Event) (a n : ℕ) (o : Option Guarded) → is_some o ≡ false → IsGuardedOf j a n o
+pub needing_guarded_none : (j : List Event) (a n : ℕ) (o : Option Guarded) → is_some o ≡ false → IsWatchedGuarded j a n o
     → (i k l : ℕ) → k < n → ¬ IsGuardedPair j a i k l
 needing_guarded_none j a n None is of = of
 needing_guarded_none j a n (Some g) is of = absurd (cc is)
 
-pub needing_unguarded_none : (j : List Event) (a n : ℕ) (o : Option (ℕ × ℕ)) → is_some o ≡ false → IsUnguardedOf j a n o
+pub needing_unguarded_none : (j : List Event) (a n : ℕ) (o : Option (ℕ × ℕ)) → is_some o ≡ false → IsWatchedUnguarded j a n o
     → (i k : ℕ) → k < n → ¬ IsUnguardedPair j a i k
 needing_unguarded_none j a n None is of = of
 needing_unguarded_none j a n (Some u) is of = absurd (cc is)
 
 -- the processors of what is kept are in range
-pub needing_processors : {s : Sizes} {j : List Event} {a n : ℕ} {xs : List LockedAccess} {y : LockedAccess} {t : ℕ → ℕ} → ComesNextToWord s j a n y t
+pub needing_processors : {s : Sizes} {j : List Event} {a n : ℕ} {xs : List LockedAccess} {y : LockedAccess} {t : ℕ → ℕ} → IsWatchedNext s j a n y t
     → AreWatchedAccesses j a n xs → (x : LockedAccess) → Has xs x → x.processor < most_processors
 needing_processors comes are x has =
     let kept = (are.each x has).access in

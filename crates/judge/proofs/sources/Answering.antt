@@ -1,25 +1,25 @@
 -- The latest stores of a load are what it may answer.
 use Rattle.std.proofs.Common.{◌≡◌, ℕ, zero, suc, ◌+◌, ◌<◌, ◌≤◌, inl, inr, ◌↔◌, List, [], ◌∷◌, ◌++◌, length, subst, refl, ap, ◌∙◌, ◌≢◌, arith, take, drop, take-append-drop, sym}
 use Rattle.std.proofs.lemmas.List.{length-take-le}
-use Rattle.base.proofs.SlicesAndCounts.{take-suc_at}
+use Rattle.base.proofs.SlicesAndCounts.{slice_take-suc_at}
 use Rattle.journal.specs.declared.event.Event.{Event}
 use Rattle.journal.specs.declared.event.Kind.TheVariants.{Load, Store}
 use Rattle.journal.specs.DidEvent.{did, event}
-use Rattle.journal.specs.Events.{At}
+use Rattle.journal.specs.Events.{EventAt}
 use Rattle.journal.specs.HappensBeforeEdges.{HappensBefore}
 use Rattle.journal.specs.WellFormed.{Does}
-use Rattle.journal.specs.ExplainedAnswers.{IsAnswer, LatestStore, Untouched}
-use Rattle.journal.proofs.Order.CountedAndNumbered.{numbered_at_last, numbered_at_longer, numbered_at_same, numbered_at_within, numbered_at_shorter, numbered_does_same}
-use Rattle.journal.proofs.Order.HappensBefore.{before_goes_forward}
+use Rattle.journal.specs.ExplainedAnswers.{IsAnswer, LatestExplainedAnswer, UntouchedExplainedAnswer}
+use Rattle.journal.proofs.Order.EventPlacesAndCounts.{event_place_at_end, event_place_longer, event_place_same, event_place_inside, event_place_shorter, event_place_does_same}
+use Rattle.journal.proofs.Order.HappensBefore.{happens_before_goes_forward}
 use Rattle.judge.specs.Sources.Latest.{IsLatest}
-use Rattle.judge.specs.Sources.Answers.{IsAnswerValue}
-use Rattle.judge.proofs.sources.InRows.{latest_row_longer, latest_row_shorter}
+use Rattle.judge.specs.Sources.LatestAnswers.{IsLatestAnswer}
+use Rattle.judge.proofs.sources.LoadRows.{load_row_latest_longer, load_row_latest_shorter}
 
 -- a store of the past at most n places before the load, where none is the latest, can't be
-answering_none_left : (j : List Event) (k a : ℕ) → ((q i : ℕ) → ¬ IsLatest j k a q i) → (n i q v : ℕ) → k ≤ i + n
+answering_none_before : (j : List Event) (k a : ℕ) → ((q i : ℕ) → ¬ IsLatest j k a q i) → (n i q v : ℕ) → k ≤ i + n
     → Does j i q (Store a v) → HappensBefore j i k → ⊥
-answering_none_left j k a none zero i q v near does before = let lt = before_goes_forward j before in absurd (omega arith)
-answering_none_left j k a none (suc n) i q v near does before =
+answering_none_before j k a none zero i q v near does before = let lt = happens_before_goes_forward j before in absurd (omega arith)
+answering_none_before j k a none (suc n) i q v near does before =
     none q i (record {
       value = v;
       store = record {
@@ -27,132 +27,132 @@ answering_none_left j k a none (suc n) i q v near does before =
         by = q;
         stores = does;
         before = before;
-        latest = λ m r w stores then_before follows. (let lt = before_goes_forward j follows in
-            answering_none_left j k a none n m r w (omega arith) stores then_before);
+        latest = λ m r w stores then_before follows. (let lt = happens_before_goes_forward j follows in
+            answering_none_before j k a none n m r w (omega arith) stores then_before);
       };
       place = refl;
       by = refl;
     })
 
 -- a past without a latest store has no store
-pub answering_untouched : (j : List Event) (k a : ℕ) → ((q i : ℕ) → ¬ IsLatest j k a q i) → Untouched j k a
-answering_untouched j k a none i q v does before = answering_none_left j k a none k i q v (omega arith) does before
+pub answering_untouched : (j : List Event) (k a : ℕ) → ((q i : ℕ) → ¬ IsLatest j k a q i) → UntouchedExplainedAnswer j k a
+answering_untouched j k a none i q v does before = answering_none_before j k a none k i q v (omega arith) does before
 
-answering_stored_same : (a v b w : ℕ) → Store a v ≡ Store b w → v ≡ w
-answering_stored_same a v b w is = cc
+answering_one_value : (a v b w : ℕ) → Store a v ≡ Store b w → v ≡ w
+answering_one_value a v b w is = cc
 
-pub answers_law : (j : List Event) (k a v : ℕ) → IsAnswer j k a v ↔ IsAnswerValue j k a v
-answers_law j k a v = (there, back)
+pub answering_law : (j : List Event) (k a v : ℕ) → IsAnswer j k a v ↔ IsLatestAnswer j k a v
+answering_law j k a v = (there, back)
   where
-    there : IsAnswer j k a v → IsAnswerValue j k a v
+    there : IsAnswer j k a v → IsLatestAnswer j k a v
     there (inl x) = inl (x.0, λ q i l. x.1 l.store.place l.store.by l.value l.store.stores l.store.before)
     there (inr l) =
         inr (l.by, l.place, record { value = v; store = l; place = refl; by = refl }, l.stores)
 
-    back : IsAnswerValue j k a v → IsAnswer j k a v
+    back : IsLatestAnswer j k a v → IsAnswer j k a v
     back (inl x) = inl (x.0, answering_untouched j k a x.1)
     back (inr x) =
         let l = x.2 in
         let stores =
         subst (λ n. Does j n x.0 (Store a l.value)) l.place
         (subst (λ n. Does j l.store.place n (Store a l.value)) l.by l.store.stores) in
-        let same = numbered_does_same j x.1 x.0 x.0 (Store a l.value) (Store a v) stores x.3 in
-        inr (subst (LatestStore j k a) (answering_stored_same a l.value a v same.1) l.store)
+        let same = event_place_does_same j x.1 x.0 x.0 (Store a l.value) (Store a v) stores x.3 in
+        inr (subst (LatestExplainedAnswer j k a) (answering_one_value a l.value a v same.1) l.store)
 
 -- a latest store of a load that comes next stands in the journal
-pub answering_latest_at : (j : List Event) (p a v q i : ℕ) (x : IsLatest (did j p (Load a v)) (length j) a q i)
+pub answering_store_at : (j : List Event) (p a v q i : ℕ) (x : IsLatest (did j p (Load a v)) (length j) a q i)
     → Does j i q (Store a x.value)
-answering_latest_at j p a v q i x =
-    let lt = before_goes_forward (did j p (Load a v)) x.store.before in
+answering_store_at j p a v q i x =
+    let lt = happens_before_goes_forward (did j p (Load a v)) x.store.before in
     let is = x.place in
-    numbered_at_shorter j (event p (Load a v) ∷ []) i (event q (Store a x.value)) (omega arith)
+    event_place_shorter j (event p (Load a v) ∷ []) i (event q (Store a x.value)) (omega arith)
     (subst (λ n. Does (did j p (Load a v)) n q (Store a x.value)) x.place
     (subst (λ n. Does (did j p (Load a v)) x.store.place n (Store a x.value)) x.by x.store.stores))
 
 module _ (j : List Event) (p a v : ℕ) (Marked : ℕ → ℕ → Type 0)
     (tells : (q i : ℕ) → Marked q i ↔ IsLatest (did j p (Load a v)) (length j) a q i) where
-  abbrev IsNextAnswering : Type 0
-  IsNextAnswering = IsAnswer (did j p (Load a v)) (length j) a v
+  abbrev IsAnsweringNext : Type 0
+  IsAnsweringNext = IsAnswer (did j p (Load a v)) (length j) a v
 
   -- a marked place is one of the journal
-  pub answering_marked_within : (q i : ℕ) → Marked q i → i < length j
-  answering_marked_within q i at =
+  pub answering_marked_place : (q i : ℕ) → Marked q i → i < length j
+  answering_marked_place q i at =
       let x = (tells q i).0 at in
-      numbered_at_within j i (event q (Store a x.value)) (answering_latest_at j p a v q i x)
+      event_place_inside j i (event q (Store a x.value)) (answering_store_at j p a v q i x)
 
   -- the value of a marked store may be answered
-  pub marked_answer : (q i b : ℕ) (e : Event) → Marked q i → At j i e → e.kind ≡ Store b v → IsNextAnswering
-  marked_answer q i b e at there is =
+  pub answering_marked : (q i b : ℕ) (e : Event) → Marked q i → EventAt j i e → e.kind ≡ Store b v → IsAnsweringNext
+  answering_marked q i b e at there is =
       let x = (tells q i).0 at in
-      let same = numbered_at_same j i (event q (Store a x.value)) e (answering_latest_at j p a v q i x) there in
-      let value = answering_stored_same a x.value b v (ap (λ (y : Event). y.kind) same ∙ is) in
-      inr (subst (LatestStore (did j p (Load a v)) (length j) a) value x.store)
+      let same = event_place_same j i (event q (Store a x.value)) e (answering_store_at j p a v q i x) there in
+      let value = answering_one_value a x.value b v (ap (λ (y : Event). y.kind) same ∙ is) in
+      inr (subst (LatestExplainedAnswer (did j p (Load a v)) (length j) a) value x.store)
 
   -- where there is a mark, no other value may
-  pub other_answer : (q i : ℕ) → Marked q i
-      → ((r k : ℕ) (e : Event) → Marked r k → At j k e → (b : ℕ) → e.kind ≢ Store b v)
-      → ¬ IsNextAnswering
-  other_answer q i at others (inl x) =
+  pub answering_other : (q i : ℕ) → Marked q i
+      → ((r k : ℕ) (e : Event) → Marked r k → EventAt j k e → (b : ℕ) → e.kind ≢ Store b v)
+      → ¬ IsAnsweringNext
+  answering_other q i at others (inl x) =
       let l = (tells q i).0 at in
       x.1 l.store.place l.store.by l.value l.store.stores l.store.before
-  other_answer q i at others (inr l) =
+  answering_other q i at others (inr l) =
       let x : IsLatest (did j p (Load a v)) (length j) a l.by l.place =
       record { value = v; store = l; place = refl; by = refl } in
-      others l.by l.place (event l.by (Store a v)) ((tells l.by l.place).1 x) (answering_latest_at j p a v l.by l.place x) a
+      others l.by l.place (event l.by (Store a v)) ((tells l.by l.place).1 x) (answering_store_at j p a v l.by l.place x) a
       refl
 
   -- and where there is none, just 0 may
-  pub free_answer : ((q i : ℕ) → ¬ Marked q i) → IsNextAnswering ↔ (v ≡ 0)
-  free_answer none = (there, back)
+  pub answering_none_marked : ((q i : ℕ) → ¬ Marked q i) → IsAnsweringNext ↔ (v ≡ 0)
+  answering_none_marked none = (there, back)
     where
-      there : IsNextAnswering → v ≡ 0
+      there : IsAnsweringNext → v ≡ 0
       there (inl x) = x.0
       there (inr l) =
           absurd
           (none l.by l.place
           ((tells l.by l.place).1 (record { value = v; store = l; place = refl; by = refl })))
 
-      back : v ≡ 0 → IsNextAnswering
+      back : v ≡ 0 → IsAnsweringNext
       back is =
           inl (is, answering_untouched (did j p (Load a v)) (length j) a (λ q i x. none q i ((tells q i).1 x)))
 
 -- what a load may answer stays as the journal goes on
-pub stays_law : (j es : List Event) (k a v : ℕ) → k < length j → IsAnswer (j ++ es) k a v ↔ IsAnswer j k a v
-stays_law j es k a v within = (there, back)
+pub answering_longer_law : (j es : List Event) (k a v : ℕ) → k < length j → IsAnswer (j ++ es) k a v ↔ IsAnswer j k a v
+answering_longer_law j es k a v within = (there, back)
   where
     there : IsAnswer (j ++ es) k a v → IsAnswer j k a v
-    there h = elim ((answers_law (j ++ es) k a v).0 h) [
-      | inl x ↦ (answers_law j k a v).1 (inl (x.0, λ q i l. x.1 q i (latest_row_longer j es k a q i within l)))
-      | inr x ↦ (let l = latest_row_shorter j es k a x.0 x.1 within x.2 in
-          let lt = before_goes_forward j l.store.before in
+    there h = elim ((answering_law (j ++ es) k a v).0 h) [
+      | inl x ↦ (answering_law j k a v).1 (inl (x.0, λ q i l. x.1 q i (load_row_latest_longer j es k a q i within l)))
+      | inr x ↦ (let l = load_row_latest_shorter j es k a x.0 x.1 within x.2 in
+          let lt = happens_before_goes_forward j l.store.before in
           let is = l.place in
-          (answers_law j k a v).1
-          (inr (x.0, x.1, l, numbered_at_shorter j es x.1 (event x.0 (Store a v)) (omega arith) x.3)))
+          (answering_law j k a v).1
+          (inr (x.0, x.1, l, event_place_shorter j es x.1 (event x.0 (Store a v)) (omega arith) x.3)))
     ]
 
     back : IsAnswer j k a v → IsAnswer (j ++ es) k a v
-    back h = elim ((answers_law j k a v).0 h) [
-      | inl x ↦ (answers_law (j ++ es) k a v).1
-          (inl (x.0, λ q i l. x.1 q i (latest_row_shorter j es k a q i within l)))
-      | inr x ↦ (answers_law (j ++ es) k a v).1 (inr (
+    back h = elim ((answering_law j k a v).0 h) [
+      | inl x ↦ (answering_law (j ++ es) k a v).1
+          (inl (x.0, λ q i l. x.1 q i (load_row_latest_shorter j es k a q i within l)))
+      | inr x ↦ (answering_law (j ++ es) k a v).1 (inr (
         x.0,
         x.1,
-        latest_row_longer j es k a x.0 x.1 within x.2,
-        numbered_at_longer j es x.1 (event x.0 (Store a v)) x.3,
+        load_row_latest_longer j es k a x.0 x.1 within x.2,
+        event_place_longer j es x.1 (event x.0 (Store a v)) x.3,
       ))
     ]
 
 -- what a load may answer at the end of a history's front, it may in the history
-pub answer_in : (events : List Event) (k a v : ℕ) (e : Event) → At events k e
+pub answering_in_front : (events : List Event) (k a v : ℕ) (e : Event) → EventAt events k e
     → IsAnswer (take k events ++ e ∷ []) (length (take k events)) a v ↔ IsAnswer events k a v
-answer_in events k a v e at =
-    let lt = numbered_at_within events k e at in
+answering_in_front events k a v e at =
+    let lt = event_place_inside events k e at in
     let long : length (take k events) ≡ k = length-take-le k events (omega arith) in
     let split : (take k events ++ e ∷ []) ++ drop (suc k) events ≡ events =
-    ap (λ xs. xs ++ drop (suc k) events) (sym (take-suc_at events k e at)) ∙ take-append-drop (suc k) events in
+    ap (λ xs. xs ++ drop (suc k) events) (sym (slice_take-suc_at events k e at)) ∙ take-append-drop (suc k) events in
     let within =
-    numbered_at_within (take k events ++ e ∷ []) (length (take k events)) e (numbered_at_last (take k events) e) in
-    let stays = stays_law (take k events ++ e ∷ []) (drop (suc k) events) (length (take k events)) a v within in
+    event_place_inside (take k events ++ e ∷ []) (length (take k events)) e (event_place_at_end (take k events) e) in
+    let stays = answering_longer_law (take k events ++ e ∷ []) (drop (suc k) events) (length (take k events)) a v within in
     let P : List Event → ℕ → Type 0 =
     λ xs n. IsAnswer (take k events ++ e ∷ []) (length (take k events)) a v ↔ IsAnswer xs n a v in
     subst (λ n. P events n) long

@@ -16,5 +16,5 @@ abbrev pub unlocked_event : Event → Event
 unlocked_event e = event e.processor (unlocked_kind e.kind)
 
 -- the history with each lock's event changed so
-abbrev pub without_locks : List Event → List Event
-without_locks j = map unlocked_event j
+abbrev pub unlocked_history : List Event → List Event
+unlocked_history j = map unlocked_event j

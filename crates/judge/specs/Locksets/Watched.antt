@@ -4,121 +4,121 @@ use Rattle.base.specs.InOrderOnce.{Has}
 use Rattle.journal.specs.declared.event.Event.{Event}
 use Rattle.journal.specs.declared.event.Kind.{Kind}
 use Rattle.journal.specs.declared.event.Kind.TheVariants.{Store}
-use Rattle.journal.specs.Events.{At, address_of, interval_at, is_store}
+use Rattle.journal.specs.Events.{EventAt, event_address, event_interval_at, event_stores}
 use Rattle.journal.specs.Sizes.{Sizes}
 use Rattle.journal.specs.Times.{IsTimeOf}
 use Rattle.journal.specs.WellFormed.{Does}
-use Rattle.judge.specs.declared.locksets.word.Guarded.{Guarded}
-use Rattle.judge.specs.declared.locksets.word.LockedAccess.{LockedAccess}
-use Rattle.judge.specs.declared.locksets.word.Storers.{Storers}
-use Rattle.judge.specs.declared.locksets.word.Storers.TheVariants.{Nobody, One, Several}
-use Rattle.judge.specs.declared.locksets.word.WatchedWord.{WatchedWord}
-use Rattle.judge.specs.Sizes.{AreSizesJudged}
+use Rattle.judge.specs.declared.locksets.watched_word.Guarded.{Guarded}
+use Rattle.judge.specs.declared.locksets.watched_word.LockedAccess.{LockedAccess}
+use Rattle.judge.specs.declared.locksets.watched_word.WatchedStorers.{WatchedStorers}
+use Rattle.judge.specs.declared.locksets.watched_word.WatchedStorers.TheVariants.{Nobody, One, Several}
+use Rattle.judge.specs.declared.locksets.watched_word.WatchedWord.{WatchedWord}
+use Rattle.judge.specs.JudgedSizes.{AreJudgedSizes}
 use Rattle.judge.specs.Miscounted.{IsEventInSizes}
-use Rattle.judge.specs.Locksets.Unlocked.{without_locks}
+use Rattle.judge.specs.Locksets.Unlocked.{unlocked_history}
 use Rattle.judge.specs.Locksets.Held.{AreHeldLocks, HeldLocksShare}
-use Rattle.judge.specs.Locksets.Pairs.{IsGuardedPair, IsStoredByTwo, IsUnguardedPair, IsWatched}
+use Rattle.judge.specs.Locksets.Pairs.{IsGuardedPair, IsStoredByPair, IsUnguardedPair, MayBeginPair}
 
 -- the numbers of each event are within the sizes
-abbrev pub AreEventsInSizes : Sizes → List Event → Type 0
-AreEventsInSizes s j = (i : ℕ) (e : Event) → At j i e → IsEventInSizes s e
+abbrev pub AreWatchedEventsInSizes : Sizes → List Event → Type 0
+AreWatchedEventsInSizes s j = (i : ℕ) (e : Event) → EventAt j i e → IsEventInSizes s e
 
 -- the access of a at place i, with the locks that its processor holds there
-pub record IsLockedAccess (j : List Event) (a i : ℕ) (x : LockedAccess) : Type 0 where
+pub record IsWatchCandidate (j : List Event) (a i : ℕ) (x : LockedAccess) : Type 0 where
   pub place : x.place ≡ i
   pub kind : Kind
   pub does : Does j i x.processor kind
-  pub address : address_of kind ≡ Some a
-  pub stores : x.stores ≡ is_store kind
-  pub interval : x.interval ≡ interval_at (without_locks j) x.processor i
+  pub address : event_address kind ≡ Some a
+  pub stores : x.stores ≡ event_stores kind
+  pub interval : x.interval ≡ event_interval_at (unlocked_history j) x.processor i
   pub held : AreHeldLocks (take i j) x.processor x.held
 
 -- y is the access of a at place n, and t its processor's timestamp there, where locks order nothing
-pub record ComesNextToWord (s : Sizes) (j : List Event) (a n : ℕ) (y : LockedAccess) (t : ℕ → ℕ) : Type 0 where
-  pub small : AreSizesJudged s
-  pub range : AreEventsInSizes s j
-  pub access : IsLockedAccess j a n y
-  pub time : IsTimeOf (take n (without_locks j)) y.processor t
+pub record IsWatchedNext (s : Sizes) (j : List Event) (a n : ℕ) (y : LockedAccess) (t : ℕ → ℕ) : Type 0 where
+  pub small : AreJudgedSizes s
+  pub range : AreWatchedEventsInSizes s j
+  pub access : IsWatchCandidate j a n y
+  pub time : IsTimeOf (take n (unlocked_history j)) y.processor t
 
 -- by whom a is stored to before place n
-abbrev pub AreStorers : List Event → ℕ → ℕ → Storers → Type 0
-AreStorers j a n Nobody = (i q v : ℕ) → i < n → ¬ Does j i q (Store a v)
-AreStorers j a n (One p) = ((i : ℕ) × (v : ℕ) × (i < n) × Does j i p (Store a v))
+abbrev pub AreWatchedStorers : List Event → ℕ → ℕ → WatchedStorers → Type 0
+AreWatchedStorers j a n Nobody = (i q v : ℕ) → i < n → ¬ Does j i q (Store a v)
+AreWatchedStorers j a n (One p) = ((i : ℕ) × (v : ℕ) × (i < n) × Does j i p (Store a v))
     × ((i q v : ℕ) → i < n → Does j i q (Store a v) → q ≡ p)
-AreStorers j a n Several = IsStoredByTwo j a n
+AreWatchedStorers j a n Several = IsStoredByPair j a n
 
 -- x is a later access like q's at place i: of this kind, with the same locks
-pub record StandsForAccess (j : List Event) (i q : ℕ) (k : Kind) (x : LockedAccess) : Type 0 where
+pub record IsWatchedStandIn (j : List Event) (i q : ℕ) (k : Kind) (x : LockedAccess) : Type 0 where
   pub processor : x.processor ≡ q
-  pub stores : x.stores ≡ is_store k
+  pub stores : x.stores ≡ event_stores k
   pub held : AreHeldLocks (take i j) q x.held
   pub later : i ≤ x.place
 
 -- x is a watched access of a before place n
 pub record IsWatchedAccess (j : List Event) (a n : ℕ) (x : LockedAccess) : Type 0 where
-  pub access : IsLockedAccess j a x.place x
+  pub access : IsWatchCandidate j a x.place x
   pub below : x.place < n
-  pub watched : IsWatched j a x.place
+  pub watched : MayBeginPair j a x.place
 
 -- one that is kept stands for this one
-pub record HasStandIn (j : List Event) (xs : List LockedAccess) (i q : ℕ) (k : Kind) : Type 0 where
+pub record HasWatchedStandIn (j : List Event) (xs : List LockedAccess) (i q : ℕ) (k : Kind) : Type 0 where
   pub access : LockedAccess
   pub has : Has xs access
-  pub stands : StandsForAccess j i q k access
+  pub stands : IsWatchedStandIn j i q k access
 
 -- these are watched accesses of a before place n, and for each such access one stands
 pub record AreWatchedAccesses (j : List Event) (a n : ℕ) (xs : List LockedAccess) : Type 0 where
   pub each : (x : LockedAccess) → Has xs x → IsWatchedAccess j a n x
-  pub all : (i q : ℕ) (k : Kind) → i < n → Does j i q k → address_of k ≡ Some a → IsWatched j a i → HasStandIn j xs i q k
+  pub all : (i q : ℕ) (k : Kind) → i < n → Does j i q k → event_address k ≡ Some a → MayBeginPair j a i → HasWatchedStandIn j xs i q k
 
 -- a pair of a with no lock in common that ends before place n, if there is one
-abbrev pub IsUnguardedOf : List Event → ℕ → ℕ → Option (ℕ × ℕ) → Type 0
-IsUnguardedOf j a n o = MatchOption o ((i k : ℕ) → k < n → ¬ IsUnguardedPair j a i k) (λ u. IsUnguardedPair j a u.0 u.1)
+abbrev pub IsWatchedUnguarded : List Event → ℕ → ℕ → Option (ℕ × ℕ) → Type 0
+IsWatchedUnguarded j a n o = MatchOption o ((i k : ℕ) → k < n → ¬ IsUnguardedPair j a i k) (λ u. IsUnguardedPair j a u.0 u.1)
 
 -- and one with a lock in common
-abbrev pub IsGuardedOf : List Event → ℕ → ℕ → Option Guarded → Type 0
-IsGuardedOf j a n o = MatchOption o ((i k l : ℕ) → k < n → ¬ IsGuardedPair j a i k l)
+abbrev pub IsWatchedGuarded : List Event → ℕ → ℕ → Option Guarded → Type 0
+IsWatchedGuarded j a n o = MatchOption o ((i k l : ℕ) → k < n → ¬ IsGuardedPair j a i k l)
     (λ g. IsGuardedPair j a g.places.0 g.places.1 g.lock)
 
 -- what is kept of a tells what stands before place n
-pub record TellsWord (j : List Event) (a n : ℕ) (w : WatchedWord) : Type 0 where
-  pub storers : AreStorers j a n w.storers
+pub record WatchedTells (j : List Event) (a n : ℕ) (w : WatchedWord) : Type 0 where
+  pub storers : AreWatchedStorers j a n w.storers
   pub accesses : AreWatchedAccesses j a n w.accesses.items
-  pub unguarded : IsUnguardedOf j a n w.unguarded
-  pub guarded : IsGuardedOf j a n w.guarded
+  pub unguarded : IsWatchedUnguarded j a n w.unguarded
+  pub guarded : IsWatchedGuarded j a n w.guarded
 
 -- x and y, the later one, conflict and are of two processors, and y's timestamp t doesn't count x's interval
-pub record AccessesNeedLock (x y : LockedAccess) (t : ℕ → ℕ) : Type 0 where
+pub record AreWatchedRacing (x y : LockedAccess) (t : ℕ → ℕ) : Type 0 where
   pub apart : x.processor ≢ y.processor
   pub stores : IsTrue x.stores ⊎ IsTrue y.stores
   pub later : t x.processor ≤ x.interval
 
 -- such an x among these, with a lock in common with y
-pub record IsGuardedWith (xs : List LockedAccess) (y : LockedAccess) (t : ℕ → ℕ) (g : Guarded) : Type 0 where
+pub record IsWatchedGuardedWith (xs : List LockedAccess) (y : LockedAccess) (t : ℕ → ℕ) (g : Guarded) : Type 0 where
   pub access : LockedAccess
   pub has : Has xs access
-  pub needs : AccessesNeedLock access y t
+  pub needs : AreWatchedRacing access y t
   pub shares : HeldLocksShare access.held y.held g.lock
   pub first : g.places.0 ≡ access.place
   pub second : g.places.1 ≡ y.place
 
 -- and one with none in common
-pub record IsUnguardedWith (xs : List LockedAccess) (y : LockedAccess) (t : ℕ → ℕ) (u : ℕ × ℕ) : Type 0 where
+pub record IsWatchedUnguardedWith (xs : List LockedAccess) (y : LockedAccess) (t : ℕ → ℕ) (u : ℕ × ℕ) : Type 0 where
   pub access : LockedAccess
   pub has : Has xs access
-  pub needs : AccessesNeedLock access y t
+  pub needs : AreWatchedRacing access y t
   pub none : (l : ℕ) → ¬ HeldLocksShare access.held y.held l
   pub first : u.0 ≡ access.place
   pub second : u.1 ≡ y.place
 
 -- x is like y: of one processor and kind, with the same locks
-pub record IsLikeAccess (x y : LockedAccess) : Type 0 where
+pub record IsWatchedAlike (x y : LockedAccess) : Type 0 where
   pub processor : x.processor ≡ y.processor
   pub stores : x.stores ≡ y.stores
-  pub held : x.held ≡ y.held
+  pub held : x.held.locks.items ≡ y.held.locks.items
 
 -- after y is kept: y and others of before are there, and all of them but those like y
-pub record IsAccessKept (before : List LockedAccess) (y : LockedAccess) (after : List LockedAccess) : Type 0 where
+pub record IsWatchedKept (before : List LockedAccess) (y : LockedAccess) (after : List LockedAccess) : Type 0 where
   pub has : Has after y
   pub only : (x : LockedAccess) → Has after x → (x ≡ y) ⊎ Has before x
-  pub rest : (x : LockedAccess) → Has before x → Has after x ⊎ IsLikeAccess x y
+  pub rest : (x : LockedAccess) → Has before x → Has after x ⊎ IsWatchedAlike x y

@@ -5,12 +5,12 @@ use Rattle.base.specs.InOrderOnce.{Has, InOrder}
 use Rattle.journal.specs.declared.event.Event.{Event}
 use Rattle.journal.specs.declared.event.Kind.TheVariants.{Load}
 use Rattle.journal.specs.WellFormed.{Does}
-use Rattle.journal.specs.ExplainedAnswers.{LatestStore}
+use Rattle.journal.specs.ExplainedAnswers.{LatestExplainedAnswer}
 
 -- processor q's store at place i is one that a load of a at place k may answer: a latest store of its past
 pub record IsLatest (j : List Event) (k a q i : ℕ) : Type 0 where
   pub value : ℕ
-  pub store : LatestStore j k a value
+  pub store : LatestExplainedAnswer j k a value
   pub place : store.place ≡ i
   pub by : store.by ≡ q
 

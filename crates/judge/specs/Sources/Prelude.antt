@@ -1,7 +1,7 @@
 -- The words that contracts name, passed on from one place. Declares nothing.
 pub use Rattle.judge.specs.Sources.Latest.{AreLatestMarked, AreLatestRows, IsLatest, IsLatestRow}
-pub use Rattle.judge.specs.Sources.Stored.{AreStoredKnown, IsLastStoredBelow, NoneStoredBelow}
-pub use Rattle.judge.specs.Sources.Last.{AreLast, IsLastStoreFollowed, IsLastUnfollowed}
-pub use Rattle.judge.specs.Sources.Tells.{SourceStoresAreKept, AreSourceStoresOf, source_row_of}
-pub use Rattle.judge.specs.Sources.Answers.{AnswersLaw, IsFirstUnexplained, AnswerStaysLaw}
-pub use Rattle.judge.specs.Sources.Unordered.{AreUnorderedFrom, IsFirstUnorderedFrom, IsUnorderedWithin, IsUnorderedAt, SomeUnorderedStores}
+pub use Rattle.judge.specs.Sources.KnownStores.{AreStoredKnown, IsLastKnownStoreBelow, NoKnownStoreBelow}
+pub use Rattle.judge.specs.Sources.LastStores.{AreLastStores, IsLastStoreFollowed, IsLastStoreUnfollowed}
+pub use Rattle.judge.specs.Sources.KeptSources.{SourceStoresAreKept, AreKeptSourcesOf, kept_source_row}
+pub use Rattle.judge.specs.Sources.LatestAnswers.{LatestAnswersLaw, IsFirstNotLatestAnswer, LatestAnswersStayLaw}
+pub use Rattle.judge.specs.Sources.Unordered.{AreUnorderedFrom, IsUnorderedIndex, IsUnorderedWithin, IsUnorderedAt, HasUnorderedOfValue}

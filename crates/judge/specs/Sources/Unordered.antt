@@ -3,26 +3,26 @@ use Rattle.std.specs.Prelude.{ℕ, ◌≡◌, ◌<◌, ◌≤◌, List, Some, le
 use Rattle.journal.specs.declared.event.Event.{Event}
 use Rattle.journal.specs.declared.event.Kind.TheVariants.{Load, Store}
 use Rattle.journal.specs.DidEvent.{did}
-use Rattle.journal.specs.Events.{At}
+use Rattle.journal.specs.Events.{EventAt}
 use Rattle.journal.specs.HappensBeforeEdges.{HappensBefore}
 use Rattle.journal.specs.WellFormed.{Does}
-use Rattle.judge.specs.Models.{ModelUnorderedStore}
-use Rattle.judge.specs.declared.sources.stored.Stored.{Stored}
+use Rattle.judge.specs.Models.{ModelConcurrentStore}
+use Rattle.judge.specs.declared.sources.stored_intervals.Stored.{Stored}
 
 -- the stores of intervals from the limit on begin at this index
-pub record IsFirstUnorderedFrom (stores : List Stored) (limit from : ℕ) : Type 0 where
+pub record IsUnorderedIndex (stores : List Stored) (limit from : ℕ) : Type 0 where
   pub below : (n : ℕ) (s : Stored) → n < from → slice_get stores n ≡ Some s → s.interval < limit
   pub above : (n : ℕ) (s : Stored) → from ≤ n → slice_get stores n ≡ Some s → limit ≤ s.interval
   pub within : from ≤ length stores
 
 -- one of the stores from this index on is of this value
-pub record SomeUnorderedStores (events : List Event) (stores : List Stored) (from value : ℕ) : Type 0 where
+pub record HasUnorderedOfValue (events : List Event) (stores : List Stored) (from value : ℕ) : Type 0 where
   pub index : ℕ
   pub store : Stored
   pub from_on : from ≤ index
   pub at : slice_get stores index ≡ Some store
   pub event : Event
-  pub there : At events store.place event
+  pub there : EventAt events store.place event
   pub address : ℕ
   pub is : event.kind ≡ Store address value
 
@@ -48,5 +48,5 @@ pub record AreUnorderedFrom (j : List Event) (p a q : ℕ) (stores : List Stored
 -- the store at place i is one to a before place k, and that place's past doesn't have it
 pub record IsUnorderedAt (j : List Event) (k a i : ℕ) : Type 0 where
   pub value : ℕ
-  pub store : ModelUnorderedStore j k a value
+  pub store : ModelConcurrentStore j k a value
   pub place : store.place ≡ i

@@ -5,16 +5,16 @@ ghost use Rattle.base.specs.Prelude.{most_held, most_processors};
 ghost use Rattle.journal.specs.declared.event.Event.{Event};
 ghost use Rattle.journal.specs.declared.event.Kind.TheVariants.{Load, Store};
 ghost use Rattle.journal.specs.ExplainedAnswers.{IsAnswer};
-ghost use Rattle.journal.specs.Prelude.{AddressInRange, AddressesInRange, ProcessorsInRange, did};
-ghost use Rattle.judge.specs.declared.sources.stored.Stored.{Stored};
-ghost use Rattle.judge.specs.Sources.Prelude.{SourceStoresAreKept, AreLast, IsLastStoreFollowed, IsLatest, IsLastUnfollowed, AreSourceStoresOf, source_row_of};
+ghost use Rattle.journal.specs.Prelude.{EventAddressInRange, EventAddressesInRange, EventProcessorsInRange, did};
+ghost use Rattle.judge.specs.declared.sources.stored_intervals.Stored.{Stored};
+ghost use Rattle.judge.specs.Sources.Prelude.{SourceStoresAreKept, AreLastStores, IsLastStoreFollowed, IsLatest, IsLastStoreUnfollowed, AreKeptSourcesOf, kept_source_row};
 ghost use Rattle.judge.specs.Prelude.{sparse_row};
 
 use crate::sources::known::Known;
-use crate::sources::stored::{Stored, last_below};
-use crate::sparse_table::{SparseTable, push_in_row};
+use crate::sources::stored_intervals::{Stored, last_stored_interval_below};
+use crate::sparse_table::{SparseTable, items_of_row, push_in_sparse_table_row};
 use base::MOST_PROCESSORS;
-use journal::{Clock, Clocks, Event, Kind};
+use journal::{Clock, Event, EventClocks, Kind};
 use std::alloc::{AllocError, Global};
 
 /// The last store of each processor to an address in a past.
@@ -26,10 +26,10 @@ type LastStores = [Option<Stored>; MOST_PROCESSORS];
 /// that are stored to: 12 bytes a store, and 64 bytes more for the first store after its processor's timestamp has changed; and
 /// what the timestamps of locks, flags and open episodes take.
 #[derive(Drop)]
-pub struct Sources {
+pub struct ReadableSources {
     pub(crate) processors: usize,
     pub(crate) addresses: usize,
-    pub(crate) clocks: Clocks,
+    pub(crate) clocks: EventClocks,
     known: Known,
     /// The stores in order: of each address a row for each processor, sixteen rows an address.
     pub(crate) stores: SparseTable<Vec<Stored>>,
@@ -47,14 +47,14 @@ pub(crate) fn is_store_of(event: Event, value: u32) -> bool
 
 /// How many intervals a past has something of, where it has that many whole ones. Of a processor's own past the open
 /// interval is one more.
-fn intervals(whole: u32, is_own: bool) -> usize
+fn readable_intervals(whole: u32, is_own: bool) -> usize
     ensures { result ≡ whole + cond is_own 1 0 }
 {
     whole as usize + usize::from(is_own)
 }
 
 /// Raises each entry to the other timestamp's, where that is greater.
-fn raise(time: &mut Clock, other: &Clock)
+fn raise_readable_time(time: &mut Clock, other: &Clock)
     ensures { (q : ℕ) → slice_index time.new q ≡ max (slice_index time.old q) (slice_index other.now q) }
 {
     for q in 0..MOST_PROCESSORS {
@@ -63,11 +63,11 @@ fn raise(time: &mut Clock, other: &Clock)
 }
 
 /// The place of this processor's last store, where none of the others follows it. Joined, their timestamps are this.
-fn unfollowed(last: &LastStores, joined: &Clock, by: usize) -> Option<usize>
+fn readable_unfollowed(last: &LastStores, joined: &Clock, by: usize) -> Option<usize>
     requires by { by < most_processors }
     ensures { (times : List (List ℕ)) → ((s : Stored)
         → (s.interval < slice_index joined.now by) ↔ IsLastStoreFollowed times last.now by s)
-        → (i : ℕ) → (result ≡ Some i) ↔ IsLastUnfollowed times last.now by i }
+        → (i : ℕ) → (result ≡ Some i) ↔ IsLastStoreUnfollowed times last.now by i }
 {
     let store = last[by]?;
     if store.interval < joined[by] {
@@ -77,20 +77,24 @@ fn unfollowed(last: &LastStores, joined: &Clock, by: usize) -> Option<usize>
     }
 }
 
-impl Sources {
+impl ReadableSources {
     /// Before the first event, of a history of `processors` processors, at most `MOST_PROCESSORS`, and `addresses`
     /// addresses. The only error is running out of memory.
-    pub fn new(alloc: Global, processors: usize, addresses: usize) -> Result<Sources, AllocError>
+    pub fn new(
+        alloc: Global,
+        processors: usize,
+        addresses: usize,
+    ) -> Result<ReadableSources, AllocError>
         requires { processors ≤ most_processors }
-        ensures tells { IfOk result (AreSourceStoresOf []) }
+        ensures tells { IfOk result (AreKeptSourcesOf []) }
         ensures processors { IfOk result (λ s. s.processors ≡ processors) }
         ensures addresses { IfOk result (λ s. s.addresses ≡ addresses) }
     {
         let rows = addresses.checked_mul(MOST_PROCESSORS).ok_or(AllocError)?;
-        Ok(Sources {
+        Ok(ReadableSources {
             processors,
             addresses,
-            clocks: Clocks::new(alloc, processors)?,
+            clocks: EventClocks::new(alloc, processors)?,
             known: Known::new(alloc),
             stores: SparseTable::new(alloc, rows)?,
         })
@@ -98,30 +102,30 @@ impl Sources {
 
     /// The stores of the processor `by` to the address.
     pub(crate) fn stores_of(&self, address: usize, by: usize) -> &[Stored]
-        requires tells { (j : List Event) × AreSourceStoresOf j self.now }
+        requires tells { (j : List Event) × AreKeptSourcesOf j self.now }
         requires address { address < self.now.addresses }
         requires by { by < most_processors }
-        ensures { result.now ≡ sparse_row self.now.stores (source_row_of address by) }
+        ensures { result.now ≡ sparse_row self.now.stores (kept_source_row address by) }
     {
-        match self.stores.place(address * MOST_PROCESSORS + by) {
-            Some(place) => self.stores.kept[place].as_slice(),
-            None => &[],
-        }
+        items_of_row(&self.stores, address * MOST_PROCESSORS + by)
     }
 
     /// Each processor's last store to the address in the past of this processor.
     fn last_stores(&self, processor: usize, address: usize) -> LastStores
-        requires tells { (j : List Event) × AreSourceStoresOf j self.now }
+        requires tells { (j : List Event) × AreKeptSourcesOf j self.now }
         requires processor { processor < self.now.processors }
         requires address { address < self.now.addresses }
-        ensures { (j : List Event) → AreSourceStoresOf j self.now
-            → AreLast j self.now.known.times.items processor address result }
+        ensures { (j : List Event) → AreKeptSourcesOf j self.now
+            → AreLastStores j self.now.known.times.items processor address result }
     {
         let time = self.clocks.of(processor);
         let mut last = [None; MOST_PROCESSORS];
         for by in 0..self.processors {
             let stores = self.stores_of(address, by);
-            last[by] = last_below(stores, intervals(time[by], by == processor));
+            last[by] = last_stored_interval_below(
+                stores,
+                readable_intervals(time[by], by == processor),
+            );
         }
         last
     }
@@ -136,7 +140,7 @@ impl Sources {
         let mut joined = [0; MOST_PROCESSORS];
         for store in last {
             if let Some(store) = store {
-                raise(&mut joined, &self.known.times[store.time as usize]);
+                raise_readable_time(&mut joined, &self.known.times[store.time as usize]);
             }
         }
         joined
@@ -149,10 +153,10 @@ impl Sources {
     /// their timestamps: of n stores it takes time in the order of the processors times (the processors and the
     /// logarithm of n).
     pub fn before(&self, processor: usize, address: usize) -> [Option<usize>; MOST_PROCESSORS]
-        requires tells { (j : List Event) × AreSourceStoresOf j self.now }
+        requires tells { (j : List Event) × AreKeptSourcesOf j self.now }
         requires processor { processor < self.now.processors }
         requires address { address < self.now.addresses }
-        ensures { (j : List Event) → AreSourceStoresOf j self.now → (v q i : ℕ)
+        ensures { (j : List Event) → AreKeptSourcesOf j self.now → (v q i : ℕ)
             → (slice_get result q ≡ Some (Some i))
             ↔ IsLatest (did j processor (Load address v)) (length j) address q i }
     {
@@ -160,7 +164,7 @@ impl Sources {
         let joined = self.joined(&last);
         let mut latest = [None; MOST_PROCESSORS];
         for by in 0..self.processors {
-            latest[by] = unfollowed(&last, &joined, by);
+            latest[by] = readable_unfollowed(&last, &joined, by);
         }
         latest
     }
@@ -168,7 +172,7 @@ impl Sources {
     /// Whether a load of the address by this processor that comes next, after these events, may answer the value: the
     /// value of one of its latest stores, or 0 where it has none. It takes no memory, and time as `before` does.
     pub fn may_answer(&self, events: &[Event], processor: usize, address: usize, value: u32) -> bool
-        requires tells { AreSourceStoresOf events.now self.now }
+        requires tells { AreKeptSourcesOf events.now self.now }
         requires processor { processor < self.now.processors }
         requires address { address < self.now.addresses }
         ensures { IsTrue result
@@ -178,7 +182,7 @@ impl Sources {
         let joined = self.joined(&last);
         let mut is_free = true;
         for by in 0..self.processors {
-            if let Some(place) = unfollowed(&last, &joined, by) {
+            if let Some(place) = readable_unfollowed(&last, &joined, by) {
                 if is_store_of(events[place], value) {
                     return true;
                 }
@@ -195,14 +199,14 @@ impl Sources {
         address: usize,
         place: usize,
     ) -> Result<(), AllocError>
-        requires tells { (j : List Event) × AreSourceStoresOf j self.old × (length j ≡ place) }
+        requires tells { (j : List Event) × AreKeptSourcesOf j self.old × (length j ≡ place) }
         requires processor { processor < self.old.processors }
         requires address { address < self.old.addresses }
         requires few { place < 2 ^ 22 }
         ensures clocks { self.new.clocks ≡ self.old.clocks }
         ensures processors { self.new.processors ≡ self.old.processors }
         ensures addresses { self.new.addresses ≡ self.old.addresses }
-        ensures kept { OnOk result ((j : List Event) → AreSourceStoresOf j self.old → length j ≡ place → (v : ℕ)
+        ensures kept { OnOk result ((j : List Event) → AreKeptSourcesOf j self.old → length j ≡ place → (v : ℕ)
             → SourceStoresAreKept (did j processor (Store address v)) self.new) }
     {
         let time = self.clocks.of(processor);
@@ -214,7 +218,7 @@ impl Sources {
             interval,
             time,
         };
-        push_in_row(
+        push_in_sparse_table_row(
             &mut self.stores,
             address * MOST_PROCESSORS + processor,
             store,
@@ -223,14 +227,14 @@ impl Sources {
 
     /// Keeps what the event changes, which comes at this place, but for the timestamps so far.
     fn keep(&mut self, event: Event, place: usize) -> Result<(), AllocError>
-        requires tells { (j : List Event) × AreSourceStoresOf j self.old × (length j ≡ place) }
+        requires tells { (j : List Event) × AreKeptSourcesOf j self.old × (length j ≡ place) }
         requires processor { event.processor < self.old.processors }
-        requires address { AddressInRange self.old.addresses event.kind }
+        requires address { EventAddressInRange self.old.addresses event.kind }
         requires few { place < 2 ^ 22 }
         ensures clocks { self.new.clocks ≡ self.old.clocks }
         ensures processors { self.new.processors ≡ self.old.processors }
         ensures addresses { self.new.addresses ≡ self.old.addresses }
-        ensures kept { OnOk result ((j : List Event) → AreSourceStoresOf j self.old → length j ≡ place
+        ensures kept { OnOk result ((j : List Event) → AreKeptSourcesOf j self.old → length j ≡ place
             → SourceStoresAreKept (j ++ event ∷ []) self.new) }
     {
         match event.kind {
@@ -248,10 +252,10 @@ impl Sources {
     pub fn note(&mut self, events: &[Event], place: usize) -> Result<(), AllocError>
         requires place { place < length events.now }
         requires few { length events.now ≤ most_held + most_processors }
-        requires processors { ProcessorsInRange self.old.processors events.now }
-        requires addresses { AddressesInRange self.old.addresses events.now }
-        requires so_far { AreSourceStoresOf (take place events.now) self.old }
-        ensures tells { OnOk result (AreSourceStoresOf (take (place + 1) events.now) self.new) }
+        requires processors { EventProcessorsInRange self.old.processors events.now }
+        requires addresses { EventAddressesInRange self.old.addresses events.now }
+        requires so_far { AreKeptSourcesOf (take place events.now) self.old }
+        ensures tells { OnOk result (AreKeptSourcesOf (take (place + 1) events.now) self.new) }
         ensures processors { self.new.processors ≡ self.old.processors }
         ensures addresses { self.new.addresses ≡ self.old.addresses }
     {

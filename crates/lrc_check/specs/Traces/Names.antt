@@ -3,8 +3,8 @@ use Rattle.std.specs.Prelude.{ℕ, if◌then◌else◌, List, [], ◌∷◌, cod
 use Rattle.std.specs.Str.{bytes_eq}
 use Rattle.journal.specs.declared.event.Kind.{Kind}
 use Rattle.journal.specs.declared.event.Kind.TheVariants as kind
-use Rattle.lrc_check.specs.declared.traces.names.EventName.{EventName}
-use Rattle.lrc_check.specs.declared.traces.names.EventName.TheVariants.{Load, Store, Fetch, Ask, Acquire, Release, Arrive, Depart, Set, Watch, Await}
+use Rattle.lrc_check.specs.declared.traces.event_name.EventName.{EventName}
+use Rattle.lrc_check.specs.declared.traces.event_name.EventName.TheVariants.{Load, Store, Fetch, Ask, Acquire, Release, Arrive, Depart, Set, Watch, Await}
 
 -- how a name is written
 abbrev pub trace_name_word : EventName → List ℕ
@@ -44,8 +44,8 @@ trace_name_numbers (kind.Watch f) = f ∷ []
 trace_name_numbers (kind.Await f) = f ∷ []
 
 -- the name that is written so
-abbrev pub event_name : List ℕ → Option EventName
-event_name w =
+abbrev pub trace_name_of_word : List ℕ → Option EventName
+trace_name_of_word w =
     if bytes_eq w (codes "load") then Some Load else
     if bytes_eq w (codes "store") then Some Store else
     if bytes_eq w (codes "fetch") then Some Fetch else
@@ -59,16 +59,16 @@ event_name w =
     if bytes_eq w (codes "await") then Some Await else None
 
 -- what an event of this name and these numbers did
-abbrev pub kind_from_trace_name : EventName → List ℕ → Option Kind
-kind_from_trace_name Load (a ∷ v ∷ []) = Some (kind.Load a v)
-kind_from_trace_name Store (a ∷ v ∷ []) = Some (kind.Store a v)
-kind_from_trace_name Fetch (n ∷ w ∷ r ∷ d ∷ []) = Some (kind.Fetch w n r d)
-kind_from_trace_name Ask (l ∷ []) = Some (kind.Ask l)
-kind_from_trace_name Acquire (l ∷ []) = Some (kind.Acquire l)
-kind_from_trace_name Release (l ∷ []) = Some (kind.Release l)
-kind_from_trace_name Arrive [] = Some kind.Arrive
-kind_from_trace_name Depart [] = Some kind.Depart
-kind_from_trace_name Set (f ∷ []) = Some (kind.Set f)
-kind_from_trace_name Watch (f ∷ []) = Some (kind.Watch f)
-kind_from_trace_name Await (f ∷ []) = Some (kind.Await f)
-kind_from_trace_name _ _ = None
+abbrev pub trace_name_meaning : EventName → List ℕ → Option Kind
+trace_name_meaning Load (a ∷ v ∷ []) = Some (kind.Load a v)
+trace_name_meaning Store (a ∷ v ∷ []) = Some (kind.Store a v)
+trace_name_meaning Fetch (n ∷ w ∷ r ∷ d ∷ []) = Some (kind.Fetch w n r d)
+trace_name_meaning Ask (l ∷ []) = Some (kind.Ask l)
+trace_name_meaning Acquire (l ∷ []) = Some (kind.Acquire l)
+trace_name_meaning Release (l ∷ []) = Some (kind.Release l)
+trace_name_meaning Arrive [] = Some kind.Arrive
+trace_name_meaning Depart [] = Some kind.Depart
+trace_name_meaning Set (f ∷ []) = Some (kind.Set f)
+trace_name_meaning Watch (f ∷ []) = Some (kind.Watch f)
+trace_name_meaning Await (f ∷ []) = Some (kind.Await f)
+trace_name_meaning _ _ = None

@@ -1,13 +1,13 @@
 -- The words that contracts name, passed on from one place. Declares nothing.
-pub use Rattle.lrc_check.specs.Traces.Sizes.{AreTraceSizes, trace_sizes_head, trace_sizes_of}
-pub use Rattle.lrc_check.specs.Traces.Heads.{AreNoTraceSizes, head_numbers_of, head_numbers_read}
-pub use Rattle.lrc_check.specs.Traces.Text.{trace_text_head_line, trace_text}
-pub use Rattle.lrc_check.specs.Traces.Lawful.{HasTraceWords, IsNoOtherTrace, IsNoTrace, IsTrace, IsWithinTrace}
-pub use Rattle.lrc_check.specs.Traces.Begun.{IsTraceBegun, begun_text, trace_line_number_after}
-pub use Rattle.lrc_check.specs.Traces.Names.{trace_name_operand_count, kind_from_trace_name, event_name, trace_name_numbers, trace_name_word}
-pub use Rattle.lrc_check.specs.Traces.Lines.{TraceLineGivesKind, HasBadTraceLineNumber, HasNoTraceLineShape, TraceLineRead, IsCutLine, IsDueOnTraceLine, IsEventLine, IsTraceLineShaped}
-pub use Rattle.lrc_check.specs.Traces.Faults.{BeginsTraceText, TraceEventSays, TraceHeadSays, IsTraceFault, IsTraceFaultAt, IsTraceFaultBehind, IsHeadFault, IsTraceFaultPast}
-pub use Rattle.lrc_check.specs.Traces.Faults.{TraceHasNoSizes, TraceLineHasSizes, IsLastingFault, IsNoTraceEvent, TraceLineSays, TraceRefuses, fault_from}
-pub use Rattle.lrc_check.specs.Traces.Laws.{BareLaw, CutRefusedLaw, OneTraceLaw, PrintedLaw, WellFormedTraceLaw}
-pub use Rattle.lrc_check.specs.Traces.Labels.{AreShownLabels, bare, bare_line, event_label, label_at, labels_of, line_label, shown_label_byte}
-pub use Rattle.lrc_check.specs.Traces.Fed.{BeginsTrace, IsReadOf, StaysFault, TextRead, labels_with, text_with}
+pub use Rattle.lrc_check.specs.Traces.Sizes.{AreTraceSizes, trace_sizes_as_script, trace_sizes_of}
+pub use Rattle.lrc_check.specs.Traces.Heads.{AreNoTraceHeadNumbers, trace_head_numbers_of, trace_head_numbers_read}
+pub use Rattle.lrc_check.specs.Traces.TraceText.{trace_text_first_line, trace_text}
+pub use Rattle.lrc_check.specs.Traces.LawfulTraces.{HasLawfulTraceWords, IsNoOtherLawfulTrace, IsNoLawfulTrace, IsLawfulTrace, IsWithinLawfulTrace}
+pub use Rattle.lrc_check.specs.Traces.Begun.{IsTraceBegun, trace_begun_text, trace_begun_line_number}
+pub use Rattle.lrc_check.specs.Traces.Names.{trace_name_operand_count, trace_name_meaning, trace_name_of_word, trace_name_numbers, trace_name_word}
+pub use Rattle.lrc_check.specs.Traces.TraceLines.{TraceLineGivesKind, HasBadTraceLineNumber, HasNoTraceLineShape, TraceLineRead, IsTraceLineOfCut, IsTraceLineDue, IsTraceLineOfEvent, IsTraceLineShaped}
+pub use Rattle.lrc_check.specs.Traces.TraceFaults.{BeginsTraceText, TraceFaultSaysOfEvent, TraceFaultSaysOfHead, IsTraceFault, IsTraceFaultAt, IsTraceFaultBehind, IsTraceFaultInHead, IsTraceFaultPast}
+pub use Rattle.lrc_check.specs.Traces.TraceFaults.{TraceFaultSaysNoSizes, TraceLineHasSizes, IsTraceFaultLasting, IsTraceFaultOfNoEvent, TraceFaultSaysOfLine, TraceFaultRefuses, trace_fault_from_script}
+pub use Rattle.lrc_check.specs.Traces.Laws.{UnlabelledTraceLaw, CutRefusedLaw, OneTraceLaw, PrintedTraceLaw, WellFormedTraceLaw}
+pub use Rattle.lrc_check.specs.Traces.Labels.{AreTraceLabelsShown, without_trace_labels, line_without_trace_label, trace_event_label, trace_label_at, trace_labels_of, trace_line_label, trace_label_byte_shown}
+pub use Rattle.lrc_check.specs.Traces.FedText.{FedTextBeginsTrace, IsFedTextOf, FedTextFaultStays, FedText, fed_text_labels_with, fed_text_with}

@@ -1,8 +1,8 @@
 -- The sizes of a trace.
 use Rattle.std.specs.Prelude.{◌≤◌}
 use Rattle.journal.specs.Sizes.{Sizes}
-use Rattle.judge.specs.Sizes.{AreSizesJudged}
-use Rattle.lrc_script.specs.Plan.{Plan, head_plan}
+use Rattle.judge.specs.JudgedSizes.{AreJudgedSizes}
+use Rattle.lrc_script.specs.Plan.{Plan, plan_of_sizes}
 use Rattle.lrc_check.specs.declared.traces.trace.TraceSizes.{TraceSizes}
 
 -- the sizes in memory
@@ -17,11 +17,11 @@ trace_sizes_of s = record {
 
 -- the sizes that a trace may have: those of a history that is judged, with a processor, a page and a word at least
 pub record AreTraceSizes (s : Sizes) : Type 0 where
-  pub judged : AreSizesJudged s
+  pub judged : AreJudgedSizes s
   pub some_processors : 1 ≤ s.processors
   pub some_pages : 1 ≤ s.pages
   pub some_words : 1 ≤ s.words
 
 -- the sizes, as a script that has no section says them
-abbrev pub trace_sizes_head : Sizes → Plan
-trace_sizes_head s = head_plan s.processors s.pages s.words s.locks s.flags
+abbrev pub trace_sizes_as_script : Sizes → Plan
+trace_sizes_as_script s = plan_of_sizes s.processors s.pages s.words s.locks s.flags

@@ -1,7 +1,7 @@
 //! What the reader of traces finds wrong.
 ghost use Rattle.std.specs.Prelude.{◌≡◌};
 ghost use Rattle.lrc_check.specs.declared.traces.fault.TraceFault.TheVariants.{NoMemory};
-ghost use Rattle.lrc_check.specs.Traces.Prelude.{fault_from};
+ghost use Rattle.lrc_check.specs.Traces.Prelude.{trace_fault_from_script};
 
 use lrc_script::fault::ScriptFault;
 use std::alloc::{AllocError, AllocFailed};
@@ -50,7 +50,7 @@ pub enum TraceFault {
 }
 
 impl From<ScriptFault> for TraceFault {
-    ghost from_gives = { λ e f. f ≡ fault_from e };
+    ghost from_gives = { λ e f. f ≡ trace_fault_from_script e };
 
     fn from(fault: ScriptFault) -> TraceFault {
         match fault {

@@ -1,55 +1,61 @@
 //! The line of a trace's sizes.
 ghost use Rattle.std.specs.Prelude.{◌≡◌, ◌↔◌, IfErr, IfOk, IsTrue, MatchOption};
-ghost use Rattle.lrc_script.specs.Prelude.{Nothing, ReadGives, is_line_due};
-ghost use Rattle.lrc_check.specs.Traces.Prelude.{AreNoTraceSizes, AreTraceSizes, TraceHasNoSizes, TraceLineHasSizes};
-ghost use Rattle.lrc_check.specs.Traces.Prelude.{head_numbers_of, head_numbers_read, trace_sizes_of};
+ghost use Rattle.lrc_script.specs.Prelude.{Nothing, LineReadGives, is_read_line_due};
+ghost use Rattle.lrc_check.specs.Traces.Prelude.{AreNoTraceHeadNumbers, AreTraceSizes, TraceFaultSaysNoSizes, TraceLineHasSizes};
+ghost use Rattle.lrc_check.specs.Traces.Prelude.{trace_head_numbers_of, trace_head_numbers_read, trace_sizes_of};
 
-use crate::history::sizes_for;
+use crate::trace_history::trace_history_sizes;
 use crate::traces::fault::TraceFault;
 use crate::traces::trace::TraceSizes;
 use lrc_script::fault::ScriptFault;
-use lrc_script::line::{Keyword, Numbers, is_separated, number_count, read_numbers, split_at_byte};
+use lrc_script::line::{
+    LineKeyword, Numbers, is_script_line_separated, number_count, read_numbers,
+    split_script_line_at,
+};
 use std::alloc::Global;
 
 /// Whether a first line may begin with this keyword, and have so many numbers.
-fn is_first(keyword: Keyword, count: usize) -> bool
-    ensures { result ≡ is_line_due Nothing keyword count }
+fn is_first_trace_head_keyword(keyword: LineKeyword, count: usize) -> bool
+    ensures { result ≡ is_read_line_due Nothing keyword count }
 {
     match keyword {
-        Keyword::Cluster => count == 4 || count == 5,
+        LineKeyword::Cluster => count == 4 || count == 5,
         _ => false,
     }
 }
 
 /// The numbers of a first line.
-#[tactic(auto, unfolding(crate::specs::Traces::Heads::head_keyword_read))]
-fn head_numbers(alloc: Global, line: &[u8]) -> Result<Numbers, ScriptFault>
-    ensures { ReadGives (λ ns. ns.items) result (head_numbers_read line.now) }
+#[tactic(auto, unfolding(crate::specs::Traces::Heads::trace_head_first_word_read))]
+fn read_trace_head_numbers(alloc: Global, line: &[u8]) -> Result<Numbers, ScriptFault>
+    ensures { LineReadGives (λ ns. ns.items) result (trace_head_numbers_read line.now) }
 {
-    if !is_separated(line) {
+    if !is_script_line_separated(line) {
         return Err(ScriptFault::BadLine);
     }
-    let (word, words) = split_at_byte(line, b' ');
-    let Some(keyword) = Keyword::of(word) else {
+    let (word, words) = split_script_line_at(line, b' ');
+    let Some(keyword) = LineKeyword::of(word) else {
         return Err(ScriptFault::BadLine);
     };
-    if !is_first(keyword, number_count(words)) {
+    if !is_first_trace_head_keyword(keyword, number_count(words)) {
         return Err(ScriptFault::BadLine);
     }
     read_numbers(alloc, words)
 }
 
 /// Whether a trace may have these sizes.
-fn are_sizes(sizes: TraceSizes) -> bool
+fn are_trace_head_sizes(sizes: TraceSizes) -> bool
     ensures { IsTrue result ↔ AreTraceSizes (trace_sizes_of sizes) }
 {
-    sizes_for(sizes).are_judged() && 1 <= sizes.processors && 1 <= sizes.pages && 1 <= sizes.words
+    trace_history_sizes(sizes).are_judged()
+        && 1 <= sizes.processors
+        && 1 <= sizes.pages
+        && 1 <= sizes.words
 }
 
 /// The sizes that have these numbers, if a trace may have them. No flags are written with four numbers.
-fn sizes_with(numbers: &[u32]) -> Option<TraceSizes>
-    ensures { MatchOption result (AreNoTraceSizes numbers.now)
-        (λ s. AreTraceSizes (trace_sizes_of s) × (numbers.now ≡ head_numbers_of (trace_sizes_of s))) }
+fn sizes_with_trace_head(numbers: &[u32]) -> Option<TraceSizes>
+    ensures { MatchOption result (AreNoTraceHeadNumbers numbers.now)
+        (λ s. AreTraceSizes (trace_sizes_of s) × (numbers.now ≡ trace_head_numbers_of (trace_sizes_of s))) }
 {
     let (processors, pages, words, locks, flags) = match numbers {
         [p, n, w, l] => (*p, *n, *w, *l, 0),
@@ -64,19 +70,23 @@ fn sizes_with(numbers: &[u32]) -> Option<TraceSizes>
         locks: locks as usize,
         flags: flags as usize,
     };
-    if are_sizes(sizes) { Some(sizes) } else { None }
+    if are_trace_head_sizes(sizes) {
+        Some(sizes)
+    } else {
+        None
+    }
 }
 
 /// The sizes that the line gives, or what is wrong with it.
-pub fn read_head(alloc: Global, line: &[u8]) -> Result<TraceSizes, TraceFault>
+pub fn read_trace_head(alloc: Global, line: &[u8]) -> Result<TraceSizes, TraceFault>
     ensures sizes { IfOk result (λ s. TraceLineHasSizes line.now (trace_sizes_of s)) }
-    ensures fault { IfErr result (λ e. TraceHasNoSizes e line.now) }
+    ensures fault { IfErr result (λ e. TraceFaultSaysNoSizes e line.now) }
 {
-    let numbers = match head_numbers(alloc, line) {
+    let numbers = match read_trace_head_numbers(alloc, line) {
         Ok(numbers) => numbers,
         Err(fault) => return Err(TraceFault::from(fault)),
     };
-    match sizes_with(numbers.as_slice()) {
+    match sizes_with_trace_head(numbers.as_slice()) {
         Some(sizes) => Ok(sizes),
         None => Err(TraceFault::BadSize),
     }

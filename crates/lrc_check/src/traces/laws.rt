@@ -1,5 +1,5 @@
 //! Laws, as contracts of functions that do nothing: the check proves each by its name.
-ghost use Rattle.lrc_check.specs.Traces.Prelude.{BareLaw, CutRefusedLaw, OneTraceLaw, PrintedLaw, WellFormedTraceLaw};
+ghost use Rattle.lrc_check.specs.Traces.Prelude.{UnlabelledTraceLaw, CutRefusedLaw, OneTraceLaw, PrintedTraceLaw, WellFormedTraceLaw};
 
 /// No two traces have one text.
 pub fn one_trace_law()
@@ -8,12 +8,12 @@ pub fn one_trace_law()
 
 /// What is printed of a journal of which nothing was cut off is, behind the line of its sizes, the text of a trace
 /// of its events, and of no other.
-pub fn printed_law()
-    ensures { PrintedLaw }
+pub fn printed_trace_law()
+    ensures { PrintedTraceLaw }
 {}
 
 /// A journal that is well formed and not too long is a trace.
-pub fn well_formed_law()
+pub fn well_formed_trace_law()
     ensures { WellFormedTraceLaw }
 {}
 
@@ -23,6 +23,6 @@ pub fn cut_law()
 {}
 
 /// The text of a trace has no label: without its labels it is the same.
-pub fn bare_law()
-    ensures { BareLaw }
+pub fn unlabelled_trace_law()
+    ensures { UnlabelledTraceLaw }
 {}

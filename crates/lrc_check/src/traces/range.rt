@@ -1,16 +1,16 @@
 //! Whether an event is within a cluster's sizes, and stands where its number says.
 ghost use Rattle.std.specs.Prelude.{IfSome, IfNone};
-ghost use Rattle.lrc_check.specs.Traces.Prelude.{TraceEventSays, AreTraceSizes, IsDueOnTraceLine, IsTraceFaultPast, trace_sizes_of};
-ghost use Rattle.journal.specs.WellFormed.{KindInRange};
+ghost use Rattle.lrc_check.specs.Traces.Prelude.{TraceFaultSaysOfEvent, AreTraceSizes, IsTraceLineDue, IsTraceFaultPast, trace_sizes_of};
+ghost use Rattle.journal.specs.WellFormed.{WellFormedKindInRange};
 
 use crate::traces::fault::TraceFault;
 use crate::traces::trace::TraceSizes;
 use journal::{Event, Kind, MOST_HELD};
 
 /// The fault of a kind that names an address, a page, a lock or a flag past the sizes.
-fn kind_fault(sizes: &TraceSizes, kind: Kind) -> Option<TraceFault>
+fn trace_range_fault_of_kind(sizes: &TraceSizes, kind: Kind) -> Option<TraceFault>
     requires { AreTraceSizes (trace_sizes_of sizes.now) }
-    ensures none { IfNone result (KindInRange (trace_sizes_of sizes.now) kind) }
+    ensures none { IfNone result (WellFormedKindInRange (trace_sizes_of sizes.now) kind) }
     ensures some { IfSome result (λ f. IsTraceFaultPast f (trace_sizes_of sizes.now) kind) }
 {
     match kind {
@@ -29,21 +29,21 @@ fn kind_fault(sizes: &TraceSizes, kind: Kind) -> Option<TraceFault>
 }
 
 /// Why the event of a line that gives this place can't stand behind `count` others.
-pub fn event_fault(
+pub fn trace_range_fault_of_event(
     sizes: &TraceSizes,
     count: usize,
     place: usize,
     event: &Event,
 ) -> Option<TraceFault>
     requires { AreTraceSizes (trace_sizes_of sizes.now) }
-    ensures none { IfNone result (IsDueOnTraceLine (trace_sizes_of sizes.now) count place event.now) }
-    ensures some { IfSome result (λ f. TraceEventSays f (trace_sizes_of sizes.now) count place event.now) }
+    ensures none { IfNone result (IsTraceLineDue (trace_sizes_of sizes.now) count place event.now) }
+    ensures some { IfSome result (λ f. TraceFaultSaysOfEvent f (trace_sizes_of sizes.now) count place event.now) }
 {
     if place != count {
         Some(TraceFault::BadPlace)
     } else if event.processor >= sizes.processors {
         Some(TraceFault::BadProcessor)
-    } else if let Some(fault) = kind_fault(sizes, event.kind) {
+    } else if let Some(fault) = trace_range_fault_of_kind(sizes, event.kind) {
         Some(fault)
     } else if count >= MOST_HELD {
         Some(TraceFault::TooLong)

@@ -1,11 +1,11 @@
 //! A trace: the sizes of a cluster, and its events in order.
 ghost use Rattle.std.specs.Prelude.{◌≡◌, ◌≢◌, IfOk, IfErr};
 ghost use Rattle.lrc_check.specs.declared.traces.fault.TraceFault.TheVariants.{NoMemory};
-ghost use Rattle.lrc_check.specs.Traces.Prelude.{IsTraceFault, IsNoOtherTrace, IsNoTrace, IsTrace, bare, labels_of, trace_sizes_of, trace_text};
+ghost use Rattle.lrc_check.specs.Traces.Prelude.{IsTraceFault, IsNoOtherLawfulTrace, IsNoLawfulTrace, IsLawfulTrace, without_trace_labels, trace_labels_of, trace_sizes_of, trace_text};
 
-use crate::traces::begun::{end, read_lines};
 use crate::traces::fault::TraceFault;
-use crate::traces::labels::{Labels, split_label};
+use crate::traces::labels::{TraceLabels, split_trace_label};
+use crate::traces::trace_lines::{end, read_trace_lines};
 use journal::Event;
 use std::alloc::Global;
 
@@ -31,7 +31,7 @@ pub struct Trace {
 #[derive(Drop)]
 pub struct LabelledTrace {
     pub trace: Trace,
-    pub labels: Labels,
+    pub labels: TraceLabels,
 }
 
 /// The trace that has these bytes, without their labels, as its text, and the labels; or the first line with a fault, counted
@@ -44,21 +44,21 @@ pub struct LabelledTrace {
 /// `NoMemory` comes where a growth was refused while that line was read.
 pub fn read(alloc: Global, bytes: &[u8]) -> Result<LabelledTrace, (usize, TraceFault)>
     // What is read is a trace, and the bytes are its text.
-    ensures found { IfOk result (λ t. IsTrace (trace_sizes_of t.trace.sizes) t.trace.events.items
-        × (bare bytes.now ≡ trace_text (trace_sizes_of t.trace.sizes) t.trace.events.items)) }
+    ensures found { IfOk result (λ t. IsLawfulTrace (trace_sizes_of t.trace.sizes) t.trace.events.items
+        × (without_trace_labels bytes.now ≡ trace_text (trace_sizes_of t.trace.sizes) t.trace.events.items)) }
     // It is the one trace with this text.
-    ensures again { IfOk result (λ t. IsNoOtherTrace (bare bytes.now) (trace_sizes_of t.trace.sizes) t.trace.events.items) }
+    ensures again { IfOk result (λ t. IsNoOtherLawfulTrace (without_trace_labels bytes.now) (trace_sizes_of t.trace.sizes) t.trace.events.items) }
     // Each label is that of its line.
-    ensures labels { IfOk result (λ t. t.labels ≡ labels_of bytes.now) }
+    ensures labels { IfOk result (λ t. t.labels ≡ trace_labels_of bytes.now) }
     // No trace is refused, unless memory runs out.
-    ensures only { IfErr result (λ e. e.1 ≢ NoMemory → IsNoTrace (bare bytes.now)) }
+    ensures only { IfErr result (λ e. e.1 ≢ NoMemory → IsNoLawfulTrace (without_trace_labels bytes.now)) }
     // The lines before the fault are a trace's text, or none; no trace has that line next, and the fault says why.
-    ensures fault { IfErr result (λ e. IsTraceFault (bare bytes.now) e.0 e.1) }
+    ensures fault { IfErr result (λ e. IsTraceFault (without_trace_labels bytes.now) e.0 e.1) }
 {
     let mut begun = None;
-    let mut labels = Labels::new(alloc);
-    let rest = read_lines(alloc, &mut begun, &mut labels, bytes)?;
-    let (left, _) = split_label(rest);
+    let mut labels = TraceLabels::new(alloc);
+    let rest = read_trace_lines(alloc, &mut begun, &mut labels, bytes)?;
+    let (left, _) = split_trace_label(rest);
     let trace = end(begun, left)?;
     Ok(LabelledTrace { trace, labels })
 }

@@ -5,48 +5,48 @@ use Rattle.journal.specs.declared.event.Event.{Event}
 use Rattle.journal.specs.declared.event.Kind.{Kind}
 use Rattle.journal.specs.DidEvent.{did, event}
 use Rattle.journal.specs.WellFormed.{WellFormed}
-use Rattle.journal.proofs.Journals.WellFormedLast.{well_formed_push}
-use Rattle.journal.proofs.Order.CountedAndNumbered.{numbered_at_last}
+use Rattle.journal.proofs.Journals.WellFormedStays.{well_formed_stays_push}
+use Rattle.journal.proofs.Order.EventPlacesAndCounts.{event_place_at_end}
 use Rattle.lrc_script.specs.Plan.{Plan}
-use Rattle.conformance.specs.Begins.{BeginsScript, BeginsSection}
+use Rattle.conformance.specs.ScriptBegins.{BeginsScript, BeginsSection}
 use Rattle.conformance.specs.Follows.{plan_sizes, calls_of, is_fetch, Follows, FollowsSection}
-use Rattle.conformance.proofs.WithoutFetches.Embeds.{without_fetches}
-use Rattle.conformance.proofs.WithoutFetches.Runs.{calls_without_fetches}
-use Rattle.conformance.proofs.WithoutFetches.WellFormed.{follow_with_fetches}
-use Rattle.explore.specs.Prefixes.Beginnings.{IsFlatBeginning, IsFlatRaceFree, IsHangingBeginning}
-use Rattle.explore.specs.Prefixes.Calling.{calling_shown_by}
+use Rattle.conformance.proofs.WithoutFetches.HistoryWithoutFetches.{without_fetches}
+use Rattle.conformance.proofs.WithoutFetches.Runs.{run_calls_without_fetches}
+use Rattle.conformance.proofs.WithoutFetches.WellFormed.{well_formed_without_fetches_follow}
+use Rattle.explore.specs.Prefixes.FlatBeginnings.{IsFlatBeginning, AreFlatBeginningsRaceFree, IsFlatBeginningHanging}
+use Rattle.explore.specs.Prefixes.ScriptCalls.{script_calls_shown_by}
 use Rattle.explore.specs.declared.explored.Explored.{Explored}
-use Rattle.explore.specs.declared.told.Detail.{Detail}
+use Rattle.explore.specs.declared.outcome_telling.Detail.{Detail}
 use Rattle.explore.specs.Explored.{IsExploredHanging}
-use Rattle.explore.proofs.Machines.{machine_next_within}
-use Rattle.lrc_explore.specs.Schedules.Laws.{GoesOnLaw, NoScheduleHangs, IsScheduleUnfinished, NeverStuckLaw}
+use Rattle.explore.proofs.MachineSteps.{machine_step_next_within}
+use Rattle.lrc_explore.specs.Schedules.ExploredLaws.{ExploredScheduleGoesOnLaw, ExploredScheduleNeverHangs, IsExploredScheduleUnfinished, ExploredScheduleNeverStuckLaw}
 use Rattle.lrc_explore.proofs.schedules.Begun.{schedule_begun_fetchless_push, schedule_begun_flat_part, schedule_begun_replays_whole}
 use Rattle.lrc_explore.proofs.schedules.Deciding.{Decided, decided_some}
 use Rattle.lrc_explore.proofs.schedules.Onward.{schedule_onward_decided_next}
-use Rattle.lrc_explore.proofs.schedules.Reports.{found}
+use Rattle.lrc_explore.proofs.schedules.Reports.{schedule_report_found}
 
 -- what may come next on one flat memory, where fetches are left out, may come next
 module _ (s : Plan) (h : List Event) (well : WellFormed (plan_sizes s) h) (p : ℕ) (k : Kind)
     (flat : IsFlatBeginning s (did (without_fetches h) p k)) where
   schedule_going_call : is_fetch k ≡ false
-  schedule_going_call = flat.no_fetch (length (without_fetches h)) (event p k) (numbered_at_last (without_fetches h) (event p k))
+  schedule_going_call = flat.no_fetch (length (without_fetches h)) (event p k) (event_place_at_end (without_fetches h) (event p k))
 
   schedule_going_well_longer : WellFormed (plan_sizes s) (did h p k)
   schedule_going_well_longer =
-      let may = ((well_formed_push (plan_sizes s) (without_fetches h) (event p k)).0 flat.well_formed).1 in
-      (well_formed_push (plan_sizes s) h (event p k)).1 (
+      let may = ((well_formed_stays_push (plan_sizes s) (without_fetches h) (event p k)).0 flat.well_formed).1 in
+      (well_formed_stays_push (plan_sizes s) h (event p k)).1 (
         well,
-        follow_with_fetches (plan_sizes s) h (event p k) well may,
+        well_formed_without_fetches_follow (plan_sizes s) h (event p k) well may,
       )
 
   schedule_going_begins_longer : BeginsScript s (did h p k)
   schedule_going_begins_longer q section at =
-      subst (BeginsSection section (calling_shown_by s q))
-      (ap (λ es. calls_of es q) (sym (schedule_begun_fetchless_push h p k schedule_going_call)) ∙ calls_without_fetches q (did h p k))
+      subst (BeginsSection section (script_calls_shown_by s q))
+      (ap (λ es. calls_of es q) (sym (schedule_begun_fetchless_push h p k schedule_going_call)) ∙ run_calls_without_fetches q (did h p k))
       (flat.begins q section at)
 
 -- without its fetches a history that isn't whole has begun the script on one flat memory, and isn't whole there
-module _ (s : Plan) (h : List Event) (begun : IsScheduleUnfinished s h) (free : IsFlatRaceFree s) where
+module _ (s : Plan) (h : List Event) (begun : IsExploredScheduleUnfinished s h) (free : AreFlatBeginningsRaceFree s) where
   flat : IsFlatBeginning s (without_fetches h)
   flat =
       schedule_begun_flat_part s h begun.well_formed begun.begins
@@ -55,12 +55,12 @@ module _ (s : Plan) (h : List Event) (begun : IsScheduleUnfinished s h) (free : 
   schedule_going_unfinished : ¬ Follows s (without_fetches h)
   schedule_going_unfinished follows =
       begun.unfinished (λ p section at.
-      subst (FollowsSection section (calling_shown_by s p)) (calls_without_fetches p h) (follows p section at))
+      subst (FollowsSection section (script_calls_shown_by s p)) (run_calls_without_fetches p h) (follows p section at))
 
-schedule_going_never_hangs : (s : Plan) (d : Detail) (answer : Explored) → NoScheduleHangs s d answer → (g : List Event) → ¬ IsHangingBeginning s g
+schedule_going_never_hangs : (s : Plan) (d : Detail) (answer : Explored) → ExploredScheduleNeverHangs s d answer → (g : List Event) → ¬ IsFlatBeginningHanging s g
 schedule_going_never_hangs s d answer f = subst (IsExploredHanging s) f.hanging f.found.explored.hanging
 
-pub schedule_going_never_stuck : NeverStuckLaw
+pub schedule_going_never_stuck : ExploredScheduleNeverStuckLaw
 schedule_going_never_stuck s d answer h f stuck = schedule_going_never_hangs s d answer f (without_fetches h) (record {
   beginning = flat s h stuck.begun free;
   unfinished = schedule_going_unfinished s h stuck.begun free;
@@ -69,12 +69,12 @@ schedule_going_never_stuck s d answer h f stuck = schedule_going_never_hangs s d
       stuck.stuck p k (schedule_going_call s h well p k next) (schedule_going_well_longer s h well p k next) (schedule_going_begins_longer s h well p k next);
 })
   where
-    free : IsFlatRaceFree s
-    free = found s d answer f.found
+    free : AreFlatBeginningsRaceFree s
+    free = schedule_report_found s d answer f.found
 
 -- some processor's next call may come, or none may, which would be a hang
-pub going_longer_by_call : GoesOnLaw
-going_longer_by_call s d answer h lawful f begun = elim some [
+pub schedule_going_longer_by_call : ExploredScheduleGoesOnLaw
+schedule_going_longer_by_call s d answer h lawful f begun = elim some [
   | inl next ↦ record {
     processor = next.0;
     kind = next.2.0;
@@ -85,12 +85,12 @@ going_longer_by_call s d answer h lawful f begun = elim some [
   | inr none ↦ absurd (schedule_going_never_hangs s d answer f (without_fetches h) (record {
     beginning = flat s h begun free;
     unfinished = schedule_going_unfinished s h begun free;
-    stuck = λ p k next. none (p, machine_next_within s (without_fetches h) p k next, (k, next));
+    stuck = λ p k next. none (p, machine_step_next_within s (without_fetches h) p k next, (k, next));
   }))
 ]
   where
-    free : IsFlatRaceFree s
-    free = found s d answer f.found
+    free : AreFlatBeginningsRaceFree s
+    free = schedule_report_found s d answer f.found
 
     some : Decided ((p : ℕ) × (p < s.processors) × ((k : Kind) × IsFlatBeginning s (did (without_fetches h) p k)))
     some =

@@ -1,12 +1,15 @@
 //! What is said of a faulty line: what may stand there, and the likely cause.
 
-use crate::hints::excerpt::line_at;
-use crate::hints::forms::meant;
-use crate::hints::word::{Amiss, amiss_in, no_below, no_number, no_size, place_of, word_at};
+use crate::hints::amiss::{
+    Amiss, amiss_in, amiss_not_a_number, amiss_not_a_size, amiss_number_not_below, amiss_word_at,
+    place_of_amiss,
+};
+use crate::hints::excerpt::excerpt_line_at;
+use crate::hints::forms::form_meant;
 use base::{MOST_FLAGS, MOST_LOCKS, MOST_PAGES, MOST_PROCESSORS, MOST_WORDS};
 use lrc_script::fault::ScriptFault;
-use lrc_script::line::split_at_byte;
-use lrc_script::script::{MOST_INSTRUCTIONS, MOST_SHOWN, read_sizes};
+use lrc_script::line::split_script_line_at;
+use lrc_script::script::{MOST_INSTRUCTIONS, MOST_SHOWN, read_script_sizes};
 use std::alloc::{AllocError, Global};
 
 /// A line of a script that has a fault.
@@ -29,8 +32,8 @@ struct Bounds {
 }
 
 /// Those that the script's first line gives.
-fn bounds_of(alloc: Global, script: &[u8]) -> Bounds {
-    match read_sizes(alloc, line_at(script, 1)) {
+fn advice_bounds_of(alloc: Global, script: &[u8]) -> Bounds {
+    match read_script_sizes(alloc, excerpt_line_at(script, 1)) {
         Ok(sizes) => Bounds {
             processors: sizes.processors,
             addresses: sizes.pages.saturating_mul(sizes.words),
@@ -47,7 +50,7 @@ fn bounds_of(alloc: Global, script: &[u8]) -> Bounds {
 }
 
 /// How many sections begin before the line.
-fn sections_before(at: FaultyLine<'_>) -> usize {
+fn advice_sections_before(at: FaultyLine<'_>) -> usize {
     at.script
         .split(|byte| *byte == b'\n')
         .take(at.number.saturating_sub(1))
@@ -63,10 +66,10 @@ fn put_due_advice(text: &mut String, at: FaultyLine<'_>, bounds: Bounds) -> Resu
     if at.number == 2 {
         return text.push_str("  expected p 0\n");
     }
-    if line_at(at.script, at.number.saturating_sub(1)).starts_with(b"show ") {
+    if excerpt_line_at(at.script, at.number.saturating_sub(1)).starts_with(b"show ") {
         return text.push_str("  expected no line behind show\n");
     }
-    let section = sections_before(at);
+    let section = advice_sections_before(at);
     if section < bounds.processors {
         write!(text, "  expected an instruction, or p {section}\n")
     } else {
@@ -85,15 +88,15 @@ fn put_bound_advice(text: &mut String, what: &str, count: usize) -> Result<(), A
 
 /// Adds that one of the known words is meant, if one is near.
 fn put_meant_advice(alloc: Global, text: &mut String, line: &[u8]) -> Result<(), AllocError> {
-    let (word, _) = split_at_byte(line, b' ');
-    match meant(alloc, word)? {
+    let (word, _) = split_script_line_at(line, b' ');
+    match form_meant(alloc, word)? {
         Some(known) => write!(text, "  is {known} meant?\n"),
         None => Ok(()),
     }
 }
 
 /// What is likely the cause that a line isn't understood, or has a word that is no number.
-fn cause_of(amiss: Amiss) -> &'static str {
+fn advice_cause_of(amiss: Amiss) -> &'static str {
     match amiss {
         Amiss::Mark => "  the file begins with a byte order mark\n",
         Amiss::Blank => "  scripts have no blank lines\n",
@@ -124,7 +127,7 @@ fn put_line_advice(
             put_due_advice(text, at, bounds)?;
             put_meant_advice(alloc, text, at.line)
         }
-        _ => text.push_str(cause_of(amiss)),
+        _ => text.push_str(advice_cause_of(amiss)),
     }
 }
 
@@ -137,10 +140,10 @@ fn is_of_digits(word: &[u8]) -> bool {
 fn put_number_advice(text: &mut String, at: FaultyLine<'_>) -> Result<(), AllocError> {
     text.push_str("  expected a number from 0 to 4294967295\n")?;
     if at.line.ends_with(b"\r") {
-        return text.push_str(cause_of(Amiss::Return));
+        return text.push_str(advice_cause_of(Amiss::Return));
     }
-    let place = no_number(at.line).min(at.line.len());
-    let (word, _) = split_at_byte(&at.line[place..], b' ');
+    let place = amiss_not_a_number(at.line).min(at.line.len());
+    let (word, _) = split_script_line_at(&at.line[place..], b' ');
     if word.starts_with(b"0") && is_of_digits(word) {
         return text.push_str("  numbers have no leading zeros\n");
     }
@@ -168,9 +171,9 @@ fn put_count_advice(text: &mut String, at: FaultyLine<'_>) -> Result<(), AllocEr
 }
 
 /// What may stand there, and the likely cause, each in a line that begins with two spaces.
-pub(crate) fn advice(alloc: Global, at: FaultyLine<'_>) -> Result<String, AllocError> {
+pub(crate) fn hint_advice(alloc: Global, at: FaultyLine<'_>) -> Result<String, AllocError> {
     let mut text = String::new(alloc);
-    let bounds = bounds_of(alloc, at.script);
+    let bounds = advice_bounds_of(alloc, at.script);
     match at.fault {
         ScriptFault::Truncated => put_end_advice(&mut text, at, bounds)?,
         ScriptFault::BadLine => put_line_advice(alloc, &mut text, at, bounds)?,
@@ -196,19 +199,25 @@ pub(crate) fn advice(alloc: Global, at: FaultyLine<'_>) -> Result<String, AllocE
 }
 
 /// Behind how many bytes of the line the faulty word begins.
-pub(crate) fn faulty_word(alloc: Global, at: FaultyLine<'_>) -> usize {
+pub(crate) fn advice_on_faulty_word(alloc: Global, at: FaultyLine<'_>) -> usize {
     match at.fault {
         ScriptFault::Truncated => at.line.len(),
-        ScriptFault::BadLine => place_of(amiss_in(at.line), at.line),
-        ScriptFault::BadNumber => no_number(at.line),
-        ScriptFault::BadSize => no_size(at.line),
-        ScriptFault::OutOfRange => no_below(at.line, bounds_of(alloc, at.script).addresses),
+        ScriptFault::BadLine => place_of_amiss(amiss_in(at.line), at.line),
+        ScriptFault::BadNumber => amiss_not_a_number(at.line),
+        ScriptFault::BadSize => amiss_not_a_size(at.line),
+        ScriptFault::OutOfRange => amiss_number_not_below(
+            at.line,
+            advice_bounds_of(alloc, at.script).addresses,
+        ),
         ScriptFault::BadLock
         | ScriptFault::BadFlag
         | ScriptFault::AlreadyHeld
         | ScriptFault::NotHeld
-        | ScriptFault::Uneven => word_at(at.line, 1),
-        ScriptFault::TooLong if at.line.starts_with(b"show ") => word_at(at.line, MOST_SHOWN + 1),
+        | ScriptFault::Uneven => amiss_word_at(at.line, 1),
+        ScriptFault::TooLong if at.line.starts_with(b"show ") => amiss_word_at(
+            at.line,
+            MOST_SHOWN + 1,
+        ),
         ScriptFault::TooLong | ScriptFault::NoMemory => 0,
     }
 }

@@ -1,9 +1,9 @@
 //! A line of a script, with a caret under a word.
 ghost use Rattle.std.specs.Prelude.{◌≡◌, ◌≤◌, ◌++◌, OnOk, length, map, replicate, string_bytes};
-ghost use Rattle.lrc_script.specs.Prelude.{space};
-ghost use Rattle.lrc_program.specs.Hints.Prelude.{caret_text, excerpt_text, line_at, rest_text, shown_text, sign_of};
+ghost use Rattle.lrc_script.specs.Prelude.{script_line_space};
+ghost use Rattle.lrc_program.specs.Hints.Prelude.{excerpt_caret_text, excerpt_text, excerpt_line_at, excerpt_rest_text, excerpt_shown_text, excerpt_sign_of};
 
-use lrc_script::line::split_at_byte;
+use lrc_script::line::split_script_line_at;
 use std::alloc::AllocError;
 
 /// The most bytes of a line that are shown.
@@ -16,23 +16,23 @@ const FAR: usize = 60;
 const BEFORE: usize = 40;
 
 /// The line of this number, counted from 1, without its line feed; empty if there is none.
-pub(crate) fn line_at(text: &[u8], number: usize) -> &[u8]
-    ensures { result.now ≡ line_at text.now number }
+pub(crate) fn excerpt_line_at(text: &[u8], number: usize) -> &[u8]
+    ensures { result.now ≡ excerpt_line_at text.now number }
 {
     let before = number.saturating_sub(1);
     let mut rest = text;
     for _ in 0..before {
-        match split_at_byte(rest, b'\n').1 {
+        match split_script_line_at(rest, b'\n').1 {
             Some(after) => rest = after,
             None => return &[],
         }
     }
-    split_at_byte(rest, b'\n').0
+    split_script_line_at(rest, b'\n').0
 }
 
 /// How a byte is shown: an ASCII sign as itself, any other byte as a question mark.
-fn sign_of(byte: u8) -> char
-    ensures { result ≡ sign_of byte }
+fn excerpt_sign_of(byte: u8) -> char
+    ensures { result ≡ excerpt_sign_of byte }
 {
     if b' ' <= byte && byte <= b'~' {
         char::from(byte)
@@ -42,18 +42,18 @@ fn sign_of(byte: u8) -> char
 }
 
 /// Adds the bytes as they are shown.
-fn put_signs(text: &mut String, bytes: &[u8]) -> Result<(), AllocError>
-    ensures { OnOk result (string_bytes text.new ≡ string_bytes text.old ++ map sign_of bytes.now) }
+fn put_excerpt_signs(text: &mut String, bytes: &[u8]) -> Result<(), AllocError>
+    ensures { OnOk result (string_bytes text.new ≡ string_bytes text.old ++ map excerpt_sign_of bytes.now) }
 {
     for byte in bytes {
-        text.push(sign_of(*byte))?;
+        text.push(excerpt_sign_of(*byte))?;
     }
     Ok(())
 }
 
 /// Adds so many spaces.
-fn put_spaces(text: &mut String, count: usize) -> Result<(), AllocError>
-    ensures { OnOk result (string_bytes text.new ≡ string_bytes text.old ++ replicate count space) }
+fn put_excerpt_spaces(text: &mut String, count: usize) -> Result<(), AllocError>
+    ensures { OnOk result (string_bytes text.new ≡ string_bytes text.old ++ replicate count script_line_space) }
 {
     for _ in 0..count {
         text.push(' ')?;
@@ -62,36 +62,36 @@ fn put_spaces(text: &mut String, count: usize) -> Result<(), AllocError>
 }
 
 /// Adds the first bytes of what is left of a line, and dots if there are more.
-fn put_rest(text: &mut String, rest: &[u8]) -> Result<(), AllocError>
-    ensures { OnOk result (string_bytes text.new ≡ string_bytes text.old ++ rest_text rest.now) }
+fn put_excerpt_rest(text: &mut String, rest: &[u8]) -> Result<(), AllocError>
+    ensures { OnOk result (string_bytes text.new ≡ string_bytes text.old ++ excerpt_rest_text rest.now) }
 {
     if rest.len() <= MOST_SIGNS {
-        put_signs(text, rest)?;
+        put_excerpt_signs(text, rest)?;
         return text.push_str("\n");
     }
     let first = &rest[..MOST_SIGNS];
-    put_signs(text, first)?;
+    put_excerpt_signs(text, first)?;
     text.push_str("..\n")
 }
 
 /// Adds what is shown of a line in which a word begins behind so many bytes, with dots where it is cut.
-fn put_shown(text: &mut String, line: &[u8], at: usize) -> Result<(), AllocError>
+fn put_excerpt_shown(text: &mut String, line: &[u8], at: usize) -> Result<(), AllocError>
     requires { at ≤ length line.now }
-    ensures { OnOk result (string_bytes text.new ≡ string_bytes text.old ++ shown_text line.now at) }
+    ensures { OnOk result (string_bytes text.new ≡ string_bytes text.old ++ excerpt_shown_text line.now at) }
 {
     if at < FAR {
         text.push_str("  ")?;
-        return put_rest(text, line);
+        return put_excerpt_rest(text, line);
     }
     text.push_str("  ..")?;
-    put_rest(text, &line[at - BEFORE..])
+    put_excerpt_rest(text, &line[at - BEFORE..])
 }
 
 /// Adds a caret under that word's first byte.
-fn put_caret(text: &mut String, at: usize) -> Result<(), AllocError>
-    ensures { OnOk result (string_bytes text.new ≡ string_bytes text.old ++ caret_text at) }
+fn put_excerpt_caret(text: &mut String, at: usize) -> Result<(), AllocError>
+    ensures { OnOk result (string_bytes text.new ≡ string_bytes text.old ++ excerpt_caret_text at) }
 {
-    put_spaces(text, if at < FAR { at + 2 } else { BEFORE + 4 })?;
+    put_excerpt_spaces(text, if at < FAR { at + 2 } else { BEFORE + 4 })?;
     text.push_str("^\n")
 }
 
@@ -104,8 +104,8 @@ pub(crate) fn put_excerpt(text: &mut String, line: &[u8], at: usize) -> Result<(
     match line {
         [] => Ok(()),
         [_, ..] => {
-            put_shown(text, line, at)?;
-            put_caret(text, at)
+            put_excerpt_shown(text, line, at)?;
+            put_excerpt_caret(text, at)
         }
     }
 }

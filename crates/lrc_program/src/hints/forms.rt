@@ -58,7 +58,7 @@ pub(crate) fn form_of(word: &[u8]) -> Option<Form> {
 }
 
 /// How many letters have to be changed, added or left out to make the one word of the other; in capitals it is the same.
-fn edits(alloc: Global, word: &[u8], known: &str) -> Result<usize, AllocError> {
+fn form_edits(alloc: Global, word: &[u8], known: &str) -> Result<usize, AllocError> {
     if word.eq_ignore_ascii_case(known.as_bytes()) {
         return Ok(0);
     }
@@ -66,13 +66,13 @@ fn edits(alloc: Global, word: &[u8], known: &str) -> Result<usize, AllocError> {
 }
 
 /// The known word that is likely meant: the nearest, if a third of its letters are to be edited at most.
-pub(crate) fn meant(alloc: Global, word: &[u8]) -> Result<Option<&'static str>, AllocError> {
+pub(crate) fn form_meant(alloc: Global, word: &[u8]) -> Result<Option<&'static str>, AllocError> {
     if word.len() > MOST_LETTERS {
         return Ok(None);
     }
     let (mut nearest, mut fewest) = (None, MOST_LETTERS);
     for form in FORMS {
-        let edits = edits(alloc, word, form.word)?;
+        let edits = form_edits(alloc, word, form.word)?;
         if edits < fewest && edits <= form.word.len() / 3 {
             nearest = Some(form.word);
             fewest = edits;

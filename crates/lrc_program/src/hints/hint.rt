@@ -1,14 +1,14 @@
 //! The lines about a script's fault.
 ghost use Rattle.std.specs.Prelude.{◌≡◌, ◌++◌, IfOk, OnOk, string_bytes};
-ghost use Rattle.lrc_program.specs.Hints.Prelude.{IsHint, place_text};
+ghost use Rattle.lrc_program.specs.Hints.Prelude.{IsHintExcerpt, excerpt_place_text};
 
-use crate::hints::advice::{FaultyLine, advice, faulty_word};
-use crate::hints::excerpt::{line_at, put_excerpt};
+use crate::hints::advice::{FaultyLine, advice_on_faulty_word, hint_advice};
+use crate::hints::excerpt::{excerpt_line_at, put_excerpt};
 use lrc_script::fault::ScriptFault;
 use std::alloc::{AllocError, Global};
 
 /// The script's file, as Rust writes a string, or standard input.
-fn source_name(alloc: Global, file: Option<&str>) -> Result<String, AllocError> {
+fn hint_source_name(alloc: Global, file: Option<&str>) -> Result<String, AllocError> {
     match file {
         Some(file) => format!(in alloc; "  {file:?}"),
         None => format!(in alloc; "  standard input"),
@@ -16,8 +16,8 @@ fn source_name(alloc: Global, file: Option<&str>) -> Result<String, AllocError> 
 }
 
 /// Adds the number of a line, and of a byte in it, both counted from 1.
-fn put_place(text: &mut String, line: usize, byte: usize) -> Result<(), AllocError>
-    ensures { OnOk result (string_bytes text.new ≡ string_bytes text.old ++ place_text line byte) }
+fn put_hint_place(text: &mut String, line: usize, byte: usize) -> Result<(), AllocError>
+    ensures { OnOk result (string_bytes text.new ≡ string_bytes text.old ++ excerpt_place_text line byte) }
 {
     write!(text, ":{line}:{byte}\n")
 }
@@ -32,19 +32,19 @@ pub fn hint(
     number: usize,
     fault: ScriptFault,
 ) -> Result<String, AllocError>
-    ensures { IfOk result (λ text. IsHint script.now number (string_bytes text)) }
+    ensures { IfOk result (λ text. IsHintExcerpt script.now number (string_bytes text)) }
 {
-    let line = line_at(script, number);
+    let line = excerpt_line_at(script, number);
     let faulty = FaultyLine {
         script,
         line,
         number,
         fault,
     };
-    let at = faulty_word(alloc, faulty).min(line.len());
-    let advice = advice(alloc, faulty)?;
-    let mut text = source_name(alloc, file)?;
-    put_place(&mut text, number, at + 1)?;
+    let at = advice_on_faulty_word(alloc, faulty).min(line.len());
+    let advice = hint_advice(alloc, faulty)?;
+    let mut text = hint_source_name(alloc, file)?;
+    put_hint_place(&mut text, number, at + 1)?;
     put_excerpt(&mut text, line, at)?;
     text.push_str(&advice)?;
     Ok(text)

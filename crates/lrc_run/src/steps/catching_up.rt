@@ -2,7 +2,7 @@
 //! each turn is told of those before it.
 ghost use Rattle.std.specs.Prelude.{◌≡◌, ◌<◌, ℕ, Some, slice_get, vec_len};
 ghost use Rattle.cluster.specs.Copies.Prelude.{Local};
-ghost use Rattle.lrc_run.specs.Prelude.{IsCaughtUp};
+ghost use Rattle.lrc_run.specs.Prelude.{SeesRunTurnsOf};
 
 use cluster::{BookTurn, Cluster, Processor};
 
@@ -14,7 +14,7 @@ pub(super) fn catch_up_with_first<T: BookTurn>(
 )
     requires within { p < vec_len processors.old }
     requires own { (q : ℕ) (m : Local) → slice_get processors.old.items q ≡ Some m → m.lock ≡ cluster.now.lock }
-    ensures { IsCaughtUp processors.old.items p 0 processors.new.items }
+    ensures { SeesRunTurnsOf processors.old.items p 0 processors.new.items }
 {
     if p > 0 {
         let (front, back) = processors.split_at_mut(p);
@@ -30,7 +30,7 @@ pub(super) fn catch_first_up<T: BookTurn>(
 )
     requires within { p < vec_len processors.old }
     requires own { (q : ℕ) (m : Local) → slice_get processors.old.items q ≡ Some m → m.lock ≡ cluster.now.lock }
-    ensures { IsCaughtUp processors.old.items 0 p processors.new.items }
+    ensures { SeesRunTurnsOf processors.old.items 0 p processors.new.items }
 {
     if p > 0 {
         let (front, back) = processors.split_at_mut(p);

@@ -2,13 +2,13 @@
 ghost use Rattle.std.specs.Prelude.{◌≡◌, ◌≢◌, ◌<◌, ◌≤◌, ◌^◌, ◌++◌, ◌∷◌, [], IfErr, IfOk, IfSome, List, OnOk, false, length, slice_index_or, true, vec_len};
 ghost use Rattle.lrc_script.specs.Prelude.{IsLawful, plan_of};
 ghost use Rattle.conformance.specs.declared.cause.Cause.TheVariants as cause;
-ghost use Rattle.conformance.specs.Prelude.{IsEndByTurns, plan_sizes, scheduled};
+ghost use Rattle.conformance.specs.Prelude.{IsEndByOrderedTurns, plan_sizes, schedule_orders};
 ghost use Rattle.conformance.specs.declared.progress.TurnProgress.{TurnProgress as AProgress};
 ghost use Rattle.cluster.specs.Copies.Prelude.{Local};
-ghost use Rattle.lrc_run.specs.Prelude.{AreAtSteps, AreSeenAfterTurns, AreTaken, IsTurnOfRun, chosen_order};
+ghost use Rattle.lrc_run.specs.Prelude.{AreAtRunSteps, AreRunTurnsSeenAhead, AreRunTurnsTaken, IsTurnOfRun, drawn_order_chosen};
 
 use super::pace::Pace;
-use super::{beginnings, end_run, go_round, new_cluster, outside, turn_at};
+use super::{beginnings, go_round, outside, run_step_at, run_steps_cluster, run_steps_result};
 use book::Refused;
 use cluster::{BookLock, BookTurn, Cluster, Processor};
 use conformance::{DrawnRun, RunFault, Schedule, TurnProgress};
@@ -28,8 +28,8 @@ pub fn step_drawn<R: Wait>(
     seed: u64,
 ) -> Result<DrawnRun, RunFault>
     requires { IsLawful (plan_of script.now) }
-    ensures end { IfOk result (λ run. IsEndByTurns (plan_of script.now)
-        (scheduled (plan_of script.now) run.schedule.turns.items) run.ended) }
+    ensures end { IfOk result (λ run. IsEndByOrderedTurns (plan_of script.now)
+        (schedule_orders (plan_of script.now) run.schedule.turns.items) run.ended) }
     ensures err { IfErr result (λ fault. fault.cause ≢ cause.Stuck) }
 {
     step_drawn_with::<BookLock, R>(rt, alloc, script, seed)
@@ -44,15 +44,15 @@ pub fn step_drawn_with<T: BookTurn + Drop, R: Wait>(
 ) -> Result<DrawnRun, RunFault>
     requires entries { T.ENTRIES ≤ 2 ^ 40 }
     requires lawful { IsLawful (plan_of script.now) }
-    ensures end { IfOk result (λ run. IsEndByTurns (plan_of script.now)
-        (scheduled (plan_of script.now) run.schedule.turns.items) run.ended) }
+    ensures end { IfOk result (λ run. IsEndByOrderedTurns (plan_of script.now)
+        (schedule_orders (plan_of script.now) run.schedule.turns.items) run.ended) }
     ensures err { IfErr result (λ fault. fault.cause ≢ cause.Stuck) }
 {
-    let (cluster, mut processors) = new_cluster::<T>(alloc, script)?;
+    let (cluster, mut processors) = run_steps_cluster::<T>(alloc, script)?;
     let mut all = beginnings(alloc, processors.len())?;
     let turns = wander(rt, alloc, &cluster, &mut processors, &mut all, script, seed)?;
     let passed = go_round(rt, alloc, &cluster, &mut processors, &mut all, script, None)?;
-    let ended = end_run(rt, alloc, cluster, processors, &all, script, passed)?;
+    let ended = run_steps_result(rt, alloc, cluster, processors, &all, script, passed)?;
     Ok(DrawnRun {
         schedule: Schedule { turns },
         ended,
@@ -71,11 +71,11 @@ fn wander<T: BookTurn, R: Wait>(
 ) -> Result<Vec<usize>, RunFault>
     requires lawful { IsLawful (plan_of script.now) }
     requires sizes { cluster.now.sizes ≡ plan_sizes (plan_of script.now) }
-    requires way { AreAtSteps cluster.now (plan_of script.now).sections processors.old.items
+    requires way { AreAtRunSteps cluster.now (plan_of script.now).sections processors.old.items
         all.old.items }
-    ensures way { OnOk result (AreAtSteps cluster.now (plan_of script.now).sections processors.new.items
+    ensures way { OnOk result (AreAtRunSteps cluster.now (plan_of script.now).sections processors.new.items
         all.new.items) }
-    ensures taken { IfOk result (λ turns. AreTaken (plan_of script.now).sections turns.items
+    ensures taken { IfOk result (λ turns. AreRunTurnsTaken (plan_of script.now).sections turns.items
         processors.old.items processors.new.items all.old.items all.new.items) }
     ensures err { IfErr result (λ fault. fault.cause ≢ cause.Stuck) }
 {
@@ -105,14 +105,14 @@ fn go_on<T: BookTurn, R: Wait>(
 ) -> Result<bool, RunFault>
     requires lawful { IsLawful (plan_of script.now) }
     requires sizes { cluster.now.sizes ≡ plan_sizes (plan_of script.now) }
-    requires way { AreAtSteps cluster.now (plan_of script.now).sections processors.old.items
+    requires way { AreAtRunSteps cluster.now (plan_of script.now).sections processors.old.items
         all.old.items }
     requires some { 0 < pace.old.turns }
-    ensures way { OnOk result (AreAtSteps cluster.now (plan_of script.now).sections processors.new.items
+    ensures way { OnOk result (AreAtRunSteps cluster.now (plan_of script.now).sections processors.new.items
         all.new.items) }
     ensures taken { OnOk result ((first : List Local) (start : List AProgress)
-        → AreTaken (plan_of script.now).sections turns.old.items first processors.old.items start all.old.items
-        → AreTaken (plan_of script.now).sections turns.new.items first processors.new.items start all.new.items) }
+        → AreRunTurnsTaken (plan_of script.now).sections turns.old.items first processors.old.items start all.old.items
+        → AreRunTurnsTaken (plan_of script.now).sections turns.new.items first processors.new.items start all.new.items) }
     ensures fixed { OnOk result (pace.new.turns ≡ pace.old.turns) }
     ensures err { IfErr result (λ fault. fault.cause ≢ cause.Stuck) }
 {
@@ -121,7 +121,7 @@ fn go_on<T: BookTurn, R: Wait>(
     }
     match first_on(rt, cluster, processors, all, script, &pace.order)? {
         Some(place) => {
-            note(turns, pace, place)?;
+            note_drawn_step(turns, pace, place)?;
             Ok(true)
         }
         None => Ok(false),
@@ -129,7 +129,7 @@ fn go_on<T: BookTurn, R: Wait>(
 }
 
 /// Notes whose turn it was, by its place in the order, and goes on to the next order.
-fn note(turns: &mut Vec<usize>, pace: &mut Pace, place: usize) -> Result<(), RunFault>
+fn note_drawn_step(turns: &mut Vec<usize>, pace: &mut Pace, place: usize) -> Result<(), RunFault>
     requires place { place < vec_len pace.old.order }
     requires turns { 0 < pace.old.turns }
     ensures turns { OnOk result (turns.new.items ≡ turns.old.items ++ slice_index_or pace.old.order.items place 0 ∷ []) }
@@ -182,11 +182,11 @@ fn first_on<T: BookTurn, R: Wait>(
 ) -> Result<Option<usize>, RunFault>
     requires lawful { IsLawful (plan_of script.now) }
     requires sizes { cluster.now.sizes ≡ plan_sizes (plan_of script.now) }
-    requires way { AreAtSteps cluster.now (plan_of script.now).sections processors.old.items
+    requires way { AreAtRunSteps cluster.now (plan_of script.now).sections processors.old.items
         all.old.items }
-    ensures way { OnOk result (AreAtSteps cluster.now (plan_of script.now).sections processors.new.items
+    ensures way { OnOk result (AreAtRunSteps cluster.now (plan_of script.now).sections processors.new.items
         all.new.items) }
-    ensures taken { IfOk result (λ place. AreTaken (plan_of script.now).sections (chosen_order order.now place)
+    ensures taken { IfOk result (λ place. AreRunTurnsTaken (plan_of script.now).sections (drawn_order_chosen order.now place)
         processors.old.items processors.new.items all.old.items all.new.items) }
     ensures place { IfOk result (λ place. IfSome place (λ k. k < length order.now)) }
     ensures err { IfErr result (λ fault. fault.cause ≢ cause.Stuck) }
@@ -210,19 +210,19 @@ fn tried_at<T: BookTurn, R: Wait>(
 ) -> Result<bool, RunFault>
     requires lawful { IsLawful (plan_of script.now) }
     requires sizes { cluster.now.sizes ≡ plan_sizes (plan_of script.now) }
-    requires way { AreAtSteps cluster.now (plan_of script.now).sections processors.old.items
+    requires way { AreAtRunSteps cluster.now (plan_of script.now).sections processors.old.items
         all.old.items }
-    ensures way { OnOk result (AreAtSteps cluster.now (plan_of script.now).sections processors.new.items
+    ensures way { OnOk result (AreAtRunSteps cluster.now (plan_of script.now).sections processors.new.items
         all.new.items) }
     ensures turn { IfOk result (λ moved. moved ≡ true → IsTurnOfRun (plan_of script.now).sections p
         processors.old.items processors.new.items all.old.items all.new.items) }
-    ensures vain { IfOk result (λ moved. moved ≡ false → AreSeenAfterTurns processors.old.items processors.new.items
+    ensures vain { IfOk result (λ moved. moved ≡ false → AreRunTurnsSeenAhead processors.old.items processors.new.items
         × (all.new.items ≡ all.old.items)) }
     ensures err { IfErr result (λ fault. fault.cause ≢ cause.Stuck) }
 {
     if p >= processors.len() {
         return Ok(false);
     }
-    let moved = turn_at(rt, cluster, processors, all, script, p)?;
+    let moved = run_step_at(rt, cluster, processors, all, script, p)?;
     Ok(moved)
 }

@@ -1,11 +1,11 @@
 //! All processors by turns on one thread, as a schedule has them.
 ghost use Rattle.std.specs.Prelude.{◌≡◌, ◌≢◌, ◌<◌, ◌≤◌, ◌^◌, IfErr, IfOk, OnOk, vec_len};
 ghost use Rattle.lrc_script.specs.Prelude.{IsLawful, plan_of};
-ghost use Rattle.conformance.specs.Prelude.{IsEndByTurns, IsScheduleFault, plan_sizes, scheduled};
+ghost use Rattle.conformance.specs.Prelude.{IsEndByOrderedTurns, IsScheduleFault, plan_sizes, schedule_orders};
 ghost use Rattle.conformance.specs.declared.schedule.Misfit.TheVariants as misfit;
-ghost use Rattle.lrc_run.specs.Prelude.{AreAtSteps, AreTaken, IsScheduledTurnFault, IsTurnOfRun};
+ghost use Rattle.lrc_run.specs.Prelude.{AreAtRunSteps, AreRunTurnsTaken, IsScheduledTurnFault, IsTurnOfRun};
 
-use super::{beginnings, end_run, go_round, have_passed, new_cluster, turn_at};
+use super::{beginnings, go_round, have_passed, run_step_at, run_steps_cluster, run_steps_result};
 use cluster::{BookLock, BookTurn, Cluster, Processor};
 use conformance::{Ended, Misfit, Schedule, ScheduleFault, TurnProgress};
 use lrc_script::script::Script;
@@ -17,7 +17,7 @@ use std::sync::Wait;
 ///
 /// The fault is [`Misfit`](ScheduleFault::Misfit) at the first turn of the schedule that isn't one of the script's: its
 /// number is no processor's, or its processor doesn't get on in it; else a call's refusal as `step_as_far` tells it.
-pub fn step_by<R: Wait>(
+pub fn step_scheduled<R: Wait>(
     rt: &R,
     alloc: Global,
     script: &Script,
@@ -25,14 +25,14 @@ pub fn step_by<R: Wait>(
 ) -> Result<Ended, ScheduleFault>
     requires { IsLawful (plan_of script.now) }
     ensures end { IfOk result
-        (IsEndByTurns (plan_of script.now) (scheduled (plan_of script.now) schedule.now.turns.items)) }
+        (IsEndByOrderedTurns (plan_of script.now) (schedule_orders (plan_of script.now) schedule.now.turns.items)) }
     ensures fault { IfErr result (IsScheduleFault (plan_of script.now) schedule.now.turns.items) }
 {
-    step_by_with::<BookLock, R>(rt, alloc, script, schedule)
+    step_scheduled_with::<BookLock, R>(rt, alloc, script, schedule)
 }
 
 /// The same with a lock of the caller's choice round the book.
-pub fn step_by_with<T: BookTurn + Drop, R: Wait>(
+pub fn step_scheduled_with<T: BookTurn + Drop, R: Wait>(
     rt: &R,
     alloc: Global,
     script: &Script,
@@ -41,12 +41,12 @@ pub fn step_by_with<T: BookTurn + Drop, R: Wait>(
     requires entries { T.ENTRIES ≤ 2 ^ 40 }
     requires lawful { IsLawful (plan_of script.now) }
     ensures end { IfOk result
-        (IsEndByTurns (plan_of script.now) (scheduled (plan_of script.now) schedule.now.turns.items)) }
+        (IsEndByOrderedTurns (plan_of script.now) (schedule_orders (plan_of script.now) schedule.now.turns.items)) }
     ensures fault { IfErr result (IsScheduleFault (plan_of script.now) schedule.now.turns.items) }
 {
-    let (cluster, mut processors) = new_cluster::<T>(alloc, script)?;
+    let (cluster, mut processors) = run_steps_cluster::<T>(alloc, script)?;
     let mut all = beginnings(alloc, processors.len())?;
-    follow(
+    follow_scheduled_steps(
         rt,
         &cluster,
         &mut processors,
@@ -55,11 +55,11 @@ pub fn step_by_with<T: BookTurn + Drop, R: Wait>(
         &schedule.turns,
     )?;
     let passed = go_round(rt, alloc, &cluster, &mut processors, &mut all, script, None)?;
-    Ok(end_run(rt, alloc, cluster, processors, &all, script, passed)?)
+    Ok(run_steps_result(rt, alloc, cluster, processors, &all, script, passed)?)
 }
 
 /// The turns of a schedule, one after another. Each has to be one in which its processor gets on.
-fn follow<T: BookTurn, R: Wait>(
+fn follow_scheduled_steps<T: BookTurn, R: Wait>(
     rt: &R,
     cluster: &Cluster<T>,
     processors: &mut Vec<Processor<T>>,
@@ -69,16 +69,16 @@ fn follow<T: BookTurn, R: Wait>(
 ) -> Result<(), ScheduleFault>
     requires lawful { IsLawful (plan_of script.now) }
     requires sizes { cluster.now.sizes ≡ plan_sizes (plan_of script.now) }
-    requires way { AreAtSteps cluster.now (plan_of script.now).sections processors.old.items
+    requires way { AreAtRunSteps cluster.now (plan_of script.now).sections processors.old.items
         all.old.items }
-    ensures way { OnOk result (AreAtSteps cluster.now (plan_of script.now).sections processors.new.items
+    ensures way { OnOk result (AreAtRunSteps cluster.now (plan_of script.now).sections processors.new.items
         all.new.items) }
-    ensures taken { OnOk result (AreTaken (plan_of script.now).sections turns.now
+    ensures taken { OnOk result (AreRunTurnsTaken (plan_of script.now).sections turns.now
         processors.old.items processors.new.items all.old.items all.new.items) }
     ensures fault { IfErr result (IsScheduleFault (plan_of script.now) turns.now) }
 {
     for place in 0..turns.len() {
-        match follow_at(rt, cluster, processors, all, script, place, turns[place]) {
+        match follow_scheduled_step_at(rt, cluster, processors, all, script, place, turns[place]) {
             Ok(()) => {}
             Err(fault) => return Err(fault),
         }
@@ -87,7 +87,7 @@ fn follow<T: BookTurn, R: Wait>(
 }
 
 /// The turn of processor `p`, which the schedule has at this place.
-fn follow_at<T: BookTurn, R: Wait>(
+fn follow_scheduled_step_at<T: BookTurn, R: Wait>(
     rt: &R,
     cluster: &Cluster<T>,
     processors: &mut Vec<Processor<T>>,
@@ -98,7 +98,7 @@ fn follow_at<T: BookTurn, R: Wait>(
 ) -> Result<(), ScheduleFault>
     requires lawful { IsLawful (plan_of script.now) }
     requires sizes { cluster.now.sizes ≡ plan_sizes (plan_of script.now) }
-    requires way { AreAtSteps cluster.now (plan_of script.now).sections processors.old.items
+    requires way { AreAtRunSteps cluster.now (plan_of script.now).sections processors.old.items
         all.old.items }
     requires few { place < 2 ^ 63 }
     ensures long { vec_len processors.new ≡ vec_len processors.old }
@@ -109,7 +109,7 @@ fn follow_at<T: BookTurn, R: Wait>(
     if p >= processors.len() {
         return Err(ScheduleFault::Misfit(place + 1, Misfit::NoProcessor));
     }
-    if turn_at(rt, cluster, processors, all, script, p)? {
+    if run_step_at(rt, cluster, processors, all, script, p)? {
         return Ok(());
     }
     Err(ScheduleFault::Misfit(place + 1, in_vain(all.as_slice(), all[p])))

@@ -1,9 +1,9 @@
 //! A processor's turn.
 ghost use Rattle.std.specs.Prelude.{◌≡◌, IfOk, false};
-ghost use Rattle.cluster.specs.Taking.{IsTakeLate};
-ghost use Rattle.lrc_run.specs.Prelude.{IsOnItsWay, SeesOnlyMore, TakesTurn, instruction_at_turn, progress_after_turn};
+ghost use Rattle.cluster.specs.TakingCalls.{IsTakingCallLate};
+ghost use Rattle.lrc_run.specs.Prelude.{IsRunCallUnderway, HasOnlySeenRunTurns, RunTurnMakes, script_turn_instruction, script_turn_progress_after};
 
-use crate::walk::{begin, end};
+use crate::walk::{begin_walk_instruction, end};
 use book::Refused;
 use cluster::{BookTurn, Cluster, Processor};
 use conformance::TurnProgress;
@@ -12,7 +12,7 @@ use std::sync::Wait;
 
 /// The instruction at this place of the section, or the closing barrier after the last.
 fn instruction_at_turn(section: &[Instruction], n: usize) -> Instruction
-    ensures { result ≡ instruction_at_turn section.now n }
+    ensures { result ≡ script_turn_instruction section.now n }
 {
     match section.get(n) {
         Some(instruction) => *instruction,
@@ -22,7 +22,7 @@ fn instruction_at_turn(section: &[Instruction], n: usize) -> Instruction
 
 /// Where the processor is after its instruction `n` was done, or begun.
 fn progress_after_turn(section: &[Instruction], n: usize, done: bool) -> TurnProgress
-    ensures { result ≡ progress_after_turn section.now n done }
+    ensures { result ≡ script_turn_progress_after section.now n done }
 {
     if !done {
         TurnProgress::Waits(n)
@@ -35,7 +35,7 @@ fn progress_after_turn(section: &[Instruction], n: usize, done: bool) -> TurnPro
 
 /// A turn: does the next instruction, or looks once for what the processor waits for. Answers where it is then,
 /// and whether it did more than to look in vain. Refused as its calls are.
-pub(crate) fn take_turn<T: BookTurn, R: Wait>(
+pub(crate) fn make_run_turn<T: BookTurn, R: Wait>(
     rt: &R,
     cluster: &Cluster<T>,
     processor: &mut Processor<T>,
@@ -43,8 +43,8 @@ pub(crate) fn take_turn<T: BookTurn, R: Wait>(
     progress: TurnProgress,
 ) -> Result<(TurnProgress, bool), Refused>
     requires own { processor.old.lock ≡ cluster.now.lock }
-    ensures turn { IfOk result (λ r. TakesTurn section.now processor.old progress processor.new r.0) }
-    ensures vain { IfOk result (λ r. r.1 ≡ false → SeesOnlyMore processor.old processor.new × (r.0 ≡ progress)) }
+    ensures turn { IfOk result (λ r. RunTurnMakes section.now processor.old progress processor.new r.0) }
+    ensures vain { IfOk result (λ r. r.1 ≡ false → HasOnlySeenRunTurns processor.old processor.new × (r.0 ≡ progress)) }
 {
     match progress {
         TurnProgress::Next(n) => {
@@ -67,10 +67,10 @@ fn go_on_with_turn<T: BookTurn, R: Wait>(
     instruction: Instruction,
 ) -> Result<bool, Refused>
     requires own { processor.old.lock ≡ cluster.now.lock }
-    ensures way { IfOk result (λ done. IsOnItsWay processor.old processor.new instruction done) }
-    ensures late { IfOk result (λ done. done ≡ false → IsTakeLate processor.new) }
+    ensures way { IfOk result (λ done. IsRunCallUnderway processor.old processor.new instruction done) }
+    ensures late { IfOk result (λ done. done ≡ false → IsTakingCallLate processor.new) }
 {
-    if begin(rt, cluster, processor, instruction)? {
+    if begin_walk_instruction(rt, cluster, processor, instruction)? {
         return Ok(true);
     }
     end(rt, cluster, processor)

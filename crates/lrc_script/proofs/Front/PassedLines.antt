@@ -8,41 +8,41 @@ use Rattle.std.proofs.lemmas.List.{append-nil, length-append}
 use Rattle.std.proofs.lemmas.List.Elements.{recursion_from_All, All-from_recursion, All-weaker}
 use Rattle.lrc_script.specs.declared.script.Instruction.{Instruction}
 use Rattle.lrc_script.specs.declared.script.Instruction.TheVariants as instruction
-use Rattle.lrc_script.specs.declared.line.Keyword.TheVariants as keyword
-use Rattle.lrc_script.specs.Plan.{Plan, head_plan}
+use Rattle.lrc_script.specs.declared.line.LineKeyword.TheVariants as keyword
+use Rattle.lrc_script.specs.Plan.{Plan, plan_of_sizes}
 use Rattle.lrc_script.specs.Lawful.{plan_addresses, AreLawfulSizes, IsInstructionInRange, IsLawfulAfter, IsLawfulSection, IsLawfulButUneven}
-use Rattle.lrc_script.specs.Text.{ScriptLine, cluster_line, section_line, instruction_line, show_line, section_lines, lines_of}
-use Rattle.lrc_script.specs.Front.{Front, Nothing, Headed, Within, Whole, IsLawfulFront, IsHeadedFront, LawfulSoFar, front_lines}
-use Rattle.lrc_script.specs.LineReading.{are_read_sizes, line_refusal, section_closed, read_step}
-use Rattle.lrc_script.proofs.Reading.Numbers.{AreWordNumbers}
-use Rattle.lrc_script.proofs.Reading.Lines.{LinePasses, line_passes}
-use Rattle.lrc_script.proofs.Lawful.{sizes_test, sizes_small, sizes_over, lawful_section_over, with_sections, lawful_section_with, sizes_with}
-use Rattle.lrc_script.proofs.Front.RunLines.{LinesPass, LinesPass-append}
+use Rattle.lrc_script.specs.ScriptLines.{ScriptLine, script_cluster_line, script_section_line, script_instruction_line, script_show_line, script_section_lines, script_lines_of}
+use Rattle.lrc_script.specs.ScriptFront.{ScriptFront, Nothing, Headed, Within, Whole, IsScriptFrontLawful, IsScriptFrontHeaded, IsScriptFrontLawfulWithin, script_front_lines}
+use Rattle.lrc_script.specs.LineReading.{are_line_read_sizes, line_read_refusal, line_read_section_closed, line_read_step}
+use Rattle.lrc_script.proofs.Reading.DecimalNumbers.{AreDecimalNumbers}
+use Rattle.lrc_script.proofs.Reading.KeywordLines.{KeywordLinePasses, keyword_line_passes}
+use Rattle.lrc_script.proofs.LawfulSizes.{lawful_sizes_test, lawful_sizes_small, lawful_sizes_over, lawful_sizes_section_over, lawful_sizes_with_sections, lawful_sizes_section_with, lawful_sizes_with}
+use Rattle.lrc_script.proofs.Front.RunLines.{RunLinesPass, RunLinesPass-append}
 
-pub headed_front_is : (s : Plan) → IsHeadedFront s → s ≡ head_plan s.processors s.pages s.words s.locks s.flags
-headed_front_is s h =
+pub passed_lines_headed_front : (s : Plan) → IsScriptFrontHeaded s → s ≡ plan_of_sizes s.processors s.pages s.words s.locks s.flags
+passed_lines_headed_front s h =
     ap (λ (x : List (List Instruction)). record s { sections = x }) h.no_sections
     ∙ ap (λ (x : List ℕ). record s { sections = []; shown = x }) h.none_shown
 
-head_plan_passes : (p n w l g : ℕ) (b : Bool) → eqb g 0 ≡ b → AreLawfulSizes (head_plan p n w l g)
-    → LinePasses Nothing (record { word = codes "cluster"; numbers = p ∷ n ∷ w ∷ l ∷ cond b [] (g ∷ []) })
-    (Headed (head_plan p n w l g))
-unfolding read_step
-head_plan_passes p n w l g true e h =
-    let small = sizes_small (head_plan p n w l g) h in
+passed_line_of_sizes : (p n w l g : ℕ) (b : Bool) → eqb g 0 ≡ b → AreLawfulSizes (plan_of_sizes p n w l g)
+    → KeywordLinePasses Nothing (record { word = codes "cluster"; numbers = p ∷ n ∷ w ∷ l ∷ cond b [] (g ∷ []) })
+    (Headed (plan_of_sizes p n w l g))
+unfolding line_read_step
+passed_line_of_sizes p n w l g true e h =
+    let small = lawful_sizes_small (plan_of_sizes p n w l g) h in
     let none : g ≡ 0 = eqb-true g 0 e in
-    let test : are_read_sizes (head_plan p n w l 0) ≡ true =
-    subst (λ (x : ℕ). are_read_sizes (head_plan p n w l x) ≡ true) none (sizes_test (head_plan p n w l g) h) in
-    line_passes Nothing (Headed (head_plan p n w l g)) keyword.Cluster (codes "cluster") refl refl (
+    let test : are_line_read_sizes (plan_of_sizes p n w l 0) ≡ true =
+    subst (λ (x : ℕ). are_line_read_sizes (plan_of_sizes p n w l x) ≡ true) none (lawful_sizes_test (plan_of_sizes p n w l g) h) in
+    keyword_line_passes Nothing (Headed (plan_of_sizes p n w l g)) keyword.Cluster (codes "cluster") refl refl (
       omega (arith, small.processors),
       (omega (arith, small.pages), (omega (arith, small.words), (omega (arith, small.locks), tt))),
     )
     refl
     (rw (test, none) refl)
-head_plan_passes p n w l g false e h =
-    let small = sizes_small (head_plan p n w l g) h in
+passed_line_of_sizes p n w l g false e h =
+    let small = lawful_sizes_small (plan_of_sizes p n w l g) h in
     let some : ltb 0 g ≡ true = grind (arith, nat_tests, e) in
-    line_passes Nothing (Headed (head_plan p n w l g)) keyword.Cluster (codes "cluster") refl refl (
+    keyword_line_passes Nothing (Headed (plan_of_sizes p n w l g)) keyword.Cluster (codes "cluster") refl refl (
       omega (arith, small.processors),
       (
         omega (arith, small.pages),
@@ -50,159 +50,159 @@ head_plan_passes p n w l g false e h =
       ),
     )
     refl
-    (rw (some, sizes_test (head_plan p n w l g) h) refl)
+    (rw (some, lawful_sizes_test (plan_of_sizes p n w l g) h) refl)
 
 -- the cluster line
-pub head_passes : (s : Plan) → IsHeadedFront s → LinePasses Nothing (cluster_line s) (Headed s)
-head_passes s h =
-    let plan = head_plan s.processors s.pages s.words s.locks s.flags in
-    subst (λ (x : Plan). LinePasses Nothing (cluster_line x) (Headed x)) (sym (headed_front_is s h)) (head_plan_passes s.processors
-    s.pages s.words s.locks s.flags (eqb s.flags 0) refl (subst AreLawfulSizes (headed_front_is s h) h.sizes))
+pub passed_line_of_cluster : (s : Plan) → IsScriptFrontHeaded s → KeywordLinePasses Nothing (script_cluster_line s) (Headed s)
+passed_line_of_cluster s h =
+    let plan = plan_of_sizes s.processors s.pages s.words s.locks s.flags in
+    subst (λ (x : Plan). KeywordLinePasses Nothing (script_cluster_line x) (Headed x)) (sym (passed_lines_headed_front s h)) (passed_line_of_sizes s.processors
+    s.pages s.words s.locks s.flags (eqb s.flags 0) refl (subst AreLawfulSizes (passed_lines_headed_front s h) h.sizes))
 
 -- no test refuses an instruction that may stand behind these
-passes_unrefused : (s : Plan) (before : List Instruction) (i : Instruction) → IsInstructionInRange s i → IsLawfulAfter before i
-    → length before < 10000 → line_refusal s before i ≡ None
-passes_unrefused s before (instruction.Load a) range may room =
+passed_line_unrefused : (s : Plan) (before : List Instruction) (i : Instruction) → IsInstructionInRange s i → IsLawfulAfter before i
+    → length before < 10000 → line_read_refusal s before i ≡ None
+passed_line_unrefused s before (instruction.Load a) range may room =
     let below : leb (plan_addresses s) a ≡ false = grind (arith, nat_tests, range) in
     let fits : leb 10000 (length before) ≡ false = grind (arith, nat_tests, room) in
     rw (below, fits) refl
-passes_unrefused s before (instruction.Store a v) range may room =
+passed_line_unrefused s before (instruction.Store a v) range may room =
     let below : leb (plan_addresses s) a ≡ false = grind (arith, nat_tests, range.0) in
     let fits : leb 10000 (length before) ≡ false = grind (arith, nat_tests, room) in
     rw (below, fits) refl
-passes_unrefused s before (instruction.Add a v) range may room =
+passed_line_unrefused s before (instruction.Add a v) range may room =
     let below : leb (plan_addresses s) a ≡ false = grind (arith, nat_tests, range.0) in
     let fits : leb 10000 (length before) ≡ false = grind (arith, nat_tests, room) in
     rw (below, fits) refl
-passes_unrefused s before (instruction.Acquire l) range may room =
+passed_line_unrefused s before (instruction.Acquire l) range may room =
     let below : leb s.locks l ≡ false = grind (arith, nat_tests, range) in
     let fits : leb 10000 (length before) ≡ false = grind (arith, nat_tests, room) in
     rw (below, may, fits) refl
-passes_unrefused s before (instruction.Release l) range may room =
+passed_line_unrefused s before (instruction.Release l) range may room =
     let below : leb s.locks l ≡ false = grind (arith, nat_tests, range) in
     let fits : leb 10000 (length before) ≡ false = grind (arith, nat_tests, room) in
     rw (below, may, fits) refl
-passes_unrefused s before instruction.Barrier range may room =
+passed_line_unrefused s before instruction.Barrier range may room =
     let fits : leb 10000 (length before) ≡ false = grind (arith, nat_tests, room) in
     rw fits refl
-passes_unrefused s before (instruction.Set f) range may room =
+passed_line_unrefused s before (instruction.Set f) range may room =
     let below : leb s.flags f ≡ false = grind (arith, nat_tests, range) in
     let fits : leb 10000 (length before) ≡ false = grind (arith, nat_tests, room) in
     rw (below, fits) refl
-passes_unrefused s before (instruction.Await f) range may room =
+passed_line_unrefused s before (instruction.Await f) range may room =
     let below : leb s.flags f ≡ false = grind (arith, nat_tests, range) in
     let fits : leb 10000 (length before) ≡ false = grind (arith, nat_tests, room) in
     rw (below, fits) refl
-passes_unrefused s before instruction.Cut range may room =
+passed_line_unrefused s before instruction.Cut range may room =
     let fits : leb 10000 (length before) ≡ false = grind (arith, nat_tests, room) in
     rw fits refl
 
 -- an instruction that may stand behind these
-pub instruction_passes : (s : Plan) (before : List Instruction) (i : Instruction) → AreLawfulSizes s → IsInstructionInRange s i
+pub passed_line_instruction : (s : Plan) (before : List Instruction) (i : Instruction) → AreLawfulSizes s → IsInstructionInRange s i
     → IsLawfulAfter before i → length before < 10000
-    → LinePasses (Within s before) (instruction_line i) (Within s (before ++ i ∷ []))
-unfolding read_step
-instruction_passes s before (instruction.Load a) sizes range may room =
-    let small = sizes_small s sizes in
-    line_passes (Within s before) _ keyword.Load (codes "load") refl refl
+    → KeywordLinePasses (Within s before) (script_instruction_line i) (Within s (before ++ i ∷ []))
+unfolding line_read_step
+passed_line_instruction s before (instruction.Load a) sizes range may room =
+    let small = lawful_sizes_small s sizes in
+    keyword_line_passes (Within s before) _ keyword.Load (codes "load") refl refl
     (omega (arith, small.addresses_fit, range), tt) refl
-    (rw (passes_unrefused s before (instruction.Load a) range may room) refl)
-instruction_passes s before (instruction.Store a v) sizes range may room =
-    let small = sizes_small s sizes in
-    line_passes (Within s before) _ keyword.Store (codes "store") refl refl
+    (rw (passed_line_unrefused s before (instruction.Load a) range may room) refl)
+passed_line_instruction s before (instruction.Store a v) sizes range may room =
+    let small = lawful_sizes_small s sizes in
+    keyword_line_passes (Within s before) _ keyword.Store (codes "store") refl refl
     (omega (arith, small.addresses_fit, range.0), (range.1, tt)) refl
-    (rw (passes_unrefused s before (instruction.Store a v) range may room) refl)
-instruction_passes s before (instruction.Add a v) sizes range may room =
-    let small = sizes_small s sizes in
-    line_passes (Within s before) _ keyword.Add (codes "add") refl refl
+    (rw (passed_line_unrefused s before (instruction.Store a v) range may room) refl)
+passed_line_instruction s before (instruction.Add a v) sizes range may room =
+    let small = lawful_sizes_small s sizes in
+    keyword_line_passes (Within s before) _ keyword.Add (codes "add") refl refl
     (omega (arith, small.addresses_fit, range.0), (range.1, tt)) refl
-    (rw (passes_unrefused s before (instruction.Add a v) range may room) refl)
-instruction_passes s before (instruction.Acquire l) sizes range may room =
-    let small = sizes_small s sizes in
-    line_passes (Within s before) _ keyword.Acquire (codes "acquire") refl refl
+    (rw (passed_line_unrefused s before (instruction.Add a v) range may room) refl)
+passed_line_instruction s before (instruction.Acquire l) sizes range may room =
+    let small = lawful_sizes_small s sizes in
+    keyword_line_passes (Within s before) _ keyword.Acquire (codes "acquire") refl refl
     (omega (arith, small.locks, range), tt) refl
-    (rw (passes_unrefused s before (instruction.Acquire l) range may room) refl)
-instruction_passes s before (instruction.Release l) sizes range may room =
-    let small = sizes_small s sizes in
-    line_passes (Within s before) _ keyword.Release (codes "release") refl refl
+    (rw (passed_line_unrefused s before (instruction.Acquire l) range may room) refl)
+passed_line_instruction s before (instruction.Release l) sizes range may room =
+    let small = lawful_sizes_small s sizes in
+    keyword_line_passes (Within s before) _ keyword.Release (codes "release") refl refl
     (omega (arith, small.locks, range), tt) refl
-    (rw (passes_unrefused s before (instruction.Release l) range may room) refl)
-instruction_passes s before instruction.Barrier sizes range may room =
-    let small = sizes_small s sizes in
-    line_passes (Within s before) _ keyword.Barrier (codes "barrier") refl refl tt refl
-    (rw (passes_unrefused s before instruction.Barrier range may room) refl)
-instruction_passes s before (instruction.Set f) sizes range may room =
-    let small = sizes_small s sizes in
-    line_passes (Within s before) _ keyword.Set (codes "set") refl refl (omega (arith, small.flags, range), tt) refl
-    (rw (passes_unrefused s before (instruction.Set f) range may room) refl)
-instruction_passes s before (instruction.Await f) sizes range may room =
-    let small = sizes_small s sizes in
-    line_passes (Within s before) _ keyword.Await (codes "await") refl refl (omega (arith, small.flags, range), tt)
-    refl (rw (passes_unrefused s before (instruction.Await f) range may room) refl)
-instruction_passes s before instruction.Cut sizes range may room =
-    let small = sizes_small s sizes in
-    line_passes (Within s before) _ keyword.Cut (codes "cut") refl refl tt refl
-    (rw (passes_unrefused s before instruction.Cut range may room) refl)
+    (rw (passed_line_unrefused s before (instruction.Release l) range may room) refl)
+passed_line_instruction s before instruction.Barrier sizes range may room =
+    let small = lawful_sizes_small s sizes in
+    keyword_line_passes (Within s before) _ keyword.Barrier (codes "barrier") refl refl tt refl
+    (rw (passed_line_unrefused s before instruction.Barrier range may room) refl)
+passed_line_instruction s before (instruction.Set f) sizes range may room =
+    let small = lawful_sizes_small s sizes in
+    keyword_line_passes (Within s before) _ keyword.Set (codes "set") refl refl (omega (arith, small.flags, range), tt) refl
+    (rw (passed_line_unrefused s before (instruction.Set f) range may room) refl)
+passed_line_instruction s before (instruction.Await f) sizes range may room =
+    let small = lawful_sizes_small s sizes in
+    keyword_line_passes (Within s before) _ keyword.Await (codes "await") refl refl (omega (arith, small.flags, range), tt)
+    refl (rw (passed_line_unrefused s before (instruction.Await f) range may room) refl)
+passed_line_instruction s before instruction.Cut sizes range may room =
+    let small = lawful_sizes_small s sizes in
+    keyword_line_passes (Within s before) _ keyword.Cut (codes "cut") refl refl tt refl
+    (rw (passed_line_unrefused s before instruction.Cut range may room) refl)
 
-section_line_passes : (s : Plan) (is : List Instruction) → AreLawfulSizes s → suc (length s.sections) < s.processors
-    → LinePasses (Within s is) (section_line (suc (length s.sections))) (Within (section_closed s is) [])
-unfolding read_step
-section_line_passes s is sizes lt =
-    let small = sizes_small s sizes in
+passed_line_next_section : (s : Plan) (is : List Instruction) → AreLawfulSizes s → suc (length s.sections) < s.processors
+    → KeywordLinePasses (Within s is) (script_section_line (suc (length s.sections))) (Within (line_read_section_closed s is) [])
+unfolding line_read_step
+passed_line_next_section s is sizes lt =
+    let small = lawful_sizes_small s sizes in
     let next : (eqb (suc (length s.sections)) (length s.sections + 1) && ltb (suc (length s.sections)) s.processors)
     ≡ true =
     grind (arith, nat_tests, lt) in
-    line_passes (Within s is) (Within (section_closed s is) []) keyword.Section (codes "p") refl refl
+    keyword_line_passes (Within s is) (Within (line_read_section_closed s is) []) keyword.Section (codes "p") refl refl
     (omega (arith, small.processors, lt), tt) refl (rw next refl)
 
-first_section_passes : (s : Plan) → AreLawfulSizes s → LinePasses (Headed s) (section_line 0) (Within s [])
-unfolding read_step
-first_section_passes s sizes =
-    line_passes (Headed s) (Within s []) keyword.Section (codes "p") refl refl (omega arith, tt) refl refl
+passed_line_first_section : (s : Plan) → AreLawfulSizes s → KeywordLinePasses (Headed s) (script_section_line 0) (Within s [])
+unfolding line_read_step
+passed_line_first_section s sizes =
+    keyword_line_passes (Headed s) (Within s []) keyword.Section (codes "p") refl refl (omega arith, tt) refl refl
 
-all_below : (n : ℕ) (xs : List ℕ) → AllByRecursion (λ a. a < n) xs → list_any (λ a. leb n a) xs ≡ false
-all_below n [] h = refl
-all_below n (x ∷ xs) h =
+passed_lines_all_below : (n : ℕ) (xs : List ℕ) → AllByRecursion (λ a. a < n) xs → list_any (λ a. leb n a) xs ≡ false
+passed_lines_all_below n [] h = refl
+passed_lines_all_below n (x ∷ xs) h =
     let lt = h.0 in
     let first : leb n x ≡ false = grind (arith, nat_tests, lt) in
-    rw (first, all_below n xs h.1) refl
+    rw (first, passed_lines_all_below n xs h.1) refl
 
-all_words : (n : ℕ) (xs : List ℕ) → n ≤ 4096 → AllByRecursion (λ a. a < n) xs → AreWordNumbers xs
-all_words n [] le h = tt
-all_words n (x ∷ xs) le h = (omega (arith, h.0), all_words n xs le h.1)
+passed_lines_all_words : (n : ℕ) (xs : List ℕ) → n ≤ 4096 → AllByRecursion (λ a. a < n) xs → AreDecimalNumbers xs
+passed_lines_all_words n [] le h = tt
+passed_lines_all_words n (x ∷ xs) le h = (omega (arith, h.0), passed_lines_all_words n xs le h.1)
 
-show_line_passes : (s : Plan) (is : List Instruction) (shown : List ℕ) → AreLawfulSizes s → suc (length s.sections) ≡ s.processors
+passed_line_shown : (s : Plan) (is : List Instruction) (shown : List ℕ) → AreLawfulSizes s → suc (length s.sections) ≡ s.processors
     → 1 ≤ length shown → length shown ≤ 64 → All (λ a. a < plan_addresses s) shown
-    → LinePasses (Within s is) (show_line shown) (Whole (record (section_closed s is) { shown = shown }))
-unfolding read_step
-show_line_passes s is shown sizes one_each some most below =
-    let small = sizes_small s sizes in
+    → KeywordLinePasses (Within s is) (script_show_line shown) (Whole (record (line_read_section_closed s is) { shown = shown }))
+unfolding line_read_step
+passed_line_shown s is shown sizes one_each some most below =
+    let small = lawful_sizes_small s sizes in
     let each = recursion_from_All (λ a. a < plan_addresses s) shown below in
     let due : (leb 1 (length shown) && eqb (length s.sections + 1) s.processors) ≡ true =
     grind (arith, nat_tests, some, one_each) in
     let few : ltb 64 (length shown) ≡ false = grind (arith, nat_tests, most) in
-    line_passes (Within s is) (Whole (record (section_closed s is) { shown = shown })) keyword.Show (codes "show") refl refl
-    (all_words (plan_addresses s) shown small.addresses_fit each) due
-    (rw (all_below (plan_addresses s) shown each, few) refl)
+    keyword_line_passes (Within s is) (Whole (record (line_read_section_closed s is) { shown = shown })) keyword.Show (codes "show") refl refl
+    (passed_lines_all_words (plan_addresses s) shown small.addresses_fit each) due
+    (rw (passed_lines_all_below (plan_addresses s) shown each, few) refl)
 
 -- ---- whole sections
 
 -- what each instruction of a list needs
-abbrev pub LinesStandAfter : Plan → List Instruction → List Instruction → Type 0
-LinesStandAfter s before after = AllByRecursion (IsInstructionInRange s) after × (length before + length after ≤ 10000)
+abbrev pub PassedLinesStandAfter : Plan → List Instruction → List Instruction → Type 0
+PassedLinesStandAfter s before after = AllByRecursion (IsInstructionInRange s) after × (length before + length after ≤ 10000)
     × ((front : List Instruction) (i : Instruction) (back : List Instruction) → after ≡ front ++ i ∷ back
     → IsLawfulAfter (before ++ front) i)
 
-instruction_lines_pass : (s : Plan) (before after : List Instruction) → AreLawfulSizes s → LinesStandAfter s before after
-    → LinesPass (Within s before) (map instruction_line after) (Within s (before ++ after))
-instruction_lines_pass s before [] sizes h = ap (λ (is : List Instruction). Within s is) (sym (append-nil before))
-instruction_lines_pass s before (i ∷ after) sizes h =
+passed_lines_instructions : (s : Plan) (before after : List Instruction) → AreLawfulSizes s → PassedLinesStandAfter s before after
+    → RunLinesPass (Within s before) (map script_instruction_line after) (Within s (before ++ after))
+passed_lines_instructions s before [] sizes h = ap (λ (is : List Instruction). Within s is) (sym (append-nil before))
+passed_lines_instructions s before (i ∷ after) sizes h =
     let first =
-    instruction_passes s before i sizes h.0.0
+    passed_line_instruction s before i sizes h.0.0
     (subst (λ (is : List Instruction). IsLawfulAfter is i) (append-nil before) (h.2 [] i after refl))
     (omega (arith, h.1)) in
     let rest =
-    instruction_lines_pass s (before ++ i ∷ []) after sizes (
+    passed_lines_instructions s (before ++ i ∷ []) after sizes (
       h.0.1,
       omega (arith, h.1, length-append before (i ∷ [])),
       λ front j back e. subst (λ (is : List Instruction). IsLawfulAfter is j)
@@ -212,90 +212,90 @@ instruction_lines_pass s before (i ∷ after) sizes h =
     in (
       Within s (before ++ i ∷ []),
       first,
-      subst (λ (is : List Instruction). LinesPass (Within s (before ++ i ∷ []))
-          (map instruction_line after) (Within s is))
+      subst (λ (is : List Instruction). RunLinesPass (Within s (before ++ i ∷ []))
+          (map script_instruction_line after) (Within s is))
           (append_assoc before (i ∷ []) after) rest,
     )
 
-section_passes : (s : Plan) (is : List Instruction) → AreLawfulSizes s → IsLawfulSection s is
-    → LinesPass (Within s []) (map instruction_line is) (Within s is)
-section_passes s is sizes h =
-    instruction_lines_pass s [] is sizes (recursion_from_All (IsInstructionInRange s) is h.in_range, omega (arith, h.most), h.holding)
+passed_lines_section : (s : Plan) (is : List Instruction) → AreLawfulSizes s → IsLawfulSection s is
+    → RunLinesPass (Within s []) (map script_instruction_line is) (Within s is)
+passed_lines_section s is sizes h =
+    passed_lines_instructions s [] is sizes (recursion_from_All (IsInstructionInRange s) is h.in_range, omega (arith, h.most), h.holding)
 
 -- the sections behind the one that is open
-next_section_lines_pass : (s : Plan) (done : List (List Instruction)) (open' : List Instruction)
+passed_lines_next_sections : (s : Plan) (done : List (List Instruction)) (open' : List Instruction)
     (rest : List (List Instruction)) (last : List Instruction)
     → AreLawfulSizes s → length done + length rest + 1 < s.processors → AllByRecursion (IsLawfulSection s) rest → IsLawfulSection s last
-    → LinesPass (Within (with_sections s done) open') (section_lines (suc (length done)) (rest ++ last ∷ []))
-    (Within (with_sections s (done ++ open' ∷ rest)) last)
-next_section_lines_pass s done open' [] last sizes room each h =
-    let head = section_line_passes (with_sections s done) open' (sizes_with s done sizes) (omega (arith, room)) in
-    let whole = with_sections s (done ++ open' ∷ []) in
+    → RunLinesPass (Within (lawful_sizes_with_sections s done) open') (script_section_lines (suc (length done)) (rest ++ last ∷ []))
+    (Within (lawful_sizes_with_sections s (done ++ open' ∷ rest)) last)
+passed_lines_next_sections s done open' [] last sizes room each h =
+    let head = passed_line_next_section (lawful_sizes_with_sections s done) open' (lawful_sizes_with s done sizes) (omega (arith, room)) in
+    let whole = lawful_sizes_with_sections s (done ++ open' ∷ []) in
     let body =
-    section_passes whole last (sizes_with s (done ++ open' ∷ []) sizes)
-    (lawful_section_with s (done ++ open' ∷ []) last h) in (
+    passed_lines_section whole last (lawful_sizes_with s (done ++ open' ∷ []) sizes)
+    (lawful_sizes_section_with s (done ++ open' ∷ []) last h) in (
       Within whole [],
       head,
-      subst (λ (ls : List ScriptLine). LinesPass (Within whole []) ls (Within whole last))
-          (sym (append-nil (map instruction_line last))) body,
+      subst (λ (ls : List ScriptLine). RunLinesPass (Within whole []) ls (Within whole last))
+          (sym (append-nil (map script_instruction_line last))) body,
     )
-next_section_lines_pass s done open' (is ∷ rest) last sizes room each h =
-    let head = section_line_passes (with_sections s done) open' (sizes_with s done sizes) (omega (arith, room)) in
+passed_lines_next_sections s done open' (is ∷ rest) last sizes room each h =
+    let head = passed_line_next_section (lawful_sizes_with_sections s done) open' (lawful_sizes_with s done sizes) (omega (arith, room)) in
     let now = done ++ open' ∷ [] in
-    let whole = with_sections s now in
-    let body = section_passes whole is (sizes_with s now sizes) (lawful_section_with s now is each.0) in
+    let whole = lawful_sizes_with_sections s now in
+    let body = passed_lines_section whole is (lawful_sizes_with s now sizes) (lawful_sizes_section_with s now is each.0) in
     let longer : length now ≡ suc (length done) = omega (arith, length-append done (open' ∷ [])) in
-    let others = next_section_lines_pass s now is rest last sizes (omega (arith, room, longer)) each.1 h in
+    let others = passed_lines_next_sections s now is rest last sizes (omega (arith, room, longer)) each.1 h in
     let others' =
-    subst (λ (n : ℕ). LinesPass (Within whole is) (section_lines (suc n) (rest ++ last ∷ []))
-    (Within (with_sections s (now ++ is ∷ rest)) last))
+    subst (λ (n : ℕ). RunLinesPass (Within whole is) (script_section_lines (suc n) (rest ++ last ∷ []))
+    (Within (lawful_sizes_with_sections s (now ++ is ∷ rest)) last))
     longer others in
     let both =
-    LinesPass-append (Within whole []) (Within whole is) (Within (with_sections s (now ++ is ∷ rest)) last)
-    (map instruction_line is) (section_lines (suc (suc (length done))) (rest ++ last ∷ [])) body others' in (
+    RunLinesPass-append (Within whole []) (Within whole is) (Within (lawful_sizes_with_sections s (now ++ is ∷ rest)) last)
+    (map script_instruction_line is) (script_section_lines (suc (suc (length done))) (rest ++ last ∷ [])) body others' in (
       Within whole [],
       head,
-      subst (λ (all : List (List Instruction)). LinesPass (Within whole [])
-          (map instruction_line is ++ section_lines (suc (suc (length done))) (rest ++ last ∷ []))
-          (Within (with_sections s all) last))
+      subst (λ (all : List (List Instruction)). RunLinesPass (Within whole [])
+          (map script_instruction_line is ++ script_section_lines (suc (suc (length done))) (rest ++ last ∷ []))
+          (Within (lawful_sizes_with_sections s all) last))
           (append_assoc done (open' ∷ []) (is ∷ rest)) both,
     )
 
 -- the sections of a script, the last of which may be open
-all_section_lines_pass : (s : Plan) (sections : List (List Instruction)) (last : List Instruction) → AreLawfulSizes s
+passed_lines_all_sections : (s : Plan) (sections : List (List Instruction)) (last : List Instruction) → AreLawfulSizes s
     → length sections < s.processors → AllByRecursion (IsLawfulSection s) sections → IsLawfulSection s last
-    → LinesPass (Headed (with_sections s [])) (section_lines 0 (sections ++ last ∷ []))
-    (Within (with_sections s sections) last)
-all_section_lines_pass s [] last sizes room each h =
-    let none = with_sections s [] in
-    let body = section_passes none last (sizes_with s [] sizes) (lawful_section_with s [] last h) in (
+    → RunLinesPass (Headed (lawful_sizes_with_sections s [])) (script_section_lines 0 (sections ++ last ∷ []))
+    (Within (lawful_sizes_with_sections s sections) last)
+passed_lines_all_sections s [] last sizes room each h =
+    let none = lawful_sizes_with_sections s [] in
+    let body = passed_lines_section none last (lawful_sizes_with s [] sizes) (lawful_sizes_section_with s [] last h) in (
       Within none [],
-      first_section_passes none (sizes_with s [] sizes),
+      passed_line_first_section none (lawful_sizes_with s [] sizes),
       subst
-          (λ (ls : List ScriptLine). LinesPass (Within none []) ls (Within none last))
-          (sym (append-nil (map instruction_line last))) body,
+          (λ (ls : List ScriptLine). RunLinesPass (Within none []) ls (Within none last))
+          (sym (append-nil (map script_instruction_line last))) body,
     )
-all_section_lines_pass s (is ∷ rest) last sizes room each h =
-    let none = with_sections s [] in
-    let body = section_passes none is (sizes_with s [] sizes) (lawful_section_with s [] is each.0) in
-    let others = next_section_lines_pass s [] is rest last sizes (omega (arith, room)) each.1 h in (
+passed_lines_all_sections s (is ∷ rest) last sizes room each h =
+    let none = lawful_sizes_with_sections s [] in
+    let body = passed_lines_section none is (lawful_sizes_with s [] sizes) (lawful_sizes_section_with s [] is each.0) in
+    let others = passed_lines_next_sections s [] is rest last sizes (omega (arith, room)) each.1 h in (
       Within none [],
-      first_section_passes none (sizes_with s [] sizes),
-      LinesPass-append (Within none []) (Within none is)
-          (Within (with_sections s (is ∷ rest)) last) (map instruction_line is)
-          (section_lines 1 (rest ++ last ∷ [])) body others,
+      passed_line_first_section none (lawful_sizes_with s [] sizes),
+      RunLinesPass-append (Within none []) (Within none is)
+          (Within (lawful_sizes_with_sections s (is ∷ rest)) last) (map script_instruction_line is)
+          (script_section_lines 1 (rest ++ last ∷ [])) body others,
     )
 
-headed_front_with : (s : Plan) → AreLawfulSizes s → s.shown ≡ [] → IsHeadedFront (with_sections s [])
-headed_front_with s sizes none = record { sizes = sizes_with s [] sizes; no_sections = refl; none_shown = none }
+passed_lines_headed_front_with : (s : Plan) → AreLawfulSizes s → s.shown ≡ [] → IsScriptFrontHeaded (lawful_sizes_with_sections s [])
+passed_lines_headed_front_with s sizes none = record { sizes = lawful_sizes_with s [] sizes; no_sections = refl; none_shown = none }
 
-within_passes : (s : Plan) (is : List Instruction) → LawfulSoFar s is
-    → LinesPass Nothing (front_lines (Within s is)) (Within s is)
-within_passes s is h =
-    let head = head_passes (with_sections s []) (headed_front_with s h.sizes h.none_shown) in (
-      Headed (with_sections s []),
+passed_lines_within : (s : Plan) (is : List Instruction) → IsScriptFrontLawfulWithin s is
+    → RunLinesPass Nothing (script_front_lines (Within s is)) (Within s is)
+passed_lines_within s is h =
+    let head = passed_line_of_cluster (lawful_sizes_with_sections s []) (passed_lines_headed_front_with s h.sizes h.none_shown) in (
+      Headed (lawful_sizes_with_sections s []),
       head,
-      all_section_lines_pass s s.sections is h.sizes h.one_each
+      passed_lines_all_sections s s.sections is h.sizes h.one_each
           (recursion_from_All (IsLawfulSection s) s.sections h.sections) h.last,
     )
 
@@ -314,14 +314,14 @@ AllByRecursion-split : (P : List Instruction → Type 0) (xs : List (List Instru
 AllByRecursion-split P [] last h = (tt, h.0)
 AllByRecursion-split P (x ∷ xs) last h = let r = AllByRecursion-split P xs last h.1 in ((h.0, r.0), r.1)
 
-abbrev pub unshown : Plan → List (List Instruction) → Plan
-unshown s sections = record s { sections = sections; shown = [] }
+abbrev pub passed_lines_unshown : Plan → List (List Instruction) → Plan
+passed_lines_unshown s sections = record s { sections = sections; shown = [] }
 
-whole_front_from : (s : Plan) (front : List (List Instruction)) (last : List Instruction) → s.sections ≡ front ++ last ∷ []
-    → IsLawfulButUneven s → LinesPass Nothing (lines_of s) (Whole s)
-whole_front_from s front last e h =
-    let small = sizes_small s h.sizes in
-    let before = unshown s front in
+passed_lines_whole_from : (s : Plan) (front : List (List Instruction)) (last : List Instruction) → s.sections ≡ front ++ last ∷ []
+    → IsLawfulButUneven s → RunLinesPass Nothing (script_lines_of s) (Whole s)
+passed_lines_whole_from s front last e h =
+    let small = lawful_sizes_small s h.sizes in
+    let before = passed_lines_unshown s front in
     let each =
     AllByRecursion-split (IsLawfulSection s) front last (subst
     (λ (xs : List (List Instruction)). AllByRecursion (IsLawfulSection s) xs) e
@@ -330,10 +330,10 @@ whole_front_from s front last e h =
     let count : suc (length front) ≡ s.processors =
     omega (arith, ap (λ (xs : List (List Instruction)). length xs) e, length-append front (last ∷ []), h.one_each)
     in
-    let sizes : AreLawfulSizes before = sizes_over s front [] h.sizes in
+    let sizes : AreLawfulSizes before = lawful_sizes_over s front [] h.sizes in
     let as_before : (is : List Instruction) → IsLawfulSection s is → IsLawfulSection before is =
-    λ is k. lawful_section_over s front [] is k in
-    let within : LawfulSoFar before last = record {
+    λ is k. lawful_sizes_section_over s front [] is k in
+    let within : IsScriptFrontLawfulWithin before last = record {
       sizes = sizes;
       sections =
           All-weaker (IsLawfulSection s) (IsLawfulSection before) as_before front (All-from_recursion (IsLawfulSection s) front each.0);
@@ -341,26 +341,26 @@ whole_front_from s front last e h =
       one_each = omega (arith, count);
       none_shown = refl;
     } in
-    let shows = show_line_passes before last s.shown sizes count h.some_shown h.most_shown h.shown in
+    let shows = passed_line_shown before last s.shown sizes count h.some_shown h.most_shown h.shown in
     let same : record s { sections = front ++ last ∷ [] } ≡ s =
     ap (λ (xs : List (List Instruction)). record s { sections = xs }) (sym e) in
-    let shows' = subst (λ (x : Plan). LinePasses (Within before last) (show_line s.shown) (Whole x)) same shows in
+    let shows' = subst (λ (x : Plan). KeywordLinePasses (Within before last) (script_show_line s.shown) (Whole x)) same shows in
     let all =
-    LinesPass-append Nothing (Within before last) (Whole s) (cluster_line s ∷ section_lines 0 (front ++ last ∷ []))
-    (show_line s.shown ∷ []) (within_passes before last within) (Whole s, shows', refl) in
-    subst (λ (xs : List (List Instruction)). LinesPass Nothing
-    (cluster_line s ∷ section_lines 0 xs ++ show_line s.shown ∷ []) (Whole s))
+    RunLinesPass-append Nothing (Within before last) (Whole s) (script_cluster_line s ∷ script_section_lines 0 (front ++ last ∷ []))
+    (script_show_line s.shown ∷ []) (passed_lines_within before last within) (Whole s, shows', refl) in
+    subst (λ (xs : List (List Instruction)). RunLinesPass Nothing
+    (script_cluster_line s ∷ script_section_lines 0 xs ++ script_show_line s.shown ∷ []) (Whole s))
     (sym e) all
 
-whole_passes : (s : Plan) → IsLawfulButUneven s → LinesPass Nothing (lines_of s) (Whole s)
-whole_passes s h =
-    let small = sizes_small s h.sizes in
+passed_lines_whole : (s : Plan) → IsLawfulButUneven s → RunLinesPass Nothing (script_lines_of s) (Whole s)
+passed_lines_whole s h =
+    let small = lawful_sizes_small s h.sizes in
     let e = ends s.sections (omega (arith, small.some, h.one_each)) in
-    whole_front_from s e.0 e.1 e.2 h
+    passed_lines_whole_from s e.0 e.1 e.2 h
 
 -- the lines of what stands before lead there
-pub front_passes : (f : Front) → IsLawfulFront f → LinesPass Nothing (front_lines f) f
-front_passes Nothing h = refl
-front_passes (Headed s) h = (Headed s, head_passes s h, refl)
-front_passes (Within s is) h = within_passes s is h
-front_passes (Whole s) h = whole_passes s h
+pub passed_lines_front : (f : ScriptFront) → IsScriptFrontLawful f → RunLinesPass Nothing (script_front_lines f) f
+passed_lines_front Nothing h = refl
+passed_lines_front (Headed s) h = (Headed s, passed_line_of_cluster s h, refl)
+passed_lines_front (Within s is) h = passed_lines_within s is h
+passed_lines_front (Whole s) h = passed_lines_whole s h

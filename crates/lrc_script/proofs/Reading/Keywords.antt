@@ -7,15 +7,15 @@ use Rattle.std.proofs.lemmas.Bool.Decides.{nat_tests}
 use Rattle.std.proofs.lemmas.Slice.Eq.{bytes_eq-Decides}
 use Rattle.lrc_script.specs.declared.script.Instruction.{Instruction}
 use Rattle.lrc_script.specs.declared.script.Instruction.TheVariants as instruction
-use Rattle.lrc_script.specs.declared.line.Keyword.{Keyword}
-use Rattle.lrc_script.specs.declared.line.Keyword.TheVariants as keyword
+use Rattle.lrc_script.specs.declared.line.LineKeyword.{LineKeyword}
+use Rattle.lrc_script.specs.declared.line.LineKeyword.TheVariants as keyword
 use Rattle.lrc_script.specs.Plan.{Plan}
-use Rattle.lrc_script.specs.Text.{instruction_line}
-use Rattle.lrc_script.specs.Front.{Front, Nothing, Headed, Within, Whole}
-use Rattle.lrc_script.specs.LineFaults.{AllowsLine}
-use Rattle.lrc_script.specs.LineReading.{keyword_read, is_line_due}
+use Rattle.lrc_script.specs.ScriptLines.{script_instruction_line}
+use Rattle.lrc_script.specs.ScriptFront.{ScriptFront, Nothing, Headed, Within, Whole}
+use Rattle.lrc_script.specs.ScriptFaults.{AllowsScriptLine}
+use Rattle.lrc_script.specs.LineReading.{line_read_keyword, is_read_line_due}
 
-abbrev pub keyword_bytes : Keyword → List ℕ
+abbrev pub keyword_bytes : LineKeyword → List ℕ
 keyword_bytes keyword.Cluster = codes "cluster"
 keyword_bytes keyword.Section = codes "p"
 keyword_bytes keyword.Load = codes "load"
@@ -29,7 +29,7 @@ keyword_bytes keyword.Await = codes "await"
 keyword_bytes keyword.Cut = codes "cut"
 keyword_bytes keyword.Show = codes "show"
 
-keyword_bytes_if : (w : List ℕ) (k : Keyword) (rest : Option Keyword) (found : Keyword)
+keyword_bytes_if : (w : List ℕ) (k : LineKeyword) (rest : Option LineKeyword) (found : LineKeyword)
     → (rest ≡ Some found → w ≡ keyword_bytes found) → cond (bytes_eq w (keyword_bytes k)) (Some k) rest ≡ Some found
     → w ≡ keyword_bytes found
 keyword_bytes_if w k rest found later e =
@@ -40,7 +40,7 @@ keyword_bytes_if w k rest found later e =
     ] refl e
 
 -- a keyword's word is its spelling
-pub keyword_spelled : (w : List ℕ) (k : Keyword) → keyword_read w ≡ Some k → w ≡ keyword_bytes k
+pub keyword_spelled : (w : List ℕ) (k : LineKeyword) → line_read_keyword w ≡ Some k → w ≡ keyword_bytes k
 keyword_spelled w k e =
     keyword_bytes_if w keyword.Cluster _ k
     (keyword_bytes_if w keyword.Section _ k (keyword_bytes_if w keyword.Load _ k (keyword_bytes_if w keyword.Store _ k (
@@ -50,7 +50,7 @@ keyword_spelled w k e =
     (keyword_bytes_if w keyword.Cut _ k (keyword_bytes_if w keyword.Show _ k (λ h. absurd cc)))))))))))) e
 
 -- what is due is allowed
-pub keyword_due_allows : (f : Front) (k : Keyword) (n : ℕ) → is_line_due f k n ≡ true → AllowsLine f (keyword_bytes k) n
+pub keyword_due_allows : (f : ScriptFront) (k : LineKeyword) (n : ℕ) → is_read_line_due f k n ≡ true → AllowsScriptLine f (keyword_bytes k) n
 keyword_due_allows Nothing keyword.Cluster n e = (
   refl,
   elim (or_cases (eqb n 4) (eqb n 5) e)
@@ -78,40 +78,40 @@ keyword_due_allows (Within s is) keyword.Cluster n e = absurd cc
 keyword_due_allows (Whole s) k n e = absurd cc
 
 -- a keyword that is due
-abbrev pub KeywordIsDue : Front → List ℕ → ℕ → Type 0
-KeywordIsDue f w n = (k : Keyword) × (keyword_read w ≡ Some k) × (is_line_due f k n ≡ true)
+abbrev pub KeywordIsDue : ScriptFront → List ℕ → ℕ → Type 0
+KeywordIsDue f w n = (k : LineKeyword) × (line_read_keyword w ≡ Some k) × (is_read_line_due f k n ≡ true)
 
-instruction_keyword_due : (s : Plan) (is : List Instruction) (w : List ℕ) (n : ℕ) (i : Instruction)
-    → w ≡ (instruction_line i).word → n ≡ length (instruction_line i).numbers → KeywordIsDue (Within s is) w n
-instruction_keyword_due s is w n (instruction.Load a) word count =
-    (keyword.Load, ap keyword_read word, ap (λ m. eqb m 1) count)
-instruction_keyword_due s is w n (instruction.Store a v) word count =
-    (keyword.Store, ap keyword_read word, ap (λ m. eqb m 2) count)
-instruction_keyword_due s is w n (instruction.Add a v) word count =
-    (keyword.Add, ap keyword_read word, ap (λ m. eqb m 2) count)
-instruction_keyword_due s is w n (instruction.Acquire l) word count =
-    (keyword.Acquire, ap keyword_read word, ap (λ m. eqb m 1) count)
-instruction_keyword_due s is w n (instruction.Release l) word count =
-    (keyword.Release, ap keyword_read word, ap (λ m. eqb m 1) count)
-instruction_keyword_due s is w n instruction.Barrier word count =
-    (keyword.Barrier, ap keyword_read word, ap (λ m. eqb m 0) count)
-instruction_keyword_due s is w n (instruction.Set f) word count =
-    (keyword.Set, ap keyword_read word, ap (λ m. eqb m 1) count)
-instruction_keyword_due s is w n (instruction.Await f) word count =
-    (keyword.Await, ap keyword_read word, ap (λ m. eqb m 1) count)
-instruction_keyword_due s is w n instruction.Cut word count = (keyword.Cut, ap keyword_read word, ap (λ m. eqb m 0) count)
+keyword_due_in_section : (s : Plan) (is : List Instruction) (w : List ℕ) (n : ℕ) (i : Instruction)
+    → w ≡ (script_instruction_line i).word → n ≡ length (script_instruction_line i).numbers → KeywordIsDue (Within s is) w n
+keyword_due_in_section s is w n (instruction.Load a) word count =
+    (keyword.Load, ap line_read_keyword word, ap (λ m. eqb m 1) count)
+keyword_due_in_section s is w n (instruction.Store a v) word count =
+    (keyword.Store, ap line_read_keyword word, ap (λ m. eqb m 2) count)
+keyword_due_in_section s is w n (instruction.Add a v) word count =
+    (keyword.Add, ap line_read_keyword word, ap (λ m. eqb m 2) count)
+keyword_due_in_section s is w n (instruction.Acquire l) word count =
+    (keyword.Acquire, ap line_read_keyword word, ap (λ m. eqb m 1) count)
+keyword_due_in_section s is w n (instruction.Release l) word count =
+    (keyword.Release, ap line_read_keyword word, ap (λ m. eqb m 1) count)
+keyword_due_in_section s is w n instruction.Barrier word count =
+    (keyword.Barrier, ap line_read_keyword word, ap (λ m. eqb m 0) count)
+keyword_due_in_section s is w n (instruction.Set f) word count =
+    (keyword.Set, ap line_read_keyword word, ap (λ m. eqb m 1) count)
+keyword_due_in_section s is w n (instruction.Await f) word count =
+    (keyword.Await, ap line_read_keyword word, ap (λ m. eqb m 1) count)
+keyword_due_in_section s is w n instruction.Cut word count = (keyword.Cut, ap line_read_keyword word, ap (λ m. eqb m 0) count)
 
 -- what is allowed is due
-pub allowed_keyword_due : (f : Front) (w : List ℕ) (n : ℕ) → AllowsLine f w n → KeywordIsDue f w n
-allowed_keyword_due Nothing w n a = (
+pub keyword_due_if_allowed : (f : ScriptFront) (w : List ℕ) (n : ℕ) → AllowsScriptLine f w n → KeywordIsDue f w n
+keyword_due_if_allowed Nothing w n a = (
   keyword.Cluster,
-  ap keyword_read a.0,
+  ap line_read_keyword a.0,
   elim a.1
       [ inl e ↦ grind (arith, nat_tests, e) | inr e ↦ grind (arith, nat_tests, e) ],
 )
-allowed_keyword_due (Headed s) w n a = (keyword.Section, ap keyword_read a.0, ap (λ m. eqb m 1) a.1)
-allowed_keyword_due (Within s is) w n (inl a) = (keyword.Section, ap keyword_read a.0, ap (λ m. eqb m 1) a.1)
-allowed_keyword_due (Within s is) w n (inr (inl a)) =
-    let some = a.1 in let last = a.2 in (keyword.Show, ap keyword_read a.0, grind (arith, nat_tests, some, last))
-allowed_keyword_due (Within s is) w n (inr (inr a)) = instruction_keyword_due s is w n a.0 a.1 a.2
-allowed_keyword_due (Whole s) w n a = absurd a
+keyword_due_if_allowed (Headed s) w n a = (keyword.Section, ap line_read_keyword a.0, ap (λ m. eqb m 1) a.1)
+keyword_due_if_allowed (Within s is) w n (inl a) = (keyword.Section, ap line_read_keyword a.0, ap (λ m. eqb m 1) a.1)
+keyword_due_if_allowed (Within s is) w n (inr (inl a)) =
+    let some = a.1 in let last = a.2 in (keyword.Show, ap line_read_keyword a.0, grind (arith, nat_tests, some, last))
+keyword_due_if_allowed (Within s is) w n (inr (inr a)) = keyword_due_in_section s is w n a.0 a.1 a.2
+keyword_due_if_allowed (Whole s) w n a = absurd a

@@ -4,17 +4,17 @@ use Rattle.std.specs.List.{slice_split, position_or_len, onto_first}
 use Rattle.std.proofs.lemmas.List.Splits.{slice_split_first}
 use Rattle.std.proofs.lemmas.Bool.{ltb-true, ltb-false}
 
-past_in : (p : ℕ → Bool) (x : ℕ) (xs : List ℕ) (b : Bool)
+split_past_in : (p : ℕ → Bool) (x : ℕ) (xs : List ℕ) (b : Bool)
     → suc (length xs) ≤ cond (not b) (1 + position_or_len p xs) 0
     → (length xs ≤ position_or_len p xs → slice_split p xs ≡ xs ∷ [])
     → cond b ([] ∷ slice_split p xs) (onto_first x (slice_split p xs)) ≡ (x ∷ xs) ∷ []
-past_in p x xs true h rest = absurd (omega arith)
-past_in p x xs false h rest = ap (onto_first x) (rest (omega arith))
+split_past_in p x xs true h rest = absurd (omega arith)
+split_past_in p x xs false h rest = ap (onto_first x) (rest (omega arith))
 
 -- where no byte passes, the list is the one part
 pub slice_split_past : (p : ℕ → Bool) (xs : List ℕ) → length xs ≤ position_or_len p xs → slice_split p xs ≡ xs ∷ []
 slice_split_past p [] h = refl
-slice_split_past p (x ∷ xs) h = past_in p x xs (p x) h (slice_split_past p xs)
+slice_split_past p (x ∷ xs) h = split_past_in p x xs (p x) h (slice_split_past p xs)
 
 -- what a search for the separator tells
 pub split_from_some : (p : ℕ → Bool) (xs : List ℕ) (i : ℕ)

@@ -7,22 +7,22 @@ use Rattle.std.proofs.lemmas.Option.{none-some}
 use Rattle.base.proofs.SliceSets.{slice_get-replicate_found}
 use Rattle.seats.specs.declared.guard.Guard.{Guard}
 use Rattle.seats.specs.declared.guard.Guard.TheVariants.{Of, Open}
-use Rattle.seats.specs.Tables.{GuardTables, IsPut, NoneOpen, guard_in, guard_put, is_between}
+use Rattle.seats.specs.Tables.{GuardTables, IsPutInTable, TablesOpenNothing, table_guard, table_guard_put, table_range_has}
 
-closed_guard : (b : Bool) (guard : Guard) (o : Option Guard) → guard ≢ Open → o ≢ Some Open → guard_put b guard o ≢ Some Open
-closed_guard true guard (Some old) other was e = other (let same = e in cc)
-closed_guard true guard None other was e = was e
-closed_guard false guard o other was e = was e
+closed_layout_guard : (b : Bool) (guard : Guard) (o : Option Guard) → guard ≢ Open → o ≢ Some Open → table_guard_put b guard o ≢ Some Open
+closed_layout_guard true guard (Some old) other was e = other (let same = e in cc)
+closed_layout_guard true guard None other was e = was e
+closed_layout_guard false guard o other was e = was e
 
 -- a guard that isn't open
-pub closed_put : {old new : GuardTables} {table from to : ℕ} {guard : Guard} → IsPut old table from to guard new → guard ≢ Open
-    → NoneOpen old → NoneOpen new
-closed_put {old} {new} {table} {from} {to} {guard} put other was t a e =
-    closed_guard ((t == table) && is_between from to a) guard (guard_in old t a) other (was t a) (sym (put.each t a) ∙ e)
+pub closed_layout_put : {old new : GuardTables} {table from to : ℕ} {guard : Guard} → IsPutInTable old table from to guard new → guard ≢ Open
+    → TablesOpenNothing old → TablesOpenNothing new
+closed_layout_put {old} {new} {table} {from} {to} {guard} put other was t a e =
+    closed_layout_guard ((t == table) && table_range_has from to a) guard (table_guard old t a) other (was t a) (sym (put.each t a) ∙ e)
 
 -- a new layout
-pub closed_new : (n m round : ℕ) → NoneOpen (record { tables = replicate n (replicate m (Of 0)); round = round })
-closed_new n m round t a e = elim (cases_lt t n) [
+pub closed_layout_new : (n m round : ℕ) → TablesOpenNothing (record { tables = replicate n (replicate m (Of 0)); round = round })
+closed_layout_new n m round t a e = elim (cases_lt t n) [
   | inl less ↦ absurd (let owned : slice_get (replicate m (Of 0)) a ≡ Some Open =
       ap (λ gs. slice_get gs a) (sym (get_or-replicate n t (replicate m (Of 0)) [] less)) ∙ e in
       let same : Of 0 ≡ Open = slice_get-replicate_found m (Of 0) Open a owned in cc)

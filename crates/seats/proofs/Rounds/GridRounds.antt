@@ -9,94 +9,94 @@ use Rattle.std.proofs.lemmas.Option.{get_or_from_slice_get}
 use Rattle.base.proofs.SlicesAndCounts.{slice_get-append_left, slice_get-append_right, slice_get-drop, slice_get-take}
 use Rattle.journal.specs.declared.event.Kind.TheVariants.{Load, Store}
 use Rattle.cluster.specs.Copies.Local.{Local}
-use Rattle.seats.specs.Grids.{AreFullGrids, AreGrids, GridSteps, GridsLaw, block_end, block_start, grid_at, grid_made, grid_next, grid_read, grid_rounds, grids_after, is_even, steps}
+use Rattle.seats.specs.GridPairs.{AreFullGridPairs, AreSharedGridPairs, GridPairSteps, GridPairsLaw, grid_pair_block_end, grid_pair_block_start, grid_pair_at, grid_pair_made, grid_pair_next, grid_pair_read, grid_pair_rounds, grid_pair_after, is_even, grid_pair_steps}
 use Rattle.seats.specs.Loads.{LoadsValue}
-use Rattle.seats.specs.Rounds.{AreCovered, IsMaking, rounds_after}
+use Rattle.seats.specs.Rounds.{AreRoundsFull, IsMaking, rounds_after}
 use Rattle.seats.specs.SeatCalls.{AccessesPage}
-use Rattle.seats.specs.Stencils.{LoadsGrid}
-use Rattle.seats.proofs.Rounds.MakingRounds.{between_in, making_next}
-use Rattle.seats.proofs.Rounds.RoundMade.{rounds_long}
-use Rattle.seats.proofs.Rounds.RoundsLaw.{rounds_law}
+use Rattle.seats.specs.Stencils.{HasStencilLoads}
+use Rattle.seats.proofs.Rounds.MakingRounds.{making_round_between_in, making_round_next}
+use Rattle.seats.proofs.Rounds.RoundMade.{round_made_long}
+use Rattle.seats.proofs.Rounds.RoundHistories.{rounds_law}
 
 -- a cell's word
-grid_word : (cells from i : ℕ) (memory : List ℕ) → i < cells → slice_get (grid_at cells from memory) i ≡ slice_get memory (from + i)
-grid_word cells from i memory less = slice_get-take (drop from memory) cells i less ∙ slice_get-drop memory from i
+grid_round_word : (cells from i : ℕ) (memory : List ℕ) → i < cells → slice_get (grid_pair_at cells from memory) i ≡ slice_get memory (from + i)
+grid_round_word cells from i memory less = slice_get-take (drop from memory) cells i less ∙ slice_get-drop memory from i
 
-grid_long : (cells from : ℕ) (memory : List ℕ) → from + cells ≤ length memory → length (grid_at cells from memory) ≡ cells
-grid_long cells from memory fits = length-take-le cells (drop from memory) (let rest = length-drop from memory in omega (arith, rest, fits))
+grid_round_long : (cells from : ℕ) (memory : List ℕ) → from + cells ≤ length memory → length (grid_pair_at cells from memory) ≡ cells
+grid_round_long cells from memory fits = length-take-le cells (drop from memory) (let rest = length-drop from memory in omega (arith, rest, fits))
 
 -- two lists of as many words
-word_left : (xs ys : List ℕ) (i : ℕ) → i < length xs → slice_get (xs ++ ys) (0 + i) ≡ slice_get xs i
-word_left xs ys i less = ap (slice_get (xs ++ ys)) (let e : 0 + i ≡ i = omega arith in e) ∙ slice_get-append_left xs ys i less
+grid_round_front_word : (xs ys : List ℕ) (i : ℕ) → i < length xs → slice_get (xs ++ ys) (0 + i) ≡ slice_get xs i
+grid_round_front_word xs ys i less = ap (slice_get (xs ++ ys)) (let e : 0 + i ≡ i = omega arith in e) ∙ slice_get-append_left xs ys i less
 
-word_right : (xs ys : List ℕ) (n i : ℕ) → length xs ≡ n → slice_get (xs ++ ys) (n + i) ≡ slice_get ys i
-word_right xs ys n i is = ap (λ m. slice_get (xs ++ ys) (m + i)) (sym is) ∙ slice_get-append_right xs ys i
+grid_round_back_word : (xs ys : List ℕ) (n i : ℕ) → length xs ≡ n → slice_get (xs ++ ys) (n + i) ≡ slice_get ys i
+grid_round_back_word xs ys n i is = ap (λ m. slice_get (xs ++ ys) (m + i)) (sym is) ∙ slice_get-append_right xs ys i
 
 -- what a round makes is as long as a grid
-next_long : (x : GridSteps) (n : ℕ) (words : List ℕ) → AreFullGrids x → length words ≡ x.cells
-    → length (grid_next x n words) ≡ x.cells
-next_long x zero words full long = full.start
-next_long x (suc n) words full long = full.step words long
+grid_round_next_long : (x : GridPairSteps) (n : ℕ) (words : List ℕ) → AreFullGridPairs x → length words ≡ x.cells
+    → length (grid_pair_next x n words) ≡ x.cells
+grid_round_next_long x zero words full long = full.start
+grid_round_next_long x (suc n) words full long = full.step words long
 
 -- the lengths of a memory's grids
-record AreLong (x : GridSteps) (n : ℕ) (memory : List ℕ) : Type 0 where
-  pub first : length (grid_at x.cells 0 memory) ≡ x.cells
-  pub second : length (grid_at x.cells x.cells memory) ≡ x.cells
-  pub next_of_first : length (grid_next x n (grid_at x.cells 0 memory)) ≡ x.cells
-  pub next_of_second : length (grid_next x n (grid_at x.cells x.cells memory)) ≡ x.cells
+record AreGridRoundLengths (x : GridPairSteps) (n : ℕ) (memory : List ℕ) : Type 0 where
+  pub first : length (grid_pair_at x.cells 0 memory) ≡ x.cells
+  pub second : length (grid_pair_at x.cells x.cells memory) ≡ x.cells
+  pub next_of_first : length (grid_pair_next x n (grid_pair_at x.cells 0 memory)) ≡ x.cells
+  pub next_of_second : length (grid_pair_next x n (grid_pair_at x.cells x.cells memory)) ≡ x.cells
 
-are_long : (x : GridSteps) (n : ℕ) (memory : List ℕ) → AreFullGrids x → length memory ≡ x.cells + x.cells → AreLong x n memory
-are_long x n memory full long =
-    let first = grid_long x.cells 0 memory (omega (arith, long)) in
-    let second = grid_long x.cells x.cells memory (omega (arith, long)) in
+grid_round_lengths : (x : GridPairSteps) (n : ℕ) (memory : List ℕ) → AreFullGridPairs x → length memory ≡ x.cells + x.cells → AreGridRoundLengths x n memory
+grid_round_lengths x n memory full long =
+    let first = grid_round_long x.cells 0 memory (omega (arith, long)) in
+    let second = grid_round_long x.cells x.cells memory (omega (arith, long)) in
     record {
       first = first;
       second = second;
-      next_of_first = next_long x n (grid_at x.cells 0 memory) full first;
-      next_of_second = next_long x n (grid_at x.cells x.cells memory) full second;
+      next_of_first = grid_round_next_long x n (grid_pair_at x.cells 0 memory) full first;
+      next_of_second = grid_round_next_long x n (grid_pair_at x.cells x.cells memory) full second;
     }
 
 -- a round's memory has as many words
-grids_long : (x : GridSteps) (n : ℕ) (memory : List ℕ) → AreLong x n memory → length (grids_after x n memory) ≡ x.cells + x.cells
-grids_long x n memory long = by (is_even n) refl
+grid_round_after_long : (x : GridPairSteps) (n : ℕ) (memory : List ℕ) → AreGridRoundLengths x n memory → length (grid_pair_after x n memory) ≡ x.cells + x.cells
+grid_round_after_long x n memory long = by (is_even n) refl
   where
-    by : (b : Bool) → is_even n ≡ b → length (grids_after x n memory) ≡ x.cells + x.cells
-    by true e = rw e (let all = length-append (grid_next x n (grid_at x.cells x.cells memory)) (grid_at x.cells x.cells memory) in
+    by : (b : Bool) → is_even n ≡ b → length (grid_pair_after x n memory) ≡ x.cells + x.cells
+    by true e = rw e (let all = length-append (grid_pair_next x n (grid_pair_at x.cells x.cells memory)) (grid_pair_at x.cells x.cells memory) in
         let one = long.second in let two = long.next_of_second in omega (arith, all, one, two))
-    by false e = rw e (let all = length-append (grid_at x.cells 0 memory) (grid_next x n (grid_at x.cells 0 memory)) in
+    by false e = rw e (let all = length-append (grid_pair_at x.cells 0 memory) (grid_pair_next x n (grid_pair_at x.cells 0 memory)) in
         let one = long.first in let two = long.next_of_first in omega (arith, all, one, two))
 
 -- the words that it makes
-grid_word_made : (x : GridSteps) (n i : ℕ) (memory : List ℕ) → AreLong x n memory → i < x.cells
-    → slice_get (grids_after x n memory) (grid_made x.cells n + i)
-    ≡ slice_get (grid_next x n (grid_at x.cells (grid_read x.cells n) memory)) i
-grid_word_made x n i memory long less = by (is_even n) refl
+grid_round_word_made : (x : GridPairSteps) (n i : ℕ) (memory : List ℕ) → AreGridRoundLengths x n memory → i < x.cells
+    → slice_get (grid_pair_after x n memory) (grid_pair_made x.cells n + i)
+    ≡ slice_get (grid_pair_next x n (grid_pair_at x.cells (grid_pair_read x.cells n) memory)) i
+grid_round_word_made x n i memory long less = by (is_even n) refl
   where
-    by : (b : Bool) → is_even n ≡ b → slice_get (grids_after x n memory) (grid_made x.cells n + i)
-        ≡ slice_get (grid_next x n (grid_at x.cells (grid_read x.cells n) memory)) i
-    by true e = rw e (word_left (grid_next x n (grid_at x.cells x.cells memory)) (grid_at x.cells x.cells memory) i
+    by : (b : Bool) → is_even n ≡ b → slice_get (grid_pair_after x n memory) (grid_pair_made x.cells n + i)
+        ≡ slice_get (grid_pair_next x n (grid_pair_at x.cells (grid_pair_read x.cells n) memory)) i
+    by true e = rw e (grid_round_front_word (grid_pair_next x n (grid_pair_at x.cells x.cells memory)) (grid_pair_at x.cells x.cells memory) i
         (let two = long.next_of_second in omega (arith, two, less)))
-    by false e = rw e (word_right (grid_at x.cells 0 memory) (grid_next x n (grid_at x.cells 0 memory)) x.cells i long.first)
+    by false e = rw e (grid_round_back_word (grid_pair_at x.cells 0 memory) (grid_pair_next x n (grid_pair_at x.cells 0 memory)) x.cells i long.first)
 
 -- and those that it leaves
-grid_word_left : (x : GridSteps) (n i : ℕ) (memory : List ℕ) → AreLong x n memory → i < x.cells
-    → slice_get (grids_after x n memory) (grid_read x.cells n + i) ≡ slice_get memory (grid_read x.cells n + i)
-grid_word_left x n i memory long less = by (is_even n) refl
+grid_round_word_left : (x : GridPairSteps) (n i : ℕ) (memory : List ℕ) → AreGridRoundLengths x n memory → i < x.cells
+    → slice_get (grid_pair_after x n memory) (grid_pair_read x.cells n + i) ≡ slice_get memory (grid_pair_read x.cells n + i)
+grid_round_word_left x n i memory long less = by (is_even n) refl
   where
     by : (b : Bool) → is_even n ≡ b
-        → slice_get (grids_after x n memory) (grid_read x.cells n + i) ≡ slice_get memory (grid_read x.cells n + i)
-    by true e = rw e (word_right (grid_next x n (grid_at x.cells x.cells memory)) (grid_at x.cells x.cells memory) x.cells i
-        long.next_of_second ∙ grid_word x.cells x.cells i memory less)
-    by false e = rw e (word_left (grid_at x.cells 0 memory) (grid_next x n (grid_at x.cells 0 memory)) i
-        (let one = long.first in omega (arith, one, less)) ∙ grid_word x.cells 0 i memory less)
+        → slice_get (grid_pair_after x n memory) (grid_pair_read x.cells n + i) ≡ slice_get memory (grid_pair_read x.cells n + i)
+    by true e = rw e (grid_round_back_word (grid_pair_next x n (grid_pair_at x.cells x.cells memory)) (grid_pair_at x.cells x.cells memory) x.cells i
+        long.next_of_second ∙ grid_round_word x.cells x.cells i memory less)
+    by false e = rw e (grid_round_front_word (grid_pair_at x.cells 0 memory) (grid_pair_next x n (grid_pair_at x.cells 0 memory)) i
+        (let one = long.first in omega (arith, one, less)) ∙ grid_round_word x.cells 0 i memory less)
 
 -- an address is a cell of the one grid or of the other
-grid_cell : (cells n a : ℕ) → a < cells + cells
-    → ((i : ℕ) × (i < cells) × (a ≡ grid_made cells n + i)) ⊎ ((i : ℕ) × (i < cells) × (a ≡ grid_read cells n + i))
-grid_cell cells n a less = by (is_even n) refl
+grid_round_cell : (cells n a : ℕ) → a < cells + cells
+    → ((i : ℕ) × (i < cells) × (a ≡ grid_pair_made cells n + i)) ⊎ ((i : ℕ) × (i < cells) × (a ≡ grid_pair_read cells n + i))
+grid_round_cell cells n a less = by (is_even n) refl
   where
     by : (b : Bool) → is_even n ≡ b
-        → ((i : ℕ) × (i < cells) × (a ≡ grid_made cells n + i)) ⊎ ((i : ℕ) × (i < cells) × (a ≡ grid_read cells n + i))
+        → ((i : ℕ) × (i < cells) × (a ≡ grid_pair_made cells n + i)) ⊎ ((i : ℕ) × (i < cells) × (a ≡ grid_pair_read cells n + i))
     by true e = rw e (elim (cases_lt a cells) [
       | inl low ↦ inl (a, low, let i : a ≡ 0 + a = omega arith in i)
       | inr high ↦ inr (a - cells, omega (arith, less, high), omega (arith, high))
@@ -107,130 +107,130 @@ grid_cell cells n a less = by (is_even n) refl
     ])
 
 -- some processor's block has the cell
-grid_block : (cells share processors i : ℕ) → i < cells → i < processors * share
-    → (p : ℕ) × (p < processors) × (block_start cells share p ≤ i) × (i < block_end cells share p)
-grid_block cells share zero i less within = absurd (omega arith)
-grid_block cells share (suc q) i less within = elim (cases_lt i (q * share)) [
-  | inl before ↦ (let found = grid_block cells share q i less before in (found.0, omega (arith, found.1), found.2, found.3))
+grid_round_block : (cells share processors i : ℕ) → i < cells → i < processors * share
+    → (p : ℕ) × (p < processors) × (grid_pair_block_start cells share p ≤ i) × (i < grid_pair_block_end cells share p)
+grid_round_block cells share zero i less within = absurd (omega arith)
+grid_round_block cells share (suc q) i less within = elim (cases_lt i (q * share)) [
+  | inl before ↦ (let found = grid_round_block cells share q i less before in (found.0, omega (arith, found.1), found.2, found.3))
   | inr past ↦ (let all = suc-mul q share in (q, omega arith, omega (arith, past), omega (arith, past, less, within, all)))
 ]
 
 -- each round makes a grid, and leaves the other
-pub grids_covered : (x : GridSteps) (processors : ℕ) → AreGrids x processors → AreCovered (grid_rounds x) processors
-grids_covered x processors are = record {
-  long = λ n memory long. grids_long x n memory (are_long x n memory are.full long);
-  each = λ n memory a long less. elim (grid_cell x.cells n a less) [
+pub grid_round_full : (x : GridPairSteps) (processors : ℕ) → AreSharedGridPairs x processors → AreRoundsFull (grid_pair_rounds x) processors
+grid_round_full x processors are = record {
+  long = λ n memory long. grid_round_after_long x n memory (grid_round_lengths x n memory are.full long);
+  each = λ n memory a long less. elim (grid_round_cell x.cells n a less) [
     | inl made ↦ (let shared = are.shared in
-        let found = grid_block x.cells x.share processors made.0 made.1 (let i = made.1 in omega (arith, i, shared)) in
+        let found = grid_round_block x.cells x.share processors made.0 made.1 (let i = made.1 in omega (arith, i, shared)) in
         let low = found.2 in let high = found.3 in let is = made.2 in
-        inl (found.0, found.1, between_in _ _ a (omega (arith, low, is)) (omega (arith, high, is))))
-    | inr left ↦ inr (subst (λ i. slice_get (grids_after x n memory) i ≡ slice_get memory i) (sym left.2)
-        (grid_word_left x n left.0 memory (are_long x n memory are.full long) left.1))
+        inl (found.0, found.1, making_round_between_in _ _ a (omega (arith, low, is)) (omega (arith, high, is))))
+    | inr left ↦ inr (subst (λ i. slice_get (grid_pair_after x n memory) i ≡ slice_get memory i) (sym left.2)
+        (grid_round_word_left x n left.0 memory (grid_round_lengths x n memory are.full long) left.1))
   ];
 }
 
 -- the grid that was made in a round is read in the next
-grid_turn : (x : GridSteps) (n : ℕ) (memory : List ℕ) → AreLong x n memory
-    → grid_at x.cells (grid_made x.cells n) (grids_after x n memory) ≡ grid_next x n (grid_at x.cells (grid_read x.cells n) memory)
-grid_turn x n memory long = by (is_even n) refl
+grid_round_turn : (x : GridPairSteps) (n : ℕ) (memory : List ℕ) → AreGridRoundLengths x n memory
+    → grid_pair_at x.cells (grid_pair_made x.cells n) (grid_pair_after x n memory) ≡ grid_pair_next x n (grid_pair_at x.cells (grid_pair_read x.cells n) memory)
+grid_round_turn x n memory long = by (is_even n) refl
   where
-    by : (b : Bool) → is_even n ≡ b → grid_at x.cells (grid_made x.cells n) (grids_after x n memory)
-        ≡ grid_next x n (grid_at x.cells (grid_read x.cells n) memory)
+    by : (b : Bool) → is_even n ≡ b → grid_pair_at x.cells (grid_pair_made x.cells n) (grid_pair_after x n memory)
+        ≡ grid_pair_next x n (grid_pair_at x.cells (grid_pair_read x.cells n) memory)
     by true e =
-        let new : List ℕ = grid_next x n (grid_at x.cells x.cells memory) in
-        rw e (ap (λ m. take m (new ++ grid_at x.cells x.cells memory)) (sym long.next_of_second) ∙ take-append_seam new (grid_at x.cells x.cells memory))
+        let new : List ℕ = grid_pair_next x n (grid_pair_at x.cells x.cells memory) in
+        rw e (ap (λ m. take m (new ++ grid_pair_at x.cells x.cells memory)) (sym long.next_of_second) ∙ take-append_seam new (grid_pair_at x.cells x.cells memory))
     by false e =
-        let new : List ℕ = grid_next x n (grid_at x.cells 0 memory) in
-        rw e (ap (λ m. take x.cells (drop m (grid_at x.cells 0 memory ++ new))) (sym long.first)
-        ∙ ap (take x.cells) (drop-append_seam (grid_at x.cells 0 memory) new)
+        let new : List ℕ = grid_pair_next x n (grid_pair_at x.cells 0 memory) in
+        rw e (ap (λ m. take x.cells (drop m (grid_pair_at x.cells 0 memory ++ new))) (sym long.first)
+        ∙ ap (take x.cells) (drop-append_seam (grid_pair_at x.cells 0 memory) new)
         ∙ ap (λ m. take m new) (sym long.next_of_first) ∙ take-length new)
 
-read_next : (cells n : ℕ) → grid_read cells (suc n) ≡ grid_made cells n
-read_next cells n = by (is_even n) refl
+grid_round_read_next : (cells n : ℕ) → grid_pair_read cells (suc n) ≡ grid_pair_made cells n
+grid_round_read_next cells n = by (is_even n) refl
   where
-    by : (b : Bool) → is_even n ≡ b → grid_read cells (suc n) ≡ grid_made cells n
+    by : (b : Bool) → is_even n ≡ b → grid_pair_read cells (suc n) ≡ grid_pair_made cells n
     by true e = rw e refl
     by false e = rw e refl
 
 -- after the start and n steps
-grids_steps : (x : GridSteps) (processors n : ℕ) (memory : List ℕ) → AreGrids x processors → length memory ≡ x.cells + x.cells
-    → grid_at x.cells (grid_made x.cells n) (rounds_after (grid_rounds x) (suc n) memory) ≡ steps x.step n x.start
-grids_steps x processors zero memory are long = grid_turn x 0 memory (are_long x 0 memory are.full long)
-grids_steps x processors (suc n) memory are long =
-    let before = rounds_after (grid_rounds x) (suc n) memory in
-    grid_turn x (suc n) before
-    (are_long x (suc n) before are.full (rounds_long (grid_rounds x) processors (suc n) memory (grids_covered x processors are) long))
-    ∙ ap x.step (ap (λ from. grid_at x.cells from before) (read_next x.cells n) ∙ grids_steps x processors n memory are long)
+grid_round_steps : (x : GridPairSteps) (processors n : ℕ) (memory : List ℕ) → AreSharedGridPairs x processors → length memory ≡ x.cells + x.cells
+    → grid_pair_at x.cells (grid_pair_made x.cells n) (rounds_after (grid_pair_rounds x) (suc n) memory) ≡ grid_pair_steps x.step n x.start
+grid_round_steps x processors zero memory are long = grid_round_turn x 0 memory (grid_round_lengths x 0 memory are.full long)
+grid_round_steps x processors (suc n) memory are long =
+    let before = rounds_after (grid_pair_rounds x) (suc n) memory in
+    grid_round_turn x (suc n) before
+    (grid_round_lengths x (suc n) before are.full (round_made_long (grid_pair_rounds x) processors (suc n) memory (grid_round_full x processors are) long))
+    ∙ ap x.step (ap (λ from. grid_pair_at x.cells from before) (grid_round_read_next x.cells n) ∙ grid_round_steps x processors n memory are long)
 
-pub grids_law : GridsLaw
+pub grids_law : GridPairsLaw
 grids_law x n s g memory h are in_rounds =
-    ap (grid_at x.cells (grid_made x.cells n)) (rounds_law (grid_rounds x) (suc n) s g memory h in_rounds)
-    ∙ grids_steps x s.processors n memory are in_rounds.long
+    ap (grid_pair_at x.cells (grid_pair_made x.cells n)) (rounds_law (grid_pair_rounds x) (suc n) s g memory h in_rounds)
+    ∙ grid_round_steps x s.processors n memory are in_rounds.long
 
 -- a cell that was loaded
-loads_cell : {m n : Local} {page i v : ℕ} (cells from : ℕ) → i < cells → AccessesPage m n page (Load (from + i) v ∷ [])
-    → LoadsValue from (from + cells) (λ memory. slice_index (grid_at cells from memory) i) m n v
-loads_cell {i = i} {v = v} cells from less done = record {
+grid_round_loads_cell : {m n : Local} {page i v : ℕ} (cells from : ℕ) → i < cells → AccessesPage m n page (Load (from + i) v ∷ [])
+    → LoadsValue from (from + cells) (λ memory. slice_index (grid_pair_at cells from memory) i) m n v
+grid_round_loads_cell {i = i} {v = v} cells from less done = record {
   loads = Load (from + i) v ∷ [];
   within = ((omega arith, omega (arith, less)), tt);
   deeds_are = done.deeds_are;
-  value_is = λ memory answers. get_or_from_slice_get (grid_at cells from memory) i v 0
-      (grid_word cells from i memory less ∙ answers.0);
+  value_is = λ memory answers. get_or_from_slice_get (grid_pair_at cells from memory) i v 0
+      (grid_round_word cells from i memory less ∙ answers.0);
 }
 
 -- of the grid that a round reads
-pub loads_read : {m n : Local} {page i v from : ℕ} (cells round : ℕ) → from ≡ grid_read cells round → i < cells
-    → AccessesPage m n page (Load (from + i) v ∷ []) → LoadsGrid cells round (λ words. slice_index words i) m n v
-loads_read {m} {n} {i = i} {v = v} {from = from} cells round is less done =
-    subst (λ a. LoadsValue a (a + cells) (λ memory. slice_index (grid_at cells a memory) i) m n v) is (loads_cell cells from less done)
+pub grid_round_loads_read : {m n : Local} {page i v from : ℕ} (cells round : ℕ) → from ≡ grid_pair_read cells round → i < cells
+    → AccessesPage m n page (Load (from + i) v ∷ []) → HasStencilLoads cells round (λ words. slice_index words i) m n v
+grid_round_loads_read {m} {n} {i = i} {v = v} {from = from} cells round is less done =
+    subst (λ a. LoadsValue a (a + cells) (λ memory. slice_index (grid_pair_at cells a memory) i) m n v) is (grid_round_loads_cell cells from less done)
 
 -- where a processor stands in a round
-pub record IsAtCell (x : GridSteps) (first cell : ℕ) : Type 0 where
-  pub full : AreFullGrids x
+pub record IsAtGridRoundCell (x : GridPairSteps) (first cell : ℕ) : Type 0 where
+  pub full : AreFullGridPairs x
   pub begun : first ≤ cell
   pub less : cell < x.cells
 
 -- one cell more that was worked out of the grid that is read
-pub making_cell : {x : GridSteps} {n first cell page v : ℕ} {f : List ℕ → ℕ} {old m c d : Local}
-    → IsAtCell x first cell
-    → IsMaking (grid_rounds x) n (grid_made x.cells n + first) (grid_made x.cells n + cell) old m
-    → LoadsValue (grid_read x.cells n) (grid_read x.cells n + x.cells) (λ memory. f (grid_at x.cells (grid_read x.cells n) memory)) m c v
-    → AccessesPage c d page (Store (grid_made x.cells n + cell) v ∷ [])
-    → ((words : List ℕ) → length words ≡ x.cells → slice_get (grid_next x n words) cell ≡ Some (f words))
-    → IsMaking (grid_rounds x) n (grid_made x.cells n + first) (grid_made x.cells n + (cell + 1)) old d
-making_cell {x} {n} {first} {cell} {page} {v} {f} {old} {m} {c} {d} at was loaded stored next =
-    subst (λ i. IsMaking (grid_rounds x) n (grid_made x.cells n + first) i old d)
-    (let e : suc (grid_made x.cells n + cell) ≡ grid_made x.cells n + (cell + 1) = omega arith in e)
-    (making_next was (omega (arith, le), inside, apart) loaded stored value)
+pub grid_round_making_cell : {x : GridPairSteps} {n first cell page v : ℕ} {f : List ℕ → ℕ} {old m c d : Local}
+    → IsAtGridRoundCell x first cell
+    → IsMaking (grid_pair_rounds x) n (grid_pair_made x.cells n + first) (grid_pair_made x.cells n + cell) old m
+    → LoadsValue (grid_pair_read x.cells n) (grid_pair_read x.cells n + x.cells) (λ memory. f (grid_pair_at x.cells (grid_pair_read x.cells n) memory)) m c v
+    → AccessesPage c d page (Store (grid_pair_made x.cells n + cell) v ∷ [])
+    → ((words : List ℕ) → length words ≡ x.cells → slice_get (grid_pair_next x n words) cell ≡ Some (f words))
+    → IsMaking (grid_pair_rounds x) n (grid_pair_made x.cells n + first) (grid_pair_made x.cells n + (cell + 1)) old d
+grid_round_making_cell {x} {n} {first} {cell} {page} {v} {f} {old} {m} {c} {d} at was loaded stored next =
+    subst (λ i. IsMaking (grid_pair_rounds x) n (grid_pair_made x.cells n + first) i old d)
+    (let e : suc (grid_pair_made x.cells n + cell) ≡ grid_pair_made x.cells n + (cell + 1) = omega arith in e)
+    (making_round_next was (omega (arith, le), inside, apart) loaded stored value)
   where
     le : first ≤ cell
     le = at.begun
 
-    inside : grid_made x.cells n + cell < x.cells + x.cells
+    inside : grid_pair_made x.cells n + cell < x.cells + x.cells
     inside = by (is_even n) refl
       where
-        by : (b : Bool) → is_even n ≡ b → grid_made x.cells n + cell < x.cells + x.cells
+        by : (b : Bool) → is_even n ≡ b → grid_pair_made x.cells n + cell < x.cells + x.cells
         by true e = let less = at.less in rw e (omega (arith, less))
         by false e = let less = at.less in rw e (omega (arith, less))
 
-    apart : (grid_read x.cells n + x.cells ≤ grid_made x.cells n + first) ⊎ (grid_made x.cells n + cell ≤ grid_read x.cells n)
+    apart : (grid_pair_read x.cells n + x.cells ≤ grid_pair_made x.cells n + first) ⊎ (grid_pair_made x.cells n + cell ≤ grid_pair_read x.cells n)
     apart = by (is_even n) refl
       where
         by : (b : Bool) → is_even n ≡ b
-            → (grid_read x.cells n + x.cells ≤ grid_made x.cells n + first) ⊎ (grid_made x.cells n + cell ≤ grid_read x.cells n)
+            → (grid_pair_read x.cells n + x.cells ≤ grid_pair_made x.cells n + first) ⊎ (grid_pair_made x.cells n + cell ≤ grid_pair_read x.cells n)
         by true e = let less = at.less in rw e (inr (omega (arith, less)))
         by false e = rw e (inl (omega arith))
 
-    value : (memory : List ℕ) → length memory ≡ x.cells + x.cells → slice_get (grids_after x n memory) (grid_made x.cells n + cell)
-        ≡ Some (f (grid_at x.cells (grid_read x.cells n) memory))
+    value : (memory : List ℕ) → length memory ≡ x.cells + x.cells → slice_get (grid_pair_after x n memory) (grid_pair_made x.cells n + cell)
+        ≡ Some (f (grid_pair_at x.cells (grid_pair_read x.cells n) memory))
     value memory long =
-        let all = are_long x n memory at.full long in
-        grid_word_made x n cell memory all at.less
-        ∙ next (grid_at x.cells (grid_read x.cells n) memory) (read_long all)
+        let all = grid_round_lengths x n memory at.full long in
+        grid_round_word_made x n cell memory all at.less
+        ∙ next (grid_pair_at x.cells (grid_pair_read x.cells n) memory) (read_long all)
       where
-        read_long : AreLong x n memory → length (grid_at x.cells (grid_read x.cells n) memory) ≡ x.cells
+        read_long : AreGridRoundLengths x n memory → length (grid_pair_at x.cells (grid_pair_read x.cells n) memory) ≡ x.cells
         read_long all = by (is_even n) refl
           where
-            by : (b : Bool) → is_even n ≡ b → length (grid_at x.cells (grid_read x.cells n) memory) ≡ x.cells
+            by : (b : Bool) → is_even n ≡ b → length (grid_pair_at x.cells (grid_pair_read x.cells n) memory) ≡ x.cells
             by true e = rw e all.second
             by false e = rw e all.first

@@ -3,150 +3,150 @@ use Rattle.std.proofs.Common.{ℕ, ◌≡◌, ◌≢◌, ◌+◌, ◌<◌, ◌�
 use Rattle.std.specs.Prelude.{◌==◌, if◌then◌else◌, count_by, nat_le, nat_lt}
 use Rattle.std.proofs.lemmas.Bool.{cases_eq, cases_lt, eq-eqb, ne_eqb}
 use Rattle.std.proofs.lemmas.Bool.Decides.{nat_tests}
-use Rattle.base.specs.LastWritten.{written, wrote}
+use Rattle.base.specs.LastWrite.{written, wrote}
 use Rattle.base.proofs.LastWritten.{length-written, written-append}
 use Rattle.base.proofs.SliceSets.{slice_get-set_other, slice_get-set_same}
-use Rattle.base.proofs.SlicesAndCounts.{count_by-append}
+use Rattle.base.proofs.SlicesAndCounts.{slice_count_by-append}
 use Rattle.journal.specs.declared.event.Kind.{Kind}
 use Rattle.journal.specs.declared.event.Kind.TheVariants.{Load, Store, Arrive, Depart}
-use Rattle.journal.specs.Events.{is_depart}
-use Rattle.journal.specs.FlatMemory.{flat_write}
+use Rattle.journal.specs.Events.{event_departs}
+use Rattle.journal.specs.ReplayMemory.{replay_memory_write}
 use Rattle.cluster.specs.Copies.Local.{Local}
-use Rattle.seats.specs.Guards.{phase_after}
-use Rattle.seats.specs.Rounds.{HasMade, HasMadeRounds, IsMaking, Rounds, accesses_in, accesses_on, all_access, is_access, is_acquire, phase_then}
+use Rattle.seats.specs.PhaseGuards.{guard_phase_after}
+use Rattle.seats.specs.Rounds.{HasMade, HasMadeRounds, IsMaking, Rounds, round_part_in, round_part_on, all_access, is_access, is_round_acquire, round_then}
 use Rattle.seats.specs.Loads.{LoadsValue, LoadsWithin}
 use Rattle.seats.specs.SeatCalls.{AccessesPage, HasDone}
 use Rattle.seats.specs.Sitting.{seat_deeds}
-use Rattle.seats.specs.Tables.{is_between}
-use Rattle.seats.specs.Tenures.{AnswersFrom}
-use Rattle.seats.proofs.KeptByPrograms.{and_both}
-use Rattle.seats.proofs.Rounds.PhaseAccesses.{accesses_on-append, accesses_on_later, and_false}
+use Rattle.seats.specs.Tables.{table_range_has}
+use Rattle.seats.specs.Tenures.{TenureAnswersFrom}
+use Rattle.seats.proofs.KeptByPrograms.{kept_by_program_both}
+use Rattle.seats.proofs.Rounds.PhaseAccesses.{round_part_on-append, phase_accesses_later, and_false}
 
 -- accesses are all of their phase
-accesses_all : (n : ℕ) (ks : List Kind) → all_access ks ≡ true → accesses_on n n ks ≡ ks
-accesses_all n [] all = refl
-accesses_all n (k ∷ ks) all =
-    let parts = and_both (is_access k) (all_access ks) all in
+making_round_accesses_all : (n : ℕ) (ks : List Kind) → all_access ks ≡ true → round_part_on n n ks ≡ ks
+making_round_accesses_all n [] all = refl
+making_round_accesses_all n (k ∷ ks) all =
+    let parts = kept_by_program_both (is_access k) (all_access ks) all in
     let here = eq-eqb n n refl in
-    let stays : phase_then n k ≡ n = access_stays n k parts.0 in
-    rw (here, parts.0) (ap (λ m. k ∷ accesses_on n m ks) stays ∙ ap (λ es. k ∷ es) (accesses_all n ks parts.1))
+    let stays : round_then n k ≡ n = access_stays n k parts.0 in
+    rw (here, parts.0) (ap (λ m. k ∷ round_part_on n m ks) stays ∙ ap (λ es. k ∷ es) (making_round_accesses_all n ks parts.1))
   where
-    access_stays : (n : ℕ) (k : Kind) → is_access k ≡ true → phase_then n k ≡ n
+    access_stays : (n : ℕ) (k : Kind) → is_access k ≡ true → round_then n k ≡ n
     access_stays n (Load a v) e = refl
     access_stays n (Store a v) e = refl
     access_stays n _ e = absurd (cc)
 
 -- none of these are of an earlier phase
-accesses_before : (n m : ℕ) (ks : List Kind) → n < m → accesses_on n m ks ≡ []
-accesses_before n m [] less = refl
-accesses_before n m (k ∷ ks) less =
+making_round_accesses_before : (n m : ℕ) (ks : List Kind) → n < m → round_part_on n m ks ≡ []
+making_round_accesses_before n m [] less = refl
+making_round_accesses_before n m (k ∷ ks) less =
     let no : (m == n) ≡ false = ne_eqb m n (λ e. omega (arith, less, e)) in
-    rw no (accesses_before n (phase_then m k) ks (later (is_depart k) refl))
+    rw no (making_round_accesses_before n (round_then m k) ks (later (event_departs k) refl))
   where
-    later : (b : Bool) → is_depart k ≡ b → n < phase_then m k
-    later true e = let is : phase_then m k ≡ suc m = rw e refl in omega (arith, is, less)
-    later false e = let is : phase_then m k ≡ m = rw e refl in omega (arith, is, less)
+    later : (b : Bool) → event_departs k ≡ b → n < round_then m k
+    later true e = let is : round_then m k ≡ suc m = rw e refl in omega (arith, is, less)
+    later false e = let is : round_then m k ≡ m = rw e refl in omega (arith, is, less)
 
 -- no departure and no lock is an access
-accesses_without : (is : Kind → Bool) → ((k : Kind) → is_access k ≡ true → is k ≡ false) → (ks : List Kind)
+making_round_accesses_without : (is : Kind → Bool) → ((k : Kind) → is_access k ≡ true → is k ≡ false) → (ks : List Kind)
     → all_access ks ≡ true → count_by is ks ≡ 0
-accesses_without is none [] all = refl
-accesses_without is none (k ∷ ks) all =
-    let parts = and_both (is_access k) (all_access ks) all in
-    let both : count_by is (k ∷ ks) ≡ count_by is (k ∷ []) + count_by is ks = count_by-append is (k ∷ []) ks in
+making_round_accesses_without is none [] all = refl
+making_round_accesses_without is none (k ∷ ks) all =
+    let parts = kept_by_program_both (is_access k) (all_access ks) all in
+    let both : count_by is (k ∷ ks) ≡ count_by is (k ∷ []) + count_by is ks = slice_count_by-append is (k ∷ []) ks in
     let first : count_by is (k ∷ []) ≡ 0 = rw (none k parts.0) refl in
-    let rest = accesses_without is none ks parts.1 in
+    let rest = making_round_accesses_without is none ks parts.1 in
     omega (arith, both, first, rest)
 
-no_departure : (k : Kind) → is_access k ≡ true → is_depart k ≡ false
-no_departure (Load a v) e = refl
-no_departure (Store a v) e = refl
-no_departure _ e = absurd (cc)
+making_round_no_departure : (k : Kind) → is_access k ≡ true → event_departs k ≡ false
+making_round_no_departure (Load a v) e = refl
+making_round_no_departure (Store a v) e = refl
+making_round_no_departure _ e = absurd (cc)
 
-no_acquire : (k : Kind) → is_access k ≡ true → is_acquire k ≡ false
-no_acquire (Load a v) e = refl
-no_acquire (Store a v) e = refl
-no_acquire _ e = absurd (cc)
+making_round_no_acquire : (k : Kind) → is_access k ≡ true → is_round_acquire k ≡ false
+making_round_no_acquire (Load a v) e = refl
+making_round_no_acquire (Store a v) e = refl
+making_round_no_acquire _ e = absurd (cc)
 
 -- no round yet
-pub rounds_none : (r : Rounds) (p : ℕ) → HasMadeRounds r p 0 []
-rounds_none r p = record { ended = refl; each = λ m less. absurd (omega (arith, less)); since = refl; unlocked = refl }
+pub making_rounds_none : (r : Rounds) (p : ℕ) → HasMadeRounds r p 0 []
+making_rounds_none r p = record { ended = refl; each = λ m less. absurd (omega (arith, less)); since = refl; unlocked = refl }
 
-no_ends : (i m : ℕ) → accesses_on i m (Arrive ∷ Depart ∷ []) ≡ []
-no_ends i m = let none = and_false (m == i) false refl in rw none refl
+making_round_no_ends : (i m : ℕ) → round_part_on i m (Arrive ∷ Depart ∷ []) ≡ []
+making_round_no_ends i m = let none = and_false (m == i) false refl in rw none refl
 
 -- one round more
-rounds_push : {r : Rounds} {p n : ℕ} (ks mine : List Kind) → HasMadeRounds r p n ks → HasMade r n (r.makes n p) mine
+making_rounds_push : {r : Rounds} {p n : ℕ} (ks mine : List Kind) → HasMadeRounds r p n ks → HasMade r n (r.makes n p) mine
     → HasMadeRounds r p (suc n) ((ks ++ mine) ++ Arrive ∷ Depart ∷ [])
-rounds_push {r} {p} {n} ks mine was made = record {
-  ended = count_by-append is_depart (ks ++ mine) (Arrive ∷ Depart ∷ [])
-      ∙ (let both = count_by-append is_depart ks mine in let old = was.ended in omega (arith, both, old, goes));
+making_rounds_push {r} {p} {n} ks mine was made = record {
+  ended = slice_count_by-append event_departs (ks ++ mine) (Arrive ∷ Depart ∷ [])
+      ∙ (let both = slice_count_by-append event_departs ks mine in let old = was.ended in omega (arith, both, old, goes));
   each = λ m less. elim (cases_eq m n) [
-    | inl is ↦ subst (λ i. HasMade r i (r.makes i p) (accesses_in i all)) (sym is) (subst (HasMade r n (r.makes n p)) (sym now) made)
+    | inl is ↦ subst (λ i. HasMade r i (r.makes i p) (round_part_in i all)) (sym is) (subst (HasMade r n (r.makes n p)) (sym now) made)
     | inr apart ↦ subst (HasMade r m (r.makes m p)) (sym (before m (omega (arith, less, apart)))) (was.each m (omega (arith, less, apart)))
   ];
   since = parts (suc n)
-      ∙ ap (λ es. es ++ accesses_on (suc n) n mine) (accesses_on_later (suc n) 0 ks (let old = was.ended in omega (arith, old)))
-      ∙ accesses_on_later (suc n) n mine (omega (arith, goes));
-  unlocked = count_by-append is_acquire (ks ++ mine) (Arrive ∷ Depart ∷ [])
-      ∙ (let both = count_by-append is_acquire ks mine in let old = was.unlocked in
-      let none = accesses_without is_acquire no_acquire mine made.accesses in omega (arith, both, old, none));
+      ∙ ap (λ es. es ++ round_part_on (suc n) n mine) (phase_accesses_later (suc n) 0 ks (let old = was.ended in omega (arith, old)))
+      ∙ phase_accesses_later (suc n) n mine (omega (arith, goes));
+  unlocked = slice_count_by-append is_round_acquire (ks ++ mine) (Arrive ∷ Depart ∷ [])
+      ∙ (let both = slice_count_by-append is_round_acquire ks mine in let old = was.unlocked in
+      let none = making_round_accesses_without is_round_acquire making_round_no_acquire mine made.accesses in omega (arith, both, old, none));
 }
   where
     all : List Kind
     all = (ks ++ mine) ++ Arrive ∷ Depart ∷ []
 
-    goes : count_by is_depart mine ≡ 0
-    goes = accesses_without is_depart no_departure mine made.accesses
+    goes : count_by event_departs mine ≡ 0
+    goes = making_round_accesses_without event_departs making_round_no_departure mine made.accesses
 
-    parts : (i : ℕ) → accesses_in i ((ks ++ mine) ++ Arrive ∷ Depart ∷ []) ≡ accesses_in i ks ++ accesses_on i n mine
+    parts : (i : ℕ) → round_part_in i ((ks ++ mine) ++ Arrive ∷ Depart ∷ []) ≡ round_part_in i ks ++ round_part_on i n mine
     parts i =
-        let begun : 0 + phase_after ks ≡ n = let old = was.ended in omega (arith, old) in
-        accesses_on-append i 0 (ks ++ mine) (Arrive ∷ Depart ∷ [])
-        ∙ ap (λ es. accesses_on i 0 (ks ++ mine) ++ es) (no_ends i (0 + phase_after (ks ++ mine)))
-        ∙ append-nil (accesses_on i 0 (ks ++ mine))
-        ∙ accesses_on-append i 0 ks mine
-        ∙ ap (λ m. accesses_in i ks ++ accesses_on i m mine) begun
+        let begun : 0 + guard_phase_after ks ≡ n = let old = was.ended in omega (arith, old) in
+        round_part_on-append i 0 (ks ++ mine) (Arrive ∷ Depart ∷ [])
+        ∙ ap (λ es. round_part_on i 0 (ks ++ mine) ++ es) (making_round_no_ends i (0 + guard_phase_after (ks ++ mine)))
+        ∙ append-nil (round_part_on i 0 (ks ++ mine))
+        ∙ round_part_on-append i 0 ks mine
+        ∙ ap (λ m. round_part_in i ks ++ round_part_on i m mine) begun
 
-    now : accesses_in n ((ks ++ mine) ++ Arrive ∷ Depart ∷ []) ≡ mine
-    now = parts n ∙ ap (λ es. es ++ accesses_on n n mine) was.since ∙ accesses_all n mine made.accesses
+    now : round_part_in n ((ks ++ mine) ++ Arrive ∷ Depart ∷ []) ≡ mine
+    now = parts n ∙ ap (λ es. es ++ round_part_on n n mine) was.since ∙ making_round_accesses_all n mine made.accesses
 
-    before : (m : ℕ) → m < n → accesses_in m ((ks ++ mine) ++ Arrive ∷ Depart ∷ []) ≡ accesses_in m ks
+    before : (m : ℕ) → m < n → round_part_in m ((ks ++ mine) ++ Arrive ∷ Depart ∷ []) ≡ round_part_in m ks
     before m less =
-        parts m ∙ ap (λ es. accesses_in m ks ++ es) (accesses_before m n mine less) ∙ append-nil (accesses_in m ks)
+        parts m ∙ ap (λ es. round_part_in m ks ++ es) (making_round_accesses_before m n mine less) ∙ append-nil (round_part_in m ks)
 
 -- a round is made, and all meet at the barrier
-pub round_done : {r : Rounds} {n lo hi : ℕ} {a m b : Local} (p : ℕ) → HasMadeRounds r p n (seat_deeds a) → IsMaking r n lo hi a m
-    → ((i : ℕ) → is_between lo hi i ≡ r.makes n p i) → HasDone m b (Arrive ∷ Depart ∷ [])
+pub making_round_done : {r : Rounds} {n lo hi : ℕ} {a m b : Local} (p : ℕ) → HasMadeRounds r p n (seat_deeds a) → IsMaking r n lo hi a m
+    → ((i : ℕ) → table_range_has lo hi i ≡ r.makes n p i) → HasDone m b (Arrive ∷ Depart ∷ [])
     → HasMadeRounds r p (suc n) (seat_deeds b)
-round_done {r} {n} {lo} {hi} {a} {m} {b} p was making same met =
+making_round_done {r} {n} {lo} {hi} {a} {m} {b} p was making same met =
     subst (HasMadeRounds r p (suc n))
     (sym (met.besides.deeds_are ∙ ap (λ es. es ++ Arrive ∷ Depart ∷ []) making.deeds_are))
-    (rounds_push (seat_deeds a) making.accesses was (record {
+    (making_rounds_push (seat_deeds a) making.accesses was (record {
       accesses = making.made.accesses;
       each = λ memory i long answers. making.made.each memory i long answers
           ∙ ap (λ (c : Bool). slice_get (if c then r.after n memory else memory) i) (same i);
     }))
 
-pub between_in : (from to a : ℕ) → from ≤ a → a < to → is_between from to a ≡ true
-between_in from to a le less =
+pub making_round_between_in : (from to a : ℕ) → from ≤ a → a < to → table_range_has from to a ≡ true
+making_round_between_in from to a le less =
     let low : nat_le from a ≡ true = grind (arith, nat_tests) in
     let high : nat_lt a to ≡ true = grind (arith, nat_tests) in
     rw (low, high) refl
 
-pub between_out : (from to a : ℕ) → (a < from) ⊎ (to ≤ a) → is_between from to a ≡ false
-between_out from to a (inl less) = let low : nat_le from a ≡ false = grind (arith, nat_tests) in rw low refl
-between_out from to a (inr past) =
+pub making_round_between_out : (from to a : ℕ) → (a < from) ⊎ (to ≤ a) → table_range_has from to a ≡ false
+making_round_between_out from to a (inl less) = let low : nat_le from a ≡ false = grind (arith, nat_tests) in rw low refl
+making_round_between_out from to a (inr past) =
     let high : nat_lt a to ≡ false = grind (arith, nat_tests) in and_false (nat_le from a) (nat_lt a to) high
 
 -- nothing is made yet
-pub making_nothing : (r : Rounds) (n lo : ℕ) (m : Local) → IsMaking r n lo lo m m
-making_nothing r n lo m = record {
+pub making_round_nothing : (r : Rounds) (n lo : ℕ) (m : Local) → IsMaking r n lo lo m m
+making_round_nothing r n lo m = record {
   accesses = [];
   deeds_are = sym (append-nil (seat_deeds m));
   made = record {
     accesses = refl;
-    each = λ memory a long answers. let none = between_out lo lo a (elim (cases_lt a lo) [ inl less ↦ inl less | inr past ↦ inr past ]) in
+    each = λ memory a long answers. let none = making_round_between_out lo lo a (elim (cases_lt a lo) [ inl less ↦ inl less | inr past ↦ inr past ]) in
         rw none refl;
   };
 }
@@ -154,104 +154,104 @@ making_nothing r n lo m = record {
 all_access-append : (ks ls : List Kind) → all_access ks ≡ true → all_access ls ≡ true → all_access (ks ++ ls) ≡ true
 all_access-append [] ls first second = second
 all_access-append (k ∷ ks) ls first second =
-    let parts = and_both (is_access k) (all_access ks) first in rw (parts.0) (all_access-append ks ls parts.1 second)
+    let parts = kept_by_program_both (is_access k) (all_access ks) first in rw (parts.0) (all_access-append ks ls parts.1 second)
 
 -- loads are accesses, which write nothing
-loads_access : (from to : ℕ) (ls : List Kind) → LoadsWithin from to ls → all_access ls ≡ true
-loads_access from to [] within = refl
-loads_access from to (Load a v ∷ ls) within = loads_access from to ls within.1
-loads_access from to (_ ∷ ls) within = absurd within
+making_round_loads_access : (from to : ℕ) (ls : List Kind) → LoadsWithin from to ls → all_access ls ≡ true
+making_round_loads_access from to [] within = refl
+making_round_loads_access from to (Load a v ∷ ls) within = making_round_loads_access from to ls within.1
+making_round_loads_access from to (_ ∷ ls) within = absurd within
 
-loads_written : (from to : ℕ) (memory : List ℕ) (ls : List Kind) → LoadsWithin from to ls → written flat_write memory ls ≡ memory
-loads_written from to memory [] within = refl
-loads_written from to memory (Load a v ∷ ls) within = loads_written from to memory ls within.1
-loads_written from to memory (_ ∷ ls) within = absurd within
+making_round_loads_written : (from to : ℕ) (memory : List ℕ) (ls : List Kind) → LoadsWithin from to ls → written replay_memory_write memory ls ≡ memory
+making_round_loads_written from to memory [] within = refl
+making_round_loads_written from to memory (Load a v ∷ ls) within = making_round_loads_written from to memory ls within.1
+making_round_loads_written from to memory (_ ∷ ls) within = absurd within
 
 -- they are answered the same by memories that agree there
-loads_same : (from to : ℕ) (m n : List ℕ) (ls : List Kind) → LoadsWithin from to ls
-    → ((a : ℕ) → from ≤ a → a < to → slice_get m a ≡ slice_get n a) → AnswersFrom m ls → AnswersFrom n ls
-loads_same from to m n [] within agree answers = tt
-loads_same from to m n (Load a v ∷ ls) within agree answers =
-    (sym (agree a within.0.0 within.0.1) ∙ answers.0, loads_same from to m n ls within.1 agree answers.1)
-loads_same from to m n (_ ∷ ls) within agree answers = absurd within
+making_round_loads_same : (from to : ℕ) (m n : List ℕ) (ls : List Kind) → LoadsWithin from to ls
+    → ((a : ℕ) → from ≤ a → a < to → slice_get m a ≡ slice_get n a) → TenureAnswersFrom m ls → TenureAnswersFrom n ls
+making_round_loads_same from to m n [] within agree answers = tt
+making_round_loads_same from to m n (Load a v ∷ ls) within agree answers =
+    (sym (agree a within.0.0 within.0.1) ∙ answers.0, making_round_loads_same from to m n ls within.1 agree answers.1)
+making_round_loads_same from to m n (_ ∷ ls) within agree answers = absurd within
 
 -- answers of these and then of those
-answers_parts : (memory : List ℕ) (ks ls : List Kind) → AnswersFrom memory (ks ++ ls)
-    → AnswersFrom memory ks × AnswersFrom (written flat_write memory ks) ls
-answers_parts memory [] ls answers = (tt, answers)
-answers_parts memory (k ∷ ks) ls answers =
-    let rest = answers_parts (wrote memory (flat_write k)) ks ls answers.1 in ((answers.0, rest.0), rest.1)
+making_round_answers_parts : (memory : List ℕ) (ks ls : List Kind) → TenureAnswersFrom memory (ks ++ ls)
+    → TenureAnswersFrom memory ks × TenureAnswersFrom (written replay_memory_write memory ks) ls
+making_round_answers_parts memory [] ls answers = (tt, answers)
+making_round_answers_parts memory (k ∷ ks) ls answers =
+    let rest = making_round_answers_parts (wrote memory (replay_memory_write k)) ks ls answers.1 in ((answers.0, rest.0), rest.1)
 
 -- one word more, worked out from words that aren't made in this round
-made_push : {r : Rounds} {n lo hi v : ℕ} {ks : List Kind} (from to : ℕ) (ls : List Kind) → HasMade r n (is_between lo hi) ks
+making_round_word_push : {r : Rounds} {n lo hi v : ℕ} {ks : List Kind} (from to : ℕ) (ls : List Kind) → HasMade r n (table_range_has lo hi) ks
     → (lo ≤ hi) × (hi < r.words) × ((to ≤ lo) ⊎ (hi ≤ from)) → LoadsWithin from to ls
-    → ((memory : List ℕ) → length memory ≡ r.words → AnswersFrom memory ls → slice_get (r.after n memory) hi ≡ Some v)
-    → HasMade r n (is_between lo (suc hi)) ((ks ++ ls) ++ Store hi v ∷ [])
-made_push {r} {n} {lo} {hi} {v} {ks} from to ls was place within value = record {
-  accesses = all_access-append (ks ++ ls) (Store hi v ∷ []) (all_access-append ks ls was.accesses (loads_access from to ls within)) refl;
+    → ((memory : List ℕ) → length memory ≡ r.words → TenureAnswersFrom memory ls → slice_get (r.after n memory) hi ≡ Some v)
+    → HasMade r n (table_range_has lo (suc hi)) ((ks ++ ls) ++ Store hi v ∷ [])
+making_round_word_push {r} {n} {lo} {hi} {v} {ks} from to ls was place within value = record {
+  accesses = all_access-append (ks ++ ls) (Store hi v ∷ []) (all_access-append ks ls was.accesses (making_round_loads_access from to ls within)) refl;
   each = λ memory a long answers. each memory a long
-      (answers_parts memory ks ls (answers_parts memory (ks ++ ls) (Store hi v ∷ []) answers).0);
+      (making_round_answers_parts memory ks ls (making_round_answers_parts memory (ks ++ ls) (Store hi v ∷ []) answers).0);
 }
   where
     each : (memory : List ℕ) (a : ℕ) → length memory ≡ r.words
-        → AnswersFrom memory ks × AnswersFrom (written flat_write memory ks) ls
-        → slice_get (written flat_write memory ((ks ++ ls) ++ Store hi v ∷ [])) a
-        ≡ slice_get (if is_between lo (suc hi) a then r.after n memory else memory) a
+        → TenureAnswersFrom memory ks × TenureAnswersFrom (written replay_memory_write memory ks) ls
+        → slice_get (written replay_memory_write memory ((ks ++ ls) ++ Store hi v ∷ [])) a
+        ≡ slice_get (if table_range_has lo (suc hi) a then r.after n memory else memory) a
     each memory a long answers =
-        ap (λ m. slice_get m a) (written-append flat_write memory (ks ++ ls) (Store hi v ∷ [])
-        ∙ ap (λ m. slice_set m hi v) (written-append flat_write memory ks ls ∙ loads_written from to made ls within))
+        ap (λ m. slice_get m a) (written-append replay_memory_write memory (ks ++ ls) (Store hi v ∷ [])
+        ∙ ap (λ m. slice_set m hi v) (written-append replay_memory_write memory ks ls ∙ making_round_loads_written from to made ls within))
         ∙ at
       where
         made : List ℕ
-        made = written flat_write memory ks
+        made = written replay_memory_write memory ks
 
         unmade : (b : ℕ) → from ≤ b → b < to → slice_get made b ≡ slice_get memory b
         unmade b le less =
-            let out : is_between lo hi b ≡ false = between_out lo hi b (elim place.2 [
+            let out : table_range_has lo hi b ≡ false = making_round_between_out lo hi b (elim place.2 [
               | inl before ↦ inl (omega (arith, before, less))
               | inr behind ↦ inr (omega (arith, behind, le))
             ]) in
             was.each memory b long answers.0 ∙ rw out refl
 
-        at : slice_get (slice_set made hi v) a ≡ slice_get (if is_between lo (suc hi) a then r.after n memory else memory) a
+        at : slice_get (slice_set made hi v) a ≡ slice_get (if table_range_has lo (suc hi) a then r.after n memory else memory) a
         at = elim (cases_eq a hi) [
-          | inl is ↦ subst (λ i. slice_get (slice_set made hi v) i ≡ slice_get (if is_between lo (suc hi) i then r.after n memory else memory) i)
-              (sym is) (let here = between_in lo (suc hi) hi place.0 (omega arith) in
-              rw here (slice_get-set_same made hi v (let all = length-written flat_write memory ks in let in_words = place.1 in omega (arith, all, long, in_words))
-              ∙ sym (value memory long (loads_same from to made memory ls within unmade answers.1))))
+          | inl is ↦ subst (λ i. slice_get (slice_set made hi v) i ≡ slice_get (if table_range_has lo (suc hi) i then r.after n memory else memory) i)
+              (sym is) (let here = making_round_between_in lo (suc hi) hi place.0 (omega arith) in
+              rw here (slice_get-set_same made hi v (let all = length-written replay_memory_write memory ks in let in_words = place.1 in omega (arith, all, long, in_words))
+              ∙ sym (value memory long (making_round_loads_same from to made memory ls within unmade answers.1))))
           | inr apart ↦ slice_get-set_other made hi a v apart ∙ was.each memory a long answers.0
               ∙ ap (λ (c : Bool). slice_get (if c then r.after n memory else memory) a) (same apart)
         ]
           where
-            same : a ≢ hi → is_between lo hi a ≡ is_between lo (suc hi) a
+            same : a ≢ hi → table_range_has lo hi a ≡ table_range_has lo (suc hi) a
             same apart = elim (cases_lt a lo) [
-              | inl before ↦ between_out lo hi a (inl before) ∙ sym (between_out lo (suc hi) a (inl before))
+              | inl before ↦ making_round_between_out lo hi a (inl before) ∙ sym (making_round_between_out lo (suc hi) a (inl before))
               | inr le ↦ elim (cases_lt a hi) [
-                | inl less ↦ between_in lo hi a le less ∙ sym (between_in lo (suc hi) a le (omega (arith, less)))
-                | inr past ↦ between_out lo hi a (inr past) ∙ sym (between_out lo (suc hi) a (inr (omega (arith, past, apart))))
+                | inl less ↦ making_round_between_in lo hi a le less ∙ sym (making_round_between_in lo (suc hi) a le (omega (arith, less)))
+                | inr past ↦ making_round_between_out lo hi a (inr past) ∙ sym (making_round_between_out lo (suc hi) a (inr (omega (arith, past, apart))))
               ]
             ]
 
 -- the same of the processor's calls
-pub making_next : {r : Rounds} {n lo hi v page from to : ℕ} {value : List ℕ → ℕ} {old m c d : Local} → IsMaking r n lo hi old m
+pub making_round_next : {r : Rounds} {n lo hi v page from to : ℕ} {value : List ℕ → ℕ} {old m c d : Local} → IsMaking r n lo hi old m
     → (lo ≤ hi) × (hi < r.words) × ((to ≤ lo) ⊎ (hi ≤ from)) → LoadsValue from to value m c v
     → AccessesPage c d page (Store hi v ∷ [])
     → ((memory : List ℕ) → length memory ≡ r.words → slice_get (r.after n memory) hi ≡ Some (value memory))
     → IsMaking r n lo (suc hi) old d
-making_next {hi = hi} {v = v} {from = from} {to = to} {old = old} was place loaded stored value = record {
+making_round_next {hi = hi} {v = v} {from = from} {to = to} {old = old} was place loaded stored value = record {
   accesses = (was.accesses ++ loaded.loads) ++ Store hi v ∷ [];
   deeds_are = stored.deeds_are
       ∙ ap (λ es. es ++ Store hi v ∷ []) (loaded.deeds_are ∙ ap (λ es. es ++ loaded.loads) was.deeds_are
       ∙ append_assoc (seat_deeds old) was.accesses loaded.loads)
       ∙ append_assoc (seat_deeds old) (was.accesses ++ loaded.loads) (Store hi v ∷ []);
-  made = made_push from to loaded.loads was.made place loaded.within
+  made = making_round_word_push from to loaded.loads was.made place loaded.within
       (λ memory long answers. value memory long ∙ ap Some (loaded.value_is memory answers));
 }
 
 -- a value known beforehand
-pub loads_none : {X : Type 0} (from to : ℕ) (f : List ℕ → X) (m : Local) (x : X) → ((memory : List ℕ) → f memory ≡ x)
+pub making_round_loads_none : {X : Type 0} (from to : ℕ) (f : List ℕ → X) (m : Local) (x : X) → ((memory : List ℕ) → f memory ≡ x)
     → LoadsValue from to f m m x
-loads_none from to f m x is = record {
+making_round_loads_none from to f m x is = record {
   loads = [];
   within = tt;
   deeds_are = sym (append-nil (seat_deeds m));
@@ -276,8 +276,8 @@ loads_both {from = from} {to = to} {a = a} {x = x} {y = y} k first second = reco
   within = within_both first.loads second.loads first.within second.within;
   deeds_are = second.deeds_are ∙ ap (λ es. es ++ second.loads) first.deeds_are ∙ append_assoc (seat_deeds a) first.loads second.loads;
   value_is = λ memory answers.
-      (let parts = answers_parts memory first.loads second.loads answers in
-      let now = subst (λ m. AnswersFrom m second.loads) (loads_written from to memory first.loads first.within) parts.1 in
+      (let parts = making_round_answers_parts memory first.loads second.loads answers in
+      let now = subst (λ m. TenureAnswersFrom m second.loads) (making_round_loads_written from to memory first.loads first.within) parts.1 in
       let one = first.value_is memory parts.0 in let two = second.value_is memory now in cc);
 }
   where

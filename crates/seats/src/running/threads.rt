@@ -1,11 +1,11 @@
 //! Processors on threads.
 ghost use Rattle.std.specs.Prelude.{◌≡◌, ◌≤◌, [], IfOk, IfNone, IfSome, vec_len, vec_capacity};
 ghost use Rattle.std.specs.Thread.{IsSend, IsSync};
-ghost use Rattle.cluster.specs.Clusters.{shared_cluster};
-ghost use Rattle.cluster.specs.Prelude.{HasCoverage, IsClusterCovered, IsNewCluster};
-ghost use Rattle.seats.specs.Prelude.{IsAllowed};
-ghost use Rattle.seats.specs.Prelude.{AreThreadsSeated, HasRoomForWorkers, HasWorked, HaveAllJoined, HaveAllWorked, IsNobody, IsThreadWork};
-ghost use Rattle.seats.specs.Prelude.{new_seat, seat_of_processor};
+ghost use Rattle.cluster.specs.NewClusters.{shared_cluster};
+ghost use Rattle.cluster.specs.Prelude.{HasCoverage, HasClusterCoverage, IsNewCluster};
+ghost use Rattle.seats.specs.Prelude.{IsCoverAllowed};
+ghost use Rattle.seats.specs.Prelude.{AreSeatedForProgramRun, HasRoomForProgramRun, HasWorkedSitting, HaveAllJoinedProgramRun, HaveAllWorkedInProgramRun, IsNobodyInProgramRun, IsProgramRunWork};
+ghost use Rattle.seats.specs.Prelude.{new_sitting_processor, program_run_seat};
 
 use crate::fault::{ProcessorFault, SeatFault};
 use crate::layout::Layout;
@@ -30,10 +30,10 @@ struct SeatTaken<P: Program> {
 
 impl<P: Program> Promise<Work<P::Answer>> for SeatTaken<P> {
     ghost use Rattle.std.specs.Prelude.{IfOk};
-    ghost use Rattle.seats.specs.Sitting.{HasWorked};
-    ghost use Rattle.seats.specs.ProgramRuns.{seat_of_processor};
+    ghost use Rattle.seats.specs.Sitting.{HasWorkedSitting};
+    ghost use Rattle.seats.specs.ProgramRuns.{program_run_seat};
 
-    ghost kept_by = { λ p r. IfOk r (λ x. HasWorked P.did (seat_of_processor p.layout.value p.was.value) x.0 x.1) };
+    ghost kept_by = { λ p r. IfOk r (λ x. HasWorkedSitting P.did (program_run_seat p.layout.value p.was.value) x.0 x.1) };
 }
 
 /// A processor's thread, if it could be started. Contracts see it as what it was started with.
@@ -45,9 +45,9 @@ struct Thread<P: Program> {
 impl<P: Program> Model for Thread<P> {
     ghost use Rattle.std.specs.Prelude.{Option};
     ghost use Rattle.std.specs.Option.{option_map};
-    ghost use Rattle.seats.specs.ProgramRuns.{SeatErrand};
+    ghost use Rattle.seats.specs.ProgramRuns.{ProgramRunErrand};
 
-    ghost Value = { Option SeatErrand };
+    ghost Value = { Option ProgramRunErrand };
 
     ghost view = { λ t. option_map (λ h. record {
       processor = h.promise.was.value;
@@ -58,7 +58,7 @@ impl<P: Program> Model for Thread<P> {
 impl<P: Program> Thread<P> {
     /// Waits for the thread's end, and answers what came of its processor.
     fn join<R: Threads>(self, rt: &R) -> Work<P::Answer>
-        ensures { IsThreadWork P.did self result }
+        ensures { IsProgramRunWork P.did self result }
     {
         match self.handle {
             Some(handle) => handle.join(rt),
@@ -69,7 +69,7 @@ impl<P: Program> Thread<P> {
 
 /// Moves the processor into a thread of its own, on which the program works. If that can't be started, the cluster is told
 /// that the processor makes no calls.
-fn start<'s, 'x: 's, P: Program, R: Threads + Wait + Sync>(
+fn start_seat_thread<'s, 'x: 's, P: Program, R: Threads + Wait + Sync>(
     scope: &'s Scope<'s, &'x ()>,
     rt: &'x R,
     cluster: &'x Cluster<BookLock>,
@@ -77,10 +77,10 @@ fn start<'s, 'x: 's, P: Program, R: Threads + Wait + Sync>(
     layout: &'x Layout,
     program: &'x P,
 ) -> Thread<P>
-    requires new { processor ≡ new_seat (seat_of_processor layout.now processor) }
+    requires new { processor ≡ new_sitting_processor (program_run_seat layout.now processor) }
     requires own { shared_cluster processor.lock processor.sizes ≡ cluster.now }
     requires covers { HasCoverage processor }
-    requires allowed { IsAllowed processor }
+    requires allowed { IsCoverAllowed processor }
     ensures { IfSome result (λ e. (e.processor ≡ processor) × (e.layout ≡ layout.now)) }
 {
     let promise = SeatTaken {
@@ -92,11 +92,11 @@ fn start<'s, 'x: 's, P: Program, R: Threads + Wait + Sync>(
     let started = scope.spawn_with(
         promise,
         move || -> Work<P::Answer>
-            requires new { processor ≡ new_seat (seat_of_processor layout.now processor) }
+            requires new { processor ≡ new_sitting_processor (program_run_seat layout.now processor) }
             requires own { shared_cluster processor.lock processor.sizes ≡ cluster.now }
             requires covers { HasCoverage processor }
-            requires allowed { IsAllowed processor }
-            ensures { IfOk result (λ x. HasWorked P.did (seat_of_processor layout.entry.now processor) x.0 x.1) }
+            requires allowed { IsCoverAllowed processor }
+            ensures { IfOk result (λ x. HasWorkedSitting P.did (program_run_seat layout.entry.now processor) x.0 x.1) }
         { sit(rt, cluster, processor, layout, program) },
     );
     let handle = started.ok();
@@ -107,7 +107,7 @@ fn start<'s, 'x: 's, P: Program, R: Threads + Wait + Sync>(
 }
 
 /// Moves each processor into a thread of its own, on which the program works.
-fn start_all<'s, 'x: 's, P: Program, R: Threads + Wait + Sync>(
+fn start_seat_threads<'s, 'x: 's, P: Program, R: Threads + Wait + Sync>(
     scope: &'s Scope<'s, &'x ()>,
     rt: &'x R,
     cluster: &'x Cluster<BookLock>,
@@ -117,12 +117,12 @@ fn start_all<'s, 'x: 's, P: Program, R: Threads + Wait + Sync>(
     mut threads: Vec<Thread<P>>,
 ) -> Vec<Thread<P>>
     requires new { IsNewCluster cluster.now processors.items }
-    requires covered { IsClusterCovered processors.items }
+    requires covered { HasClusterCoverage processors.items }
     requires room { (threads.items ≡ []) × (vec_len processors ≤ vec_capacity threads) }
-    ensures { AreThreadsSeated layout.now processors.items result.items }
+    ensures { AreSeatedForProgramRun layout.now processors.items result.items }
 {
     for processor in processors {
-        let thread = start(scope, rt, cluster, processor, layout, program);
+        let thread = start_seat_thread(scope, rt, cluster, processor, layout, program);
         threads.push_reserved(thread);
     }
     threads
@@ -138,8 +138,8 @@ pub(super) struct Workers<X> {
 }
 
 /// Nobody yet, with room for as many.
-fn nobody<X: Drop>(alloc: Global, count: usize) -> Result<Workers<X>, AllocError>
-    ensures { IfOk result (λ w. IsNobody w × HasRoomForWorkers w count) }
+fn nobody_on_seat_threads<X: Drop>(alloc: Global, count: usize) -> Result<Workers<X>, AllocError>
+    ensures { IfOk result (λ w. IsNobodyInProgramRun w × HasRoomForProgramRun w count) }
 {
     Ok(Workers {
         processors: Vec::with_capacity(alloc, count)?,
@@ -149,7 +149,7 @@ fn nobody<X: Drop>(alloc: Global, count: usize) -> Result<Workers<X>, AllocError
 }
 
 /// Which of two faults is told: the earlier one, unless that alone is of waiting.
-fn told(earlier: Option<ProcessorFault>, later: ProcessorFault) -> ProcessorFault {
+fn seat_thread_fault(earlier: Option<ProcessorFault>, later: ProcessorFault) -> ProcessorFault {
     match earlier {
         Some(first) if !first.fault.is_of_waiting() || later.fault.is_of_waiting() => first,
         _ => later,
@@ -157,14 +157,14 @@ fn told(earlier: Option<ProcessorFault>, later: ProcessorFault) -> ProcessorFaul
 }
 
 /// Waits for all threads, and puts together what came of their processors.
-fn join_all<P: Program, R: Threads>(
+fn join_seat_threads<P: Program, R: Threads>(
     rt: &R,
     threads: Vec<Thread<P>>,
     mut workers: Workers<P::Answer>,
 ) -> Workers<P::Answer>
-    requires none { IsNobody workers }
-    requires room { HasRoomForWorkers workers (vec_len threads) }
-    ensures { IfNone result.fault (HaveAllJoined P.did threads.items result.processors.items result.answers.items) }
+    requires none { IsNobodyInProgramRun workers }
+    requires room { HasRoomForProgramRun workers (vec_len threads) }
+    ensures { IfNone result.fault (HaveAllJoinedProgramRun P.did threads.items result.processors.items result.answers.items) }
 {
     let mut number: usize = 0;
     for thread in threads {
@@ -178,7 +178,7 @@ fn join_all<P: Program, R: Threads>(
                     processor: number,
                     fault,
                 };
-                workers.fault = Some(told(workers.fault, later));
+                workers.fault = Some(seat_thread_fault(workers.fault, later));
             }
         }
         number = number.wrapping_add(1);
@@ -188,7 +188,7 @@ fn join_all<P: Program, R: Threads>(
 
 /// Moves each processor into a thread of its own, on which the program works, and waits for all threads. All memory is
 /// taken before the first one is started.
-pub(super) fn work_all<'x, P: Program, R: Threads + Wait + Sync>(
+pub(super) fn work_on_seat_threads<'x, P: Program, R: Threads + Wait + Sync>(
     rt: &'x R,
     alloc: Global,
     cluster: &'x Cluster<BookLock>,
@@ -197,25 +197,27 @@ pub(super) fn work_all<'x, P: Program, R: Threads + Wait + Sync>(
     program: &'x P,
 ) -> Result<Workers<P::Answer>, AllocError>
     requires new { IsNewCluster cluster.now processors.items }
-    requires covered { IsClusterCovered processors.items }
-    ensures { IfOk result (λ w. IfNone w.fault (HaveAllWorked layout.now P.did processors.items w.processors.items w.answers.items)) }
+    requires covered { HasClusterCoverage processors.items }
+    ensures { IfOk result (λ w. IfNone w.fault (HaveAllWorkedInProgramRun layout.now P.did processors.items w.processors.items w.answers.items)) }
 {
     let count = processors.len();
     let threads = Vec::with_capacity(alloc, count)?;
-    let workers = nobody(alloc, count)?;
+    let workers = nobody_on_seat_threads(alloc, count)?;
     Ok(scope(
         scope_env(),
         rt,
         move |scope| -> Workers<P::Answer>
             requires bounds { IsSync R.row × IsSync P.row }
             requires new { IsNewCluster cluster.now processors.items }
-            requires covered { IsClusterCovered processors.items }
+            requires covered { HasClusterCoverage processors.items }
             requires threads { (threads.items ≡ []) × (vec_len processors ≤ vec_capacity threads) }
-            requires workers { IsNobody workers × HasRoomForWorkers workers (vec_len processors) }
-            ensures { IfNone result.fault (HaveAllWorked layout.entry.now P.did processors.items result.processors.items result.answers.items) }
+            requires workers { IsNobodyInProgramRun workers × HasRoomForProgramRun workers (vec_len processors) }
+            ensures { IfNone result.fault (HaveAllWorkedInProgramRun layout.entry.now P.did processors.items result.processors.items result.answers.items) }
         {
-            let threads = start_all(scope, rt, cluster, processors, layout, program, threads);
-            join_all(rt, threads, workers)
+            let threads = start_seat_threads(
+                scope, rt, cluster, processors, layout, program, threads,
+            );
+            join_seat_threads(rt, threads, workers)
         },
     ))
 }

@@ -4,9 +4,9 @@ use Rattle.std.specs.List.{list_all}
 use Rattle.std.proofs.lemmas.List.{length-map}
 use Rattle.std.proofs.lemmas.List.Sums.{sum_by-cons}
 use Rattle.std.proofs.lemmas.Option.{slice_get_within, get_or_from_slice_get, slice_get_read}
-use Rattle.turn.proofs.ListItems.{item_of_unmap}
+use Rattle.turn.proofs.ListItems.{list_item_of_unmap}
 use Rattle.turn.specs.declared.chair.ChairToken.{ChairToken}
-use Rattle.turn.specs.Chairs.{ChairLockId, lock, chair_place, chair_view, IsChairOutside, AreFreshChairs, AreAllChairs}
+use Rattle.turn.specs.Chairs.{ChairLockId, lock, chair_place, chair_view, IsChairOutside, AreUnusedChairs, AreChairsInOrder}
 use Rattle.test_crews.specs.Counters.Tallies.{IsTallied, IsNew, HasAdded}
 
 both_true : (a b : Bool) → (a && b) ≡ true → (a ≡ true) × (b ≡ true)
@@ -14,7 +14,7 @@ both_true true b e = (refl, e)
 both_true false b e = cc
 
 -- the chair of each thread is new
-pub each_new : (l : ChairLockId) (cs : List (ChairToken ℕ ℕ)) → AreFreshChairs l 0 cs → (i : ℕ) (x : ChairToken ℕ ℕ)
+pub each_new : (l : ChairLockId) (cs : List (ChairToken ℕ ℕ)) → AreUnusedChairs l 0 cs → (i : ℕ) (x : ChairToken ℕ ℕ)
     → i < length cs → x ≡ get_or cs i x → IsNew l x
 each_new l cs fresh i x less read = let f = fresh i x (slice_get_read cs (length cs) i x refl less read) in
     (f.0, f.4, f.2, f.3)
@@ -51,12 +51,12 @@ Done limit times rs = (k : ℕ) (r : ChairToken ℕ ℕ × Bool) → slice_get r
 
 -- all chairs are back
 pub all_back : (l : ChairLockId) (n limit times : ℕ) (jobs : List (ChairToken ℕ ℕ))
-    (results : List (ChairToken ℕ ℕ × Bool)) → length jobs ≡ n → AreFreshChairs l 0 jobs
-    → HaveAdded limit times jobs results → AreAllChairs l n (map (λ p. p.0) results)
+    (results : List (ChairToken ℕ ℕ × Bool)) → length jobs ≡ n → AreUnusedChairs l 0 jobs
+    → HaveAdded limit times jobs results → AreChairsInOrder l n (map (λ p. p.0) results)
 all_back l n limit times jobs results count fresh h = (
   length-map results (λ p. p.0) ∙ h.long ∙ count,
   λ k c e.
-      let r = item_of_unmap (λ (p : ChairToken ℕ ℕ × Bool). p.0) results k c e in
+      let r = list_item_of_unmap (λ (p : ChairToken ℕ ℕ × Bool). p.0) results k c e in
       let job = h.each k r.0 r.1 in
       let new = fresh k job.0 job.1 in
       subst (λ (x : ChairToken ℕ ℕ). (lock x ≡ l) × (chair_place x ≡ k) × IsChairOutside x) r.2

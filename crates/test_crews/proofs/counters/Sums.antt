@@ -6,9 +6,9 @@ use Rattle.std.proofs.lemmas.List.Sums.{sum_by-le, sum_by-set}
 use Rattle.std.proofs.lemmas.List.Folds.{sum_by-replicate}
 use Rattle.std.proofs.lemmas.List.Elements.{All-set, All-replicate}
 use Rattle.std.proofs.lemmas.Option.{slice_get_within, get_or_from_slice_get}
-use Rattle.turn.proofs.ChairLists.{popped_two_chairs}
+use Rattle.turn.proofs.ChairLists.{chair_list_popped_twice}
 use Rattle.turn.specs.declared.chair.ChairToken.{ChairToken}
-use Rattle.turn.specs.Chairs.{ChairLockId, chair_place, AreFreshChairs}
+use Rattle.turn.specs.Chairs.{ChairLockId, chair_place, AreUnusedChairs}
 use Rattle.test_crews.specs.Counters.Tallies.{IsTallied, IsNew}
 
 -- a count is small
@@ -43,12 +43,12 @@ starts n few = record {
 }
 
 -- the two chairs of a new lock
-pub two_new : (l : ChairLockId) (cs ds es : List (ChairToken ℕ ℕ)) (a b : ChairToken ℕ ℕ) → length cs ≡ 2 → AreFreshChairs l 0 cs
+pub two_new : (l : ChairLockId) (cs ds es : List (ChairToken ℕ ℕ)) (a b : ChairToken ℕ ℕ) → length cs ≡ 2 → AreUnusedChairs l 0 cs
     → cs ≡ ds ++ b ∷ [] → ds ≡ es ++ a ∷ [] → (IsNew l a × (chair_place a ≡ 0)) × (IsNew l b × (chair_place b ≡ 1))
 two_new l cs ds es a b two fresh last next =
     let long : length cs ≡ length ds + 1 = ap length last ∙ length-append ds (b ∷ []) in
     let long' : length ds ≡ length es + 1 = ap length next ∙ length-append es (a ∷ []) in
-    let both = popped_two_chairs l 0 cs ds es a b fresh last next in
+    let both = chair_list_popped_twice l 0 cs ds es a b fresh last next in
     let f = both.0 in
     let s = both.1 in
     (((f.0, f.4, f.2, f.3), f.1 ∙ omega arith), ((s.0, s.4, s.2, s.3), s.1 ∙ omega arith))

@@ -5,10 +5,10 @@ use Rattle.std.proofs.lemmas.List.{length-set, length-map}
 use Rattle.std.proofs.lemmas.Option.{same_Some, slice_get_within, get_or_from_slice_get, slice_get_read}
 use Rattle.std.specs.Result.{result_err}
 use Rattle.base.proofs.SliceSets.{slice_get-set_found, slice_get-set_other}
-use Rattle.turn.proofs.ListItems.{item_of_unmap}
+use Rattle.turn.proofs.ListItems.{list_item_of_unmap}
 use Rattle.book.specs.declared.refused.Refused.{Refused}
 use Rattle.cluster.specs.Copies.Local.{Local, calls}
-use Rattle.cluster.specs.Clusters.{SharedCluster}
+use Rattle.cluster.specs.NewClusters.{SharedCluster}
 use Rattle.cluster.specs.Finishing.{AreAllToFinish}
 use Rattle.test_crews.specs.Crews.Crews.{IsOf, IsMember, AreMembers, HaveSameCalls}
 
@@ -54,7 +54,7 @@ pub all_back : {A : Type 0} (c : SharedCluster) (jobs : List Local) (results : L
 all_back {A} c jobs results all long gives = record {
   all = length-map results (λ r. r.0) ∙ (long ∙ all.all);
   each = λ p m e.
-      let r = item_of_unmap (λ (x : Local × A). x.0) results p m e in
+      let r = list_item_of_unmap (λ (x : Local × A). x.0) results p m e in
       let within = slice_get_within results p r.0 r.1 in
       let less : p < length jobs = omega arith in
       let job = gives p r.0 less in

@@ -4,21 +4,21 @@ use Rattle.std.specs.Result.{result_err}
 use Rattle.journal.specs.declared.event.Event.{Event}
 use Rattle.journal.specs.declared.event.Kind.TheVariants.{Load}
 use Rattle.book.specs.declared.refused.Refused.{Refused}
-use Rattle.cluster.specs.Copies.PageReplica.{Copied}
+use Rattle.cluster.specs.Copies.PageReplica.{PageReplica}
 use Rattle.cluster.specs.Copies.Local.{Local, calls, local_noted}
-use Rattle.cluster.specs.Accesses.{FetchDone}
-use Rattle.cluster.specs.Calls.{IsCall}
-use Rattle.cluster.specs.Clusters.{SharedCluster}
-use Rattle.cluster.specs.Covers.{HasCoverage, IsAllowed}
-use Rattle.cluster.specs.Cutting.{IsCuttingCall}
-use Rattle.cluster.specs.Waiting.{IsWaitingCall}
+use Rattle.cluster.specs.AccessDone.{FetchAccessDone}
+use Rattle.cluster.specs.ProcessorCalls.{IsProcessorCall}
+use Rattle.cluster.specs.NewClusters.{SharedCluster}
+use Rattle.cluster.specs.Covers.{HasCoverage, IsCoverAllowed}
+use Rattle.cluster.specs.CuttingCalls.{IsCuttingCall}
+use Rattle.cluster.specs.WaitingCalls.{IsWaitingCall}
 use Rattle.cluster.specs.declared.waited.Waited.{Waited}
 use Rattle.test_crews.specs.Crews.Crews.{IsOf, StaysItself}
 
 -- and of a call that enters the book it is what that promises
 pub by_call : (c : SharedCluster) (first : Option Refused) (many : ℕ) (absent : Local → Type 0) (done : Local → Local → Type 0)
     (added : List Event) (old new : Local) (refused : Option Refused)
-    → IsOf c old → IsCall first many absent done added old new refused → StaysItself c old new refused
+    → IsOf c old → IsProcessorCall first many absent done added old new refused → StaysItself c old new refused
 by_call c first many absent done added old new refused own call = record {
   own = record {
     lock_is = call.same.lock ∙ own.lock_is;
@@ -59,13 +59,13 @@ by_wait c old new answer own call = record {
 }
 
 -- what it does by itself leaves which books are allowed
-by_itself : (c : SharedCluster) (old new : Local) (block : List Event) (copies : List Copied) (stored : List Bool)
+by_itself : (c : SharedCluster) (old new : Local) (block : List Event) (copies : List PageReplica) (stored : List Bool)
     → IsOf c old → new ≡ record old { block = block; copies = copies; stored = stored } → HasCoverage new → IsOf c new
 by_itself c old new block copies stored own is covers = record {
   lock_is = ap (λ (m : Local). m.lock) is ∙ own.lock_is;
   sizes_are = ap (λ (m : Local). m.sizes) is ∙ own.sizes_are;
   allowed =
-      subst IsAllowed (sym is) (
+      subst IsCoverAllowed (sym is) (
         own.allowed.0,
         record {
           book = own.allowed.1.book;
@@ -98,7 +98,7 @@ by_load c old new a (Err e) own err ok covers = by_refusal c old new (result_err
 
 -- a fetch
 pub by_fetch : {A : Type 0} (c : SharedCluster) (old new : Local) (n : ℕ) (r : Result A Refused) → IsOf c old
-    → OnErr r (new ≡ old) → OnOk r (FetchDone old n new) → HasCoverage new → StaysItself c old new (result_err r)
+    → OnErr r (new ≡ old) → OnOk r (FetchAccessDone old n new) → HasCoverage new → StaysItself c old new (result_err r)
 by_fetch c old new n (Ok x) own err ok covers = record {
   own = by_itself c old new _ _ old.stored own ok.after covers;
   number = ap (λ (m : Local). m.number) ok.after;

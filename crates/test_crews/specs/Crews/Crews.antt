@@ -2,8 +2,8 @@
 use Rattle.std.specs.Prelude.{ℕ, ◌≡◌, ◌≢◌, Option, Some, None, List, length, slice_get}
 use Rattle.book.specs.declared.refused.Refused.{Refused}
 use Rattle.cluster.specs.Copies.Local.{Local, calls}
-use Rattle.cluster.specs.Clusters.{SharedCluster}
-use Rattle.cluster.specs.Covers.{HasCoverage, IsAllowed}
+use Rattle.cluster.specs.NewClusters.{SharedCluster}
+use Rattle.cluster.specs.Covers.{HasCoverage, IsCoverAllowed}
 
 -- the cluster and its processors, as contracts see them
 pub record Crewed : Type 0 where
@@ -17,7 +17,7 @@ crewed c ms = record { cluster = c; all = ms }
 pub record IsOf (c : SharedCluster) (m : Local) : Type 0 where
   pub lock_is : m.lock ≡ c.lock
   pub sizes_are : m.sizes ≡ c.sizes
-  pub allowed : IsAllowed m
+  pub allowed : IsCoverAllowed m
   pub covers : HasCoverage m
 
 -- it is still one of the cluster's, with its number; a refused call added nothing

@@ -2,7 +2,7 @@
 ghost use Rattle.std.specs.Prelude.{◌≡◌, ℕ, [], ◌∷◌, ◌+◌, ◌*◌, ◌^◌, ◌<◌, ◌≤◌, length, map, sum, vec_capacity};
 ghost use Rattle.std.specs.Prelude.{MatchOption, MatchResult, OnOk, OnErr, IfOk};
 ghost use Rattle.std.specs.List.{list_all};
-ghost use Rattle.turn.specs.Prelude.{lock, chair_place, chair_view, entries, IsChairOutside, IsSameChair, AreAllChairs};
+ghost use Rattle.turn.specs.Prelude.{lock, chair_place, chair_view, entries, IsChairOutside, IsSameChair, AreChairsInOrder};
 ghost use Rattle.test_crews.specs.Counters.Tallies.{IsNew, HasAdded};
 
 use crate::counters::tally::{AddsOne, Counter};

@@ -1,12 +1,12 @@
 //! Histories worked by hand: of each event the places of the latest stores of its past to its address.
 ghost use Rattle.std.specs.Prelude.{◌<◌};
-ghost use Rattle.journal.specs.Prelude.{AddressInRange};
-ghost use Rattle.judge.specs.Sources.Prelude.{AreSourceStoresOf};
+ghost use Rattle.journal.specs.Prelude.{EventAddressInRange};
+ghost use Rattle.judge.specs.Sources.Prelude.{AreKeptSourcesOf};
 
 use super::{Row, events_of, history_of, one_page};
 use journal::{Event, Kind, MOST_PROCESSORS};
 use judge::History;
-use judge::sources::{Sources, first_unexplained, latest};
+use judge::sources::{ReadableSources, first_unexplained, latest_rows};
 use std::alloc::{AllocError, Global};
 use std::process::Abort;
 use std::test::Fail;
@@ -21,9 +21,9 @@ fn tells<R: Abort + AllocGlobal>(
 ) -> Result<(), Fail> {
     let events = events_of(rt.alloc(), rows)?;
     let history = history_of(one_page(sizes.0, sizes.1), &events)?;
-    let stores = match latest(rt.alloc(), &history) {
+    let stores = match latest_rows(rt.alloc(), &history) {
         Ok(stores) => stores,
-        Err(_) => latest(rt.alloc(), &history)?,
+        Err(_) => latest_rows(rt.alloc(), &history)?,
     };
     assert!(rt; want.len() <= stores.len());
     let first = stores.len() - want.len();
@@ -94,7 +94,7 @@ fn wrong_replies(rt: HostRuntime) -> Result<(), Fail> {
 /// a time.
 fn only_these(alloc: Global, history: &History<'_>) -> Result<bool, AllocError> {
     let events = history.events();
-    let mut sources = Sources::new(alloc, history.sizes().processors, history.addresses())?;
+    let mut sources = ReadableSources::new(alloc, history.sizes().processors, history.addresses())?;
     for place in 0..events.len() {
         if !answers_only(&sources, &events[..place], events[place]) {
             return Ok(false);
@@ -105,10 +105,10 @@ fn only_these(alloc: Global, history: &History<'_>) -> Result<bool, AllocError> 
 }
 
 /// Whether the event, which comes next, is no load, or one that may answer its value and no other below 10.
-fn answers_only(sources: &Sources, front: &[Event], event: Event) -> bool
-    requires tells { AreSourceStoresOf front.now sources.now }
+fn answers_only(sources: &ReadableSources, front: &[Event], event: Event) -> bool
+    requires tells { AreKeptSourcesOf front.now sources.now }
     requires processor { event.processor < sources.now.processors }
-    requires address { AddressInRange sources.now.addresses event.kind }
+    requires address { EventAddressInRange sources.now.addresses event.kind }
 {
     let Kind::Load(address, value) = event.kind else {
         return true;

@@ -1,7 +1,7 @@
 //! Histories worked by hand: of which events a processor first hears at an event.
 
 use super::{Row, events_of, history_of, one_page, round};
-use causes::incoming;
+use causes::incoming_news;
 use journal::{Kind, MOST_PROCESSORS};
 use std::process::Abort;
 use std::test::Fail;
@@ -14,9 +14,9 @@ fn brings<R: Abort + AllocGlobal>(
 ) -> Result<(), Fail> {
     let events = events_of(rt.alloc(), rows)?;
     let history = history_of(one_page(MOST_PROCESSORS, 2), &events)?;
-    let found = match incoming(rt.alloc(), &history) {
+    let found = match incoming_news(rt.alloc(), &history) {
         Ok(found) => found,
-        Err(_) => incoming(rt.alloc(), &history)?,
+        Err(_) => incoming_news(rt.alloc(), &history)?,
     };
     let full = found.iter().filter(|row| !row.is_empty()).count();
     assert!(rt; full == wants.len());
@@ -98,9 +98,9 @@ fn goes_round(rt: HostRuntime) -> Result<(), Fail> {
         Err(_) => round(rt.alloc(), times)?,
     };
     let history = history_of(one_page(MOST_PROCESSORS, 2), &events)?;
-    let found = match incoming(rt.alloc(), &history) {
+    let found = match incoming_news(rt.alloc(), &history) {
         Ok(found) => found,
-        Err(_) => incoming(rt.alloc(), &history)?,
+        Err(_) => incoming_news(rt.alloc(), &history)?,
     };
     assert!(rt; found.len() == events.len());
     for time in 0..times {

@@ -1,14 +1,14 @@
 //! Pictures of histories made by hand: what is in their files, and how often.
 ghost use Rattle.std.specs.Prelude.{◌≡◌, ◌<◌, ◌≤◌, All, IsTrue, length};
 ghost use Rattle.base.specs.Prelude.{most_held, most_processors};
-ghost use Rattle.journal.specs.Prelude.{ProcessorsInRange};
-ghost use Rattle.lrc_picture.specs.Prelude.{ArePlaces};
+ghost use Rattle.journal.specs.Prelude.{EventProcessorsInRange};
+ghost use Rattle.lrc_picture.specs.Prelude.{AreArrowPlaces};
 
 use super::{Row, events_of};
 use causes::Part;
 use journal::{Event, Kind, MOST_HELD, MOST_PROCESSORS};
 use lrc_picture::picture::render;
-use lrc_picture::story::{Details, Story, Subject};
+use lrc_picture::story::{Details, PictureStory, Subject};
 use std::alloc::{AllocError, Global};
 use std::process::Abort;
 use std::test::Fail;
@@ -33,7 +33,7 @@ struct Case<'a> {
 
 /// Whether all events are of these processors.
 fn are_by(processors: usize, events: &[Event]) -> bool
-    ensures { IsTrue result → ProcessorsInRange processors events.now }
+    ensures { IsTrue result → EventProcessorsInRange processors events.now }
 {
     for event in events {
         if event.processor >= processors {
@@ -52,7 +52,7 @@ fn lie_below(count: usize, places: &[usize]) -> bool
 
 /// Whether there are `count` rows of places below `count`.
 fn are_places(count: usize, rows: &[Vec<usize>]) -> bool
-    ensures { IsTrue result → ArePlaces count rows.now }
+    ensures { IsTrue result → AreArrowPlaces count rows.now }
 {
     for row in 0..rows.len() {
         if !lie_below(count, &rows[row]) {
@@ -155,7 +155,7 @@ fn picture<R: Abort + AllocGlobal>(rt: &R, case: &Case<'_>) -> Result<Vec<u8>, F
         Err(_) => lists_of(alloc, case)?,
     };
     let events = events_of(alloc, case.events)?;
-    let story = Story {
+    let story = PictureStory {
         subject: Subject::Run,
         name: Some("a/<b>.lrc"),
         processors: case.processors,

@@ -1,7 +1,7 @@
 //! Histories worked by hand: what each processor waits for at the end.
 
 use super::{Row, events_of, history_of, one_page};
-use causes::{Wait, waits};
+use causes::{Wait, final_waits};
 use journal::Kind;
 use std::process::Abort;
 use std::test::Fail;
@@ -37,9 +37,9 @@ fn is_wanted(wait: &Wait, want: Want<'_>) -> bool {
 fn waiting<R: Abort + AllocGlobal>(rt: &R, rows: &[Row], wants: &[Want<'_>]) -> Result<(), Fail> {
     let events = events_of(rt.alloc(), rows)?;
     let history = history_of(one_page(wants.len(), 2), &events)?;
-    let found = match waits(rt.alloc(), &history) {
+    let found = match final_waits(rt.alloc(), &history) {
         Ok(found) => found,
-        Err(_) => waits(rt.alloc(), &history)?,
+        Err(_) => final_waits(rt.alloc(), &history)?,
     };
     assert!(rt; found.len() == wants.len());
     for (processor, want) in wants.iter().enumerate() {

@@ -2,10 +2,12 @@
 ghost use Rattle.std.specs.Prelude.{◌≢◌, ◌<◌, IfErr, IfOk};
 ghost use Rattle.std.specs.Thread.{IsSync};
 ghost use Rattle.lrc_script.specs.Prelude.{IsLawful, plan_of};
-ghost use Rattle.conformance.specs.Prelude.{IsEndByTurns, IsEndOf, IsReportByTurns, IsReportOf, IsScheduleFault, turn_orders, scheduled};
+ghost use Rattle.conformance.specs.Prelude.{IsEndByOrderedTurns, IsRunEnd, IsReportByOrderedTurns, IsScriptReport, IsScheduleFault, ordered_turns_of_seed, schedule_orders};
 ghost use Rattle.conformance.specs.declared.cause.Cause.TheVariants as cause;
 
-use conformance::{Cause, DrawnRun, Ended, LockChoice, RunFault, Runs, Schedule, ScheduleFault};
+use conformance::{
+    Cause, DrawnRun, Ended, LockChoice, RunFault, Schedule, ScheduleFault, ScriptRunner,
+};
 use lrc_report::Report;
 use lrc_run::OnCluster;
 use lrc_script::script::Script;
@@ -30,7 +32,7 @@ fn no_thread(processor: usize) -> RunFault
     }
 }
 
-impl Runs for Failing {
+impl ScriptRunner for Failing {
     fn run<R: Threads + Wait + Sync>(
         &self,
         _rt: &R,

@@ -12,7 +12,7 @@ use std::alloc::{AllocError, Global};
 use std::test::Fail;
 
 /// Traces whose first line is wrong, or that end too early, with the line and the fault.
-const HEADS: [(&str, usize, TraceFault); 17] = [
+const HEADS: [(&str, usize, TraceFault); 18] = [
     ("", 1, Truncated),
     ("cluster 1 1 1 0", 1, Truncated),
     ("cluster 9 1 1 0/x", 2, Truncated),
@@ -29,7 +29,8 @@ const HEADS: [(&str, usize, TraceFault); 17] = [
     ("cluster 0 1 1 0/", 1, BadSize),
     ("cluster 17 1 1 0/", 1, BadSize),
     ("cluster 1 1 1 0 0/", 1, BadSize),
-    ("cluster 1 1 1 0 33/", 1, BadSize),
+    ("cluster 1 1 1 65537/", 1, BadSize),
+    ("cluster 1 1 1 0 65537/", 1, BadSize),
 ];
 
 /// Traces with a line of a wrong shape, or with a word that is no number.

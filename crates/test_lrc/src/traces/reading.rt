@@ -1,6 +1,6 @@
 //! Journals that are printed, and read again behind the line of their sizes.
 ghost use Rattle.std.specs.Prelude.{◌≡◌, ◌<◌, IsTrue};
-ghost use Rattle.journal.specs.Prelude.{AddressInRange};
+ghost use Rattle.journal.specs.Prelude.{EventAddressInRange};
 
 use super::bytes_of;
 use super::pieces::{CUTS, Cut, read_cut};
@@ -100,7 +100,7 @@ const JOURNALS: [(&str, TraceSizes, usize, &[(usize, Kind)]); 3] = [
 /// Whether a journal of these sizes takes the event.
 fn is_taken(event: Event, processors: usize, addresses: usize) -> bool
     ensures processor { IsTrue result → event.processor < processors }
-    ensures address { IsTrue result → AddressInRange addresses event.kind }
+    ensures address { IsTrue result → EventAddressInRange addresses event.kind }
 {
     let in_range = match event.kind {
         Kind::Load(address, _) | Kind::Store(address, _) => address < addresses,

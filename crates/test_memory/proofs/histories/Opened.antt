@@ -5,35 +5,35 @@ use Rattle.std.proofs.lemmas.Bool.{cases_lt}
 use Rattle.std.proofs.lemmas.List.{length-replicate, map-append}
 use Rattle.std.proofs.Math.Nat.{div-lt_iff_lt-mul}
 use Rattle.base.specs.InOrderOnce.{Has}
-use Rattle.base.specs.LastWritten.{wrote, written}
-use Rattle.base.specs.MarkedRecords.{mark, marked, harvest}
-use Rattle.base.proofs.SlicesAndCounts.{take-suc_at, slice_push_cases}
-use Rattle.base.proofs.Joined.{has-nil, has-append, has-cons, in_order-nil, in_order-append, joined_in_order_single}
+use Rattle.base.specs.LastWrite.{wrote, written}
+use Rattle.base.specs.AppliedRecords.{mark_write, marked_writes, harvest}
+use Rattle.base.proofs.SlicesAndCounts.{slice_take-suc_at, slice_push_cases}
+use Rattle.base.proofs.JoinedLists.{joined_list_has-nil, joined_list_has-append, joined_list_has-cons, joined_list_in_order-nil, joined_list_in_order-append, joined_list_in_order_single}
 use Rattle.base.proofs.LastWritten.{written-append, length-written}
-use Rattle.base.proofs.MarkedHarvests.{marked-append, length-marked}
+use Rattle.base.proofs.MarkedWrites.{marked_writes-append, length-marked_writes}
 use Rattle.journal.specs.declared.event.Event.{Event}
 use Rattle.journal.specs.declared.event.Kind.TheVariants.{Store}
 use Rattle.journal.specs.Sizes.{Sizes}
-use Rattle.journal.specs.Events.{count_of, is_closing}
+use Rattle.journal.specs.Events.{event_count, event_closes}
 use Rattle.journal.specs.Blocks.{block_write}
-use Rattle.journal.specs.ContentsSince.{since, IsContent}
+use Rattle.journal.specs.IntervalContents.{open_interval_contents, IsIntervalContent}
 use Rattle.journal.specs.WellFormed.{WellFormed}
-use Rattle.journal.proofs.Intervals.Dirty.{dirty_content}
-use Rattle.journal.proofs.Intervals.StoreContents.{content_none}
-use Rattle.page.specs.RisingChanges.{Changes}
-use Rattle.page.specs.Contents.{Contents, IsClean}
-use Rattle.page.specs.CarriedHarvests.{IsHarvest}
-use Rattle.book.specs.ClosedIntervals.{AreIntervalContents}
+use Rattle.journal.proofs.Intervals.DirtyPages.{dirty_page_content}
+use Rattle.journal.proofs.Intervals.StoreContents.{store_contents_none}
+use Rattle.page.specs.PageChanges.{PageChanges}
+use Rattle.page.specs.Contents.{Contents, ContentsAreClean}
+use Rattle.page.specs.CarriedHarvests.{IsCarriedHarvest}
+use Rattle.book.specs.KeptIntervals.{AreIntervalContents}
 use Rattle.test_memory.specs.Histories.Records.{StoresOpen, IsOpenRecord, IsOpenIn, AreOpenBelow}
 
 -- what one more item writes and marks
 pub written_next : {A : Type 0} (f : A → Option (ℕ × ℕ)) (page : List ℕ) (xs : List A) (i : ℕ) (x : A)
     → slice_get xs i ≡ Some x → written f page (take (suc i) xs) ≡ wrote (written f page (take i xs)) (f x)
-written_next f page xs i x at = ap (written f page) (take-suc_at xs i x at) ∙ written-append f page (take i xs) (x ∷ [])
+written_next f page xs i x at = ap (written f page) (slice_take-suc_at xs i x at) ∙ written-append f page (take i xs) (x ∷ [])
 
 pub marked_next : {A : Type 0} (f : A → Option (ℕ × ℕ)) (marks : List Bool) (xs : List A) (i : ℕ) (x : A)
-    → slice_get xs i ≡ Some x → marked f marks (take (suc i) xs) ≡ mark (marked f marks (take i xs)) (f x)
-marked_next f marks xs i x at = ap (marked f marks) (take-suc_at xs i x at) ∙ marked-append f marks (take i xs) (x ∷ [])
+    → slice_get xs i ≡ Some x → marked_writes f marks (take (suc i) xs) ≡ mark_write (marked_writes f marks (take i xs)) (f x)
+marked_next f marks xs i x at = ap (marked_writes f marks) (slice_take-suc_at xs i x at) ∙ marked_writes-append f marks (take i xs) (x ∷ [])
 
 -- no dirty word is harvested as none
 harvest-clean : (i n : ℕ) (words : List ℕ) → harvest i words (replicate n false) ≡ []
@@ -53,7 +53,7 @@ harvest-nothing i (w ∷ words) (false ∷ marks) long none =
 -- a zero page after the stores of p's open interval
 pub record IsStoredIn (s : Sizes) (n : ℕ) (events : List Event) (c : Contents) : Type 0 where
   pub words : c.words ≡ written (λ (e : Event). block_write s n e.kind) (replicate s.words 0) events
-  pub dirty : c.dirty ≡ marked (λ (e : Event). block_write s n e.kind) (replicate s.words false) events
+  pub dirty : c.dirty ≡ marked_writes (λ (e : Event). block_write s n e.kind) (replicate s.words false) events
 
 -- has as many words and marks as a page
 pub stored_long : (s : Sizes) (n : ℕ) (events : List Event) (c : Contents) → IsStoredIn s n events c
@@ -66,11 +66,11 @@ stored_marks : (s : Sizes) (n : ℕ) (events : List Event) (c : Contents) → Is
     → length c.words ≡ length c.dirty
 stored_marks s n events c is =
     stored_long s n events c is
-    ∙ sym (ap length is.dirty ∙ length-marked (λ (e : Event). block_write s n e.kind) (replicate s.words false) events
+    ∙ sym (ap length is.dirty ∙ length-marked_writes (λ (e : Event). block_write s n e.kind) (replicate s.words false) events
     ∙ length-replicate s.words false)
 
 pub stored_start : (s : Sizes) (n : ℕ) (events : List Event) (c : Contents) → c.words ≡ replicate s.words 0
-    → IsClean c → IsStoredIn s n (take 0 events) c
+    → ContentsAreClean c → IsStoredIn s n (take 0 events) c
 stored_start s n events c blank clean =
     record {
       words = blank;
@@ -81,20 +81,20 @@ stored_start s n events c blank clean =
 -- one more event
 pub stored_next : (s : Sizes) (n : ℕ) (events : List Event) (i : ℕ) (e : Event) (old new : Contents)
     → slice_get events i ≡ Some e → IsStoredIn s n (take i events) old
-    → new.words ≡ wrote old.words (block_write s n e.kind) → new.dirty ≡ mark old.dirty (block_write s n e.kind)
+    → new.words ≡ wrote old.words (block_write s n e.kind) → new.dirty ≡ mark_write old.dirty (block_write s n e.kind)
     → IsStoredIn s n (take (i + 1) events) new
 stored_next s n events i e old new at is words dirty = rw add-one (record {
   words = words ∙ ap (λ ws. wrote ws (block_write s n e.kind)) is.words
       ∙ sym (written_next (λ (f : Event). block_write s n f.kind) (replicate s.words 0) events i e at);
-  dirty = dirty ∙ ap (λ ms. mark ms (block_write s n e.kind)) is.dirty
+  dirty = dirty ∙ ap (λ ms. mark_write ms (block_write s n e.kind)) is.dirty
       ∙ sym (marked_next (λ (f : Event). block_write s n f.kind) (replicate s.words false) events i e at);
 })
 
 -- and its dirty words are what the interval comes to
 stored_content : (s : Sizes) (h : List Event) (p n : ℕ) (events : List Event) (c : Contents) → 0 < s.words
-    → since h p ≡ events → IsStoredIn s n events c
-    → IsContent s h p (count_of is_closing h p) n (harvest 0 c.words c.dirty)
-stored_content s h p n events c some is stored = dirty_content s h p n c.words c.dirty some (record {
+    → open_interval_contents h p ≡ events → IsStoredIn s n events c
+    → IsIntervalContent s h p (event_count event_closes h p) n (harvest 0 c.words c.dirty)
+stored_content s h p n events c some is stored = dirty_page_content s h p n c.words c.dirty some (record {
   clean = replicate s.words 0;
   long = length-replicate s.words 0;
   page_is = rw is stored.words;
@@ -103,13 +103,13 @@ stored_content s h p n events c some is stored = dirty_content s h p n c.words c
 
 -- so its harvest is the interval's record
 pub stored_record : (s : Sizes) (h : List Event) (p n : ℕ) (events : List Event) (c : Contents)
-    (r : Result (Option Changes) AllocError) → 0 < s.words → since h p ≡ events → IsStoredIn s n events c
-    → (IsClean c → r ≡ Ok None) → IfOk r (λ o. IfNone o (IsClean c)) → IfOk r (λ o. IfSome o (IsHarvest n c))
+    (r : Result (Option PageChanges) AllocError) → 0 < s.words → open_interval_contents h p ≡ events → IsStoredIn s n events c
+    → (ContentsAreClean c → r ≡ Ok None) → IfOk r (λ o. IfNone o (ContentsAreClean c)) → IfOk r (λ o. IfSome o (IsCarriedHarvest n c))
     → IfOk r (λ o. IsOpenIn s h p n o)
 stored_record s h p n events c (Ok None) some is stored clean none words =
     let content = stored_content s h p n events c some is stored in
-    λ i x. content_none s h p (count_of is_closing h p) n i
-    (subst (λ ws. IsContent s h p (count_of is_closing h p) n ws)
+    λ i x. store_contents_none s h p (event_count event_closes h p) n i
+    (subst (λ ws. IsIntervalContent s h p (event_count event_closes h p) n ws)
     (ap (harvest 0 c.words) none ∙ harvest-clean 0 (length c.words) c.words) content) x
 stored_record s h p n events c (Ok (Some r)) some is stored clean none words = (
   words.page_is,
@@ -126,14 +126,14 @@ stored_record s h p n events c (Err e) some is stored clean none words = tt
 -- no page is below the first
 pub open_none : (s : Sizes) (h : List Event) (p : ℕ) → AreOpenBelow s h p 0 []
 open_none s h p = record {
-  each = λ r has. absurd (has-nil r has);
-  below = λ r has. absurd (has-nil r has);
+  each = λ r has. absurd (joined_list_has-nil r has);
+  below = λ r has. absurd (joined_list_has-nil r has);
   all = λ n i lt. absurd (omega arith);
-  rising = in_order-nil (λ (r q : Changes). r.page < q.page);
+  rising = joined_list_in_order-nil (λ (r q : PageChanges). r.page < q.page);
 }
 
 -- a page that the interval doesn't store to
-pub open_skipped : (s : Sizes) (h : List Event) (p m : ℕ) (records : List Changes) → AreOpenBelow s h p m records
+pub open_skipped : (s : Sizes) (h : List Event) (p m : ℕ) (records : List PageChanges) → AreOpenBelow s h p m records
     → IsOpenIn s h p m None → AreOpenBelow s h p (m + 1) records
 open_skipped s h p m records x none = record {
   each = x.each;
@@ -148,53 +148,53 @@ open_skipped s h p m records x none = record {
 }
 
 -- and one that it does
-pub open_more : (s : Sizes) (h : List Event) (p m : ℕ) (records : List Changes) (r : Changes)
+pub open_more : (s : Sizes) (h : List Event) (p m : ℕ) (records : List PageChanges) (r : PageChanges)
     → AreOpenBelow s h p m records → IsOpenIn s h p m (Some r) → AreOpenBelow s h p (m + 1) (records ++ r ∷ [])
 open_more s h p m records r x now =
     record {
       each = each;
       below = below;
       all = all;
-      rising = in_order-append (λ (a b : Changes). a.page < b.page) records (r ∷ []) x.rising
-          (joined_in_order_single (λ (a b : Changes). a.page < b.page) r) before;
+      rising = joined_list_in_order-append (λ (a b : PageChanges). a.page < b.page) records (r ∷ []) x.rising
+          (joined_list_in_order_single (λ (a b : PageChanges). a.page < b.page) r) before;
     }
   where
-    each : (q : Changes) → Has (records ++ r ∷ []) q → IsOpenRecord s h p q
+    each : (q : PageChanges) → Has (records ++ r ∷ []) q → IsOpenRecord s h p q
     each q has = elim (slice_push_cases records r has.0 q has.1)
         [ inl old ↦ x.each q (has.0, old.1) | inr new ↦ subst (λ y. IsOpenRecord s h p y) new.1 now.1 ]
 
-    below : (q : Changes) → Has (records ++ r ∷ []) q → q.page < m + 1
+    below : (q : PageChanges) → Has (records ++ r ∷ []) q → q.page < m + 1
     below q has = elim (slice_push_cases records r has.0 q has.1) [
       | inl old ↦ (let lt = x.below q (has.0, old.1) in omega arith)
-      | inr new ↦ (let is = ap (λ (y : Changes). y.page) new.1 in let at = now.0 in omega arith)
+      | inr new ↦ (let is = ap (λ (y : PageChanges). y.page) new.1 in let at = now.0 in omega arith)
     ]
 
-    all : (n i : ℕ) → n < m + 1 → StoresOpen s h p n i → (q : Changes) × Has (records ++ r ∷ []) q × (q.page ≡ n)
+    all : (n i : ℕ) → n < m + 1 → StoresOpen s h p n i → (q : PageChanges) × Has (records ++ r ∷ []) q × (q.page ≡ n)
     all n i lt stores = elim (cases_lt n m) [
-      | inl less ↦ (let y = x.all n i less stores in (y.0, (has-append records (r ∷ []) y.0).1 (inl y.1), y.2))
-      | inr from ↦ (r, (has-append records (r ∷ []) r).1 (inr (0, refl)), (let at = now.0 in omega arith))
+      | inl less ↦ (let y = x.all n i less stores in (y.0, (joined_list_has-append records (r ∷ []) y.0).1 (inl y.1), y.2))
+      | inr from ↦ (r, (joined_list_has-append records (r ∷ []) r).1 (inr (0, refl)), (let at = now.0 in omega arith))
     ]
 
-    before : (a b : Changes) → Has records a → Has (r ∷ []) b → a.page < b.page
+    before : (a b : PageChanges) → Has records a → Has (r ∷ []) b → a.page < b.page
     before a b old new =
-        elim ((has-cons r [] b).0 new) [
-          | inl is ↦ (let lt = x.below a old in let same = ap (λ (y : Changes). y.page) is in let at = now.0 in
+        elim ((joined_list_has-cons r [] b).0 new) [
+          | inl is ↦ (let lt = x.below a old in let same = ap (λ (y : PageChanges). y.page) is in let at = now.0 in
               omega arith)
-          | inr none ↦ absurd (has-nil b none)
+          | inr none ↦ absurd (joined_list_has-nil b none)
         ]
 
 -- the same of records that are shared
-pub open_pushed : {X : Type 0} (value : X → Changes) (s : Sizes) (h : List Event) (p m : ℕ) (old new : List X)
-    (x : X) (r : Changes) → AreOpenBelow s h p m (map value old) → IsOpenIn s h p m (Some r) → value x ≡ r
+pub open_pushed : {X : Type 0} (value : X → PageChanges) (s : Sizes) (h : List Event) (p m : ℕ) (old new : List X)
+    (x : X) (r : PageChanges) → AreOpenBelow s h p m (map value old) → IsOpenIn s h p m (Some r) → value x ≡ r
     → new ≡ old ++ x ∷ [] → AreOpenBelow s h p (m + 1) (map value new)
 open_pushed value s h p m old new x r before now is pushed =
-    subst (λ (rs : List Changes). AreOpenBelow s h p (m + 1) rs)
+    subst (λ (rs : List PageChanges). AreOpenBelow s h p (m + 1) rs)
     (sym (ap (map value) pushed ∙ map-append value old (x ∷ []) ∙ ap (λ q. map value old ++ q ∷ []) is))
     (open_more s h p m (map value old) r before now)
 
 -- all pages: what the interval comes to
-pub open_contents : (s : Sizes) (h : List Event) (p : ℕ) (records : List Changes) → 0 < s.words → WellFormed s h
-    → AreOpenBelow s h p s.pages records → AreIntervalContents s h p (count_of is_closing h p) records
+pub open_contents : (s : Sizes) (h : List Event) (p : ℕ) (records : List PageChanges) → 0 < s.words → WellFormed s h
+    → AreOpenBelow s h p s.pages records → AreIntervalContents s h p (event_count event_closes h p) records
 open_contents s h p records some well x = record {
   each = λ r has. (x.each r has).content;
   all = λ n i stores. x.all n i (within n i stores) stores;

@@ -4,7 +4,7 @@ use Rattle.std.proofs.lemmas.Bool.{cases_lt, eq-eqb, eqb-true}
 use Rattle.journal.specs.declared.event.Event.{Event}
 use Rattle.journal.specs.HappensBeforeEdges.{Edge, HappensBefore}
 use Rattle.journal.specs.Pasts.{UpTo}
-use Rattle.journal.proofs.Order.EdgesIntoPast.{edge_on, past_last_step}
+use Rattle.journal.proofs.Order.IntoPast.{into_past_edge_on, into_past_last_step}
 
 -- place i reaches this place by an edge from one of the first n places
 pub record Reaches (j : List Event) (place n i : ℕ) : Type 0 where
@@ -78,8 +78,8 @@ reaches_next j place n i old there new edge before here is = (to, from)
 -- after all places before it
 pub reaches_all : (j : List Event) (place i : ℕ) → Reaches j place place i ↔ HappensBefore j i place
 reaches_all j place i = (
-  λ r. edge_on j i r.source place r.up_to r.edge,
-  λ h. (let l = past_last_step j i place h in record { source = l.0; below = l.2.before; up_to = l.1; edge = l.2 }),
+  λ r. into_past_edge_on j i r.source place r.up_to r.edge,
+  λ h. (let l = into_past_last_step j i place h in record { source = l.0; below = l.2.before; up_to = l.1; edge = l.2 }),
 )
 
 -- a mark stands within its row

@@ -2,18 +2,18 @@
 use Rattle.std.specs.Prelude.{ℕ, ◌≡◌, ◌<◌, ◌≤◌, List, length, ◌++◌}
 use Rattle.journal.specs.declared.event.Event.{Event}
 use Rattle.journal.specs.Sizes.{Sizes}
-use Rattle.page.specs.RisingChanges.{Changes}
-use Rattle.interval.specs.SentIntervals.{SentPagesRise}
-use Rattle.book.specs.Calls.{AllowsIdleBlockCall}
-use Rattle.book.specs.Laws.{AreOpenRecords}
-use Rattle.book.specs.State.{State}
-use Rattle.book.specs.Told.{Represents}
+use Rattle.page.specs.PageChanges.{PageChanges}
+use Rattle.interval.specs.SentIntervals.{SentIntervalPagesRise}
+use Rattle.book.specs.AllowedCalls.{AllowsIdleBlockCall}
+use Rattle.book.specs.BookLaws.{AreOpenRecordsOfBookLaw}
+use Rattle.book.specs.BookState.{BookState}
+use Rattle.book.specs.RepresentedHistory.{Represents}
 
 -- the cluster's sizes, what was done so far, and the book
 pub record Telling : Type 0 where
   pub sizes : Sizes
   pub history : List Event
-  pub book : State
+  pub book : BookState
 
 -- the history tells the book, and a page has as many words as a page can have
 pub record IsTelling (t : Telling) : Type 0 where
@@ -26,8 +26,8 @@ abbrev pub MadeFrom : Telling → List Event → Telling → Type 0
 MadeFrom old history new = (new.sizes ≡ old.sizes) × (new.history ≡ history)
 
 -- p may close its interval with this block and these records
-pub record MayCloseHere (t : Telling) (p : ℕ) (block : List Event) (records : List Changes) : Type 0 where
+pub record MayCloseHere (t : Telling) (p : ℕ) (block : List Event) (records : List PageChanges) : Type 0 where
   pub may : AllowsIdleBlockCall t.sizes t.book p block
   pub short : length block ≤ 256
-  pub are : AreOpenRecords t.sizes (t.history ++ block) p records
-  pub rising : SentPagesRise records
+  pub are : AreOpenRecordsOfBookLaw t.sizes (t.history ++ block) p records
+  pub rising : SentIntervalPagesRise records

@@ -1,7 +1,7 @@
 //! What a history says of one processor.
 ghost use Rattle.std.specs.Prelude.{◌≡◌, ◌↔◌, ◌+◌, ◌≤◌, ◌++◌, IfOk, IsTrue, length, vec_len, vec_capacity};
-ghost use Rattle.journal.specs.Prelude.{is_closing, since, awaited, did, Holds};
-ghost use Rattle.book.specs.Prelude.{IsAwaitedByStamps};
+ghost use Rattle.journal.specs.Prelude.{event_closes, open_interval_contents, awaited_next, did, Holds};
+ghost use Rattle.book.specs.Prelude.{IsAwaitedByBookStamps};
 ghost use Rattle.test_memory.specs.Histories.Prelude.{IsHeldAfter};
 
 use journal::{Event, Kind};
@@ -9,7 +9,7 @@ use std::alloc::{AllocError, Global};
 
 /// What `p` waits for after this history.
 pub(crate) fn awaited_by(history: &[Event], p: usize) -> Option<Kind>
-    ensures { IsAwaitedByStamps history.now p result }
+    ensures { IsAwaitedByBookStamps history.now p result }
 {
     let mut left = history.len();
     while left > 0 {
@@ -24,7 +24,7 @@ pub(crate) fn awaited_by(history: &[Event], p: usize) -> Option<Kind>
 
 /// What comes next after a call that waits.
 fn awaited(kind: Kind) -> Option<Kind>
-    ensures { result ≡ awaited kind }
+    ensures { result ≡ awaited_next kind }
 {
     match kind {
         Kind::Ask(lock) => Some(Kind::Acquire(lock)),
@@ -62,7 +62,7 @@ fn held_after(held: bool, event: Event, p: usize, lock: usize) -> bool
 
 /// The events of `p` since its last closing one: those of its open interval.
 pub(crate) fn open_of(alloc: Global, history: &[Event], p: usize) -> Result<Vec<Event>, AllocError>
-    ensures { IfOk result (λ es. es.items ≡ since history.now p) }
+    ensures { IfOk result (λ es. es.items ≡ open_interval_contents history.now p) }
 {
     let mut events = Vec::new(alloc);
     for event in history {
@@ -79,7 +79,7 @@ pub(crate) fn open_of(alloc: Global, history: &[Event], p: usize) -> Result<Vec<
 
 /// Whether such an event closes its processor's interval.
 fn closes(kind: Kind) -> bool
-    ensures { result ≡ is_closing kind }
+    ensures { result ≡ event_closes kind }
 {
     matches!(
         kind,

@@ -2,10 +2,10 @@
 ghost use Rattle.std.specs.Prelude.{◌≡◌, ◌<◌, ◌≤◌, ◌*◌, ◌^◌, ◌++◌, ◌∷◌, [], ◌↔◌, IfErr, IfOk, IfSome, OnOk, OnErr};
 ghost use Rattle.std.specs.Prelude.{IsTrue, Some, None, length, map, count_by, slice_get};
 ghost use Rattle.std.specs.Arc.{arc_value};
-ghost use Rattle.journal.specs.Prelude.{event, did, WasCut, IsCutFault, IsDeadlock};
+ghost use Rattle.journal.specs.Prelude.{event, did, JournalWasCut, IsJournalCutRefusal, IsDeadlock};
 ghost use Rattle.journal.specs.declared.event.Kind.{Kind as AKind};
-ghost use Rattle.interval.specs.Prelude.{SentPagesRise, is_closing_of_page};
-ghost use Rattle.book.specs.Prelude.{IsInnerCall, AllowsIdleBlockCall, AllowsBlockCall, AreOpenRecords, brought_by_message, HoldsSome};
+ghost use Rattle.interval.specs.Prelude.{SentIntervalPagesRise, is_kept_closing_of_page};
+ghost use Rattle.book.specs.Prelude.{IsAllowedInnerCall, AllowsIdleBlockCall, AllowsBlockCall, AreOpenRecordsOfBookLaw, brought_by_message, HoldsRepresentedHistory};
 ghost use Rattle.test_memory.specs.Histories.Prelude.{MadeFrom, MayCloseHere};
 
 use crate::histories::history::{awaited_by, holds, note, note_closing, open_of};
@@ -111,7 +111,7 @@ impl Told {
 
     /// Whether this is a load, a store or a fetch of `p` within the sizes.
     fn is_inner(&self, p: usize, event: &Event) -> bool
-        ensures { IsTrue result → IsInnerCall self.now.sizes p event.now }
+        ensures { IsTrue result → IsAllowedInnerCall self.now.sizes p event.now }
     {
         event.processor == p
             && match event.kind {
@@ -287,7 +287,7 @@ impl Told {
     /// history.
     pub fn audit(&mut self, p: usize, block: &[Event]) -> Result<Journal, Refused>
         ensures ok { OnOk result (MadeFrom self.old (self.old.history ++ block.now) self.new) }
-        ensures copy { IfOk result (λ j. HoldsSome j self.new.history) }
+        ensures copy { IfOk result (λ j. HoldsRepresentedHistory j self.new.history) }
         ensures err { OnErr result (self.new ≡ self.old) }
     {
         self.may_give(p, block)?;
@@ -300,9 +300,9 @@ impl Told {
     /// Cuts the journal; the history stays.
     pub fn cut(&mut self) -> Result<(), CutFault>
         ensures ok { OnOk result (MadeFrom self.old self.old.history self.new) }
-        ensures cut { OnOk result (WasCut self.old.book.journal self.new.book.journal) }
+        ensures cut { OnOk result (JournalWasCut self.old.book.journal self.new.book.journal) }
         ensures err { OnErr result (self.new ≡ self.old) }
-        ensures fault { IfErr result (IsCutFault self.old.book.journal) }
+        ensures fault { IfErr result (IsJournalCutRefusal self.old.book.journal) }
     {
         self.book.cut()
     }
@@ -327,7 +327,7 @@ impl Told {
     pub fn due(&self, p: usize, page: usize) -> Option<usize>
         ensures none { result ≡ None ↔ (self.now.sizes.processors ≤ p) }
         ensures some { IfSome result (λ n. n
-            ≡ count_by (is_closing_of_page page) (brought_by_message self.now.book p)) }
+            ≡ count_by (is_kept_closing_of_page page) (brought_by_message self.now.book p)) }
     {
         if p < self.processors {
             Some(self.book.due(p, page))
@@ -357,7 +357,7 @@ impl Told {
 
     /// The journal, which holds the history.
     pub fn into_journal(self) -> Journal
-        ensures { HoldsSome result self.history }
+        ensures { HoldsRepresentedHistory result self.history }
     {
         self.book.into_journal()
     }

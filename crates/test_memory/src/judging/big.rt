@@ -1,7 +1,7 @@
 //! Histories of 2^20 events, which are judged in a test's time: whether each event may follow, whether each load and each
 //! fetch is right, and the first race.
 ghost use Rattle.std.specs.Prelude.{◌≡◌};
-ghost use Rattle.judge.specs.Prelude.{AreSizesJudged, sizes_of};
+ghost use Rattle.judge.specs.Prelude.{AreJudgedSizes, judged_sizes_of};
 
 use journal::{Event, Kind, MOST_HELD};
 use judge::{MemoryModel, Sizes};
@@ -17,7 +17,7 @@ fn by(processor: usize, kind: Kind) -> Event {
 
 /// As many of everything as there can be.
 fn most() -> Sizes
-    ensures { AreSizesJudged (sizes_of result) }
+    ensures { AreJudgedSizes (judged_sizes_of result) }
 {
     Sizes {
         processors: 16,
@@ -28,16 +28,16 @@ fn most() -> Sizes
     }
 }
 
-/// The same with as many addresses as there can be.
+/// The same with as many addresses, locks and flags as there can be.
 fn widest() -> Sizes
-    ensures { AreSizesJudged (sizes_of result) }
+    ensures { AreJudgedSizes (judged_sizes_of result) }
 {
     Sizes {
         processors: 16,
         pages: 1 << 10,
         words: 1 << 10,
-        locks: 32,
-        flags: 32,
+        locks: 1 << 16,
+        flags: 1 << 16,
     }
 }
 

@@ -1,6 +1,6 @@
 //! Histories worked by hand: the first fetch that counts what it should not, and what it should.
 ghost use Rattle.std.specs.Prelude.{◌≡◌};
-ghost use Rattle.judge.specs.Prelude.{AreSizesJudged, sizes_of};
+ghost use Rattle.judge.specs.Prelude.{AreJudgedSizes, judged_sizes_of};
 
 use journal::{Event, Kind, MOST_HELD};
 use judge::{Miscounted, Sizes, first_ill_formed, first_miscounted};
@@ -26,7 +26,7 @@ fn fetch(page: usize, writers: u32, records: u32, words: u32) -> Kind {
 
 /// Three processors, two pages of four words, two locks and a flag.
 fn three() -> Sizes
-    ensures { AreSizesJudged (sizes_of result) }
+    ensures { AreJudgedSizes (judged_sizes_of result) }
 {
     Sizes {
         processors: 3,
@@ -55,7 +55,7 @@ fn tells<R: Abort + AllocGlobal>(
 ) -> Result<(), Fail> {
     assert!(rt; events.len() <= MOST_HELD);
     let sizes = three();
-    match first_ill_formed(sizes, events, true) {
+    match first_ill_formed(rt.alloc(), sizes, events, true)? {
         None => {
             let found = match first_miscounted(rt.alloc(), sizes, events) {
                 Ok(found) => found,

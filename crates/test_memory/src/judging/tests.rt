@@ -1,6 +1,6 @@
 //! Histories worked by hand: the first event that may not stand where it does, and why.
 ghost use Rattle.std.specs.Prelude.{◌≡◌};
-ghost use Rattle.judge.specs.Prelude.{AreSizesJudged, sizes_of};
+ghost use Rattle.judge.specs.Prelude.{AreJudgedSizes, judged_sizes_of};
 
 use crate::judging::callers::is_well_formed;
 use journal::{Event, Kind, MOST_HELD};
@@ -17,7 +17,7 @@ fn by(processor: usize, kind: Kind) -> Event
 
 /// Three processors, two pages of four words, two locks and two flags.
 fn three() -> Sizes
-    ensures { AreSizesJudged (sizes_of result) }
+    ensures { AreJudgedSizes (judged_sizes_of result) }
 {
     Sizes {
         processors: 3,
@@ -30,7 +30,7 @@ fn three() -> Sizes
 
 /// As many of everything as there can be.
 fn most() -> Sizes
-    ensures { AreSizesJudged (sizes_of result) }
+    ensures { AreJudgedSizes (judged_sizes_of result) }
 {
     Sizes {
         processors: 16,
@@ -47,16 +47,23 @@ fn fault(place: usize, why: Why) -> Option<IllFormed> {
 }
 
 /// The history is well formed but for this, lax or not.
-fn tells<R: Abort + AllocGlobal>(rt: &R, events: &[Event], want: Option<IllFormed>) {
+fn tells<R: Abort + AllocGlobal>(
+    rt: &R,
+    events: &[Event],
+    want: Option<IllFormed>,
+) -> Result<(), Fail> {
     assert!(rt; events.len() <= MOST_HELD);
-    assert!(rt; first_ill_formed(three(), events, false) == want);
-    assert!(rt; first_ill_formed(three(), events, true) == want);
+    for lax in [false, true] {
+        let found = first_ill_formed(rt.alloc(), three(), events, lax)?;
+        assert!(rt; found == want);
+    }
+    Ok(())
 }
 
 /// The last event of the history may not stand there, for this reason, lax or not.
-fn refuses<R: Abort + AllocGlobal>(rt: &R, events: &[Event], why: Why) {
+fn refuses<R: Abort + AllocGlobal>(rt: &R, events: &[Event], why: Why) -> Result<(), Fail> {
     assert!(rt; events.len() > 0);
-    tells(rt, events, fault(events.len() - 1, why));
+    tells(rt, events, fault(events.len() - 1, why))
 }
 
 /// A lock that is granted in order, a barrier twice, and a flag that is set before one watches it and after.
@@ -75,7 +82,7 @@ fn well_formed(rt: HostRuntime) -> Result<(), Fail> {
         by(1, Kind::Release(1)),
         by(0, Kind::Acquire(1)),
     ];
-    tells(&rt, &lock, None);
+    tells(&rt, &lock, None)?;
     let meeting = [
         by(0, Kind::Arrive),
         by(2, Kind::Arrive),
@@ -88,7 +95,7 @@ fn well_formed(rt: HostRuntime) -> Result<(), Fail> {
         by(2, Kind::Arrive),
         by(2, Kind::Depart),
     ];
-    tells(&rt, &meeting, None);
+    tells(&rt, &meeting, None)?;
     let flag = [
         by(0, Kind::Watch(1)),
         by(1, Kind::Set(1)),
@@ -97,7 +104,7 @@ fn well_formed(rt: HostRuntime) -> Result<(), Fail> {
         by(2, Kind::Load(0, 9)),
         by(0, Kind::Await(1)),
     ];
-    tells(&rt, &flag, None);
+    tells(&rt, &flag, None)?;
     Ok(())
 }
 
@@ -105,7 +112,7 @@ fn well_formed(rt: HostRuntime) -> Result<(), Fail> {
 #[test]
 fn out_of_range(rt: HostRuntime) -> Result<(), Fail> {
     for processor in [3, 16, usize::MAX] {
-        refuses(&rt, &[by(processor, Kind::Ask(9))], Why::NoSuchProcessor);
+        refuses(&rt, &[by(processor, Kind::Ask(9))], Why::NoSuchProcessor)?;
     }
     for number in [8, usize::MAX] {
         for kind in [
@@ -118,10 +125,10 @@ fn out_of_range(rt: HostRuntime) -> Result<(), Fail> {
             Kind::Watch(number),
             Kind::Await(number),
         ] {
-            refuses(&rt, &[by(2, kind)], Why::OutOfRange);
+            refuses(&rt, &[by(2, kind)], Why::OutOfRange)?;
         }
     }
-    refuses(&rt, &[by(0, Kind::Set(2))], Why::OutOfRange);
+    refuses(&rt, &[by(0, Kind::Set(2))], Why::OutOfRange)?;
     let fetch = Kind::Fetch {
         writers: 0,
         page: 2,
@@ -132,7 +139,7 @@ fn out_of_range(rt: HostRuntime) -> Result<(), Fail> {
         &rt,
         &[by(0, Kind::Load(7, 0)), by(0, fetch)],
         Why::OutOfRange,
-    );
+    )?;
     Ok(())
 }
 
@@ -145,9 +152,9 @@ fn waiting(rt: HostRuntime) -> Result<(), Fail> {
         (Kind::Watch(1), Kind::Await(1)),
     ] {
         for other in [Kind::Load(0, 0), Kind::Acquire(0), Kind::Await(0), call] {
-            refuses(&rt, &[by(1, call), by(1, other)], Why::Waits(awaited));
+            refuses(&rt, &[by(1, call), by(1, other)], Why::Waits(awaited))?;
         }
-        refuses(&rt, &[by(0, call), by(1, awaited)], Why::NotAsked);
+        refuses(&rt, &[by(0, call), by(1, awaited)], Why::NotAsked)?;
     }
     Ok(())
 }
@@ -160,7 +167,7 @@ fn locks(rt: HostRuntime) -> Result<(), Fail> {
         &rt,
         &[held[0], held[1], by(2, Kind::Ask(0))],
         Why::AsksWhatItHolds,
-    );
+    )?;
     refuses(
         &rt,
         &[
@@ -170,17 +177,17 @@ fn locks(rt: HostRuntime) -> Result<(), Fail> {
             by(1, Kind::Acquire(0)),
         ],
         Why::HeldBy(2),
-    );
+    )?;
     refuses(
         &rt,
         &[held[0], held[1], by(1, Kind::Release(0))],
         Why::NotHeld,
-    );
+    )?;
     refuses(
         &rt,
         &[held[0], held[1], by(2, Kind::Release(1))],
         Why::NotHeld,
-    );
+    )?;
     let line = [
         by(1, Kind::Ask(1)),
         by(2, Kind::Ask(0)),
@@ -191,8 +198,10 @@ fn locks(rt: HostRuntime) -> Result<(), Fail> {
         by(1, Kind::Acquire(0)),
     ];
     let earlier = fault(6, Why::AskedEarlier(2, 1));
-    assert!(rt; first_ill_formed(three(), &line, false) == earlier);
-    assert!(rt; first_ill_formed(three(), &line, true) == None);
+    let in_order = first_ill_formed(rt.alloc(), three(), &line, false)?;
+    assert!(rt; in_order == earlier);
+    let lax = first_ill_formed(rt.alloc(), three(), &line, true)?;
+    assert!(rt; lax == None);
     Ok(())
 }
 
@@ -205,7 +214,7 @@ fn meetings(rt: HostRuntime) -> Result<(), Fail> {
         by(0, Kind::Depart),
         by(1, Kind::Release(0)),
     ];
-    tells(&rt, &early, fault(2, Why::NotArrived(1)));
+    tells(&rt, &early, fault(2, Why::NotArrived(1)))?;
     let twice = [
         by(2, Kind::Arrive),
         by(0, Kind::Arrive),
@@ -214,13 +223,13 @@ fn meetings(rt: HostRuntime) -> Result<(), Fail> {
         by(0, Kind::Arrive),
         by(0, Kind::Depart),
     ];
-    refuses(&rt, &twice, Why::NotArrived(1));
+    refuses(&rt, &twice, Why::NotArrived(1))?;
     let unset = [
         by(0, Kind::Set(0)),
         by(0, Kind::Watch(1)),
         by(0, Kind::Await(1)),
     ];
-    refuses(&rt, &unset, Why::NotSet);
+    refuses(&rt, &unset, Why::NotSet)?;
     Ok(())
 }
 
@@ -236,7 +245,8 @@ fn long(rt: HostRuntime) -> Result<(), Fail> {
     }
     events.push(by(15, Kind::Store(4095, 1)))?;
     assert!(rt; events.len() <= MOST_HELD);
-    assert!(rt; first_ill_formed(most(), &events, false) == None);
+    let found = first_ill_formed(rt.alloc(), most(), &events, false)?;
+    assert!(rt; found == None);
     Ok(())
 }
 
@@ -245,7 +255,9 @@ fn long(rt: HostRuntime) -> Result<(), Fail> {
 fn limits(rt: HostRuntime) -> Result<(), Fail> {
     let most = most();
     assert!(rt; most.are_small());
-    assert!(rt; is_well_formed(most, &[by(15, Kind::Load(4095, 0)), by(15, Kind::Set(31))]));
+    let last = [by(15, Kind::Load(4095, 0)), by(15, Kind::Set(31))];
+    let is_well = is_well_formed(rt.alloc(), most, &last)?;
+    assert!(rt; is_well);
     for more in [
         Sizes {
             processors: 17,
@@ -261,6 +273,8 @@ fn limits(rt: HostRuntime) -> Result<(), Fail> {
     let many = Sizes {
         pages: 1 << 10,
         words: 1 << 10,
+        locks: 1 << 16,
+        flags: 1 << 16,
         ..most
     };
     assert!(rt; many.are_judged());
@@ -295,8 +309,14 @@ fn limits(rt: HostRuntime) -> Result<(), Fail> {
             processors: 17,
             ..many
         },
-        Sizes { locks: 33, ..many },
-        Sizes { flags: 33, ..many },
+        Sizes {
+            locks: (1 << 16) + 1,
+            ..many
+        },
+        Sizes {
+            flags: (1 << 16) + 1,
+            ..many
+        },
     ] {
         assert!(rt; !more.are_judged());
     }

@@ -1,9 +1,9 @@
 //! Copies of pages: what is harvested, learned and fetched.
 ghost use Rattle.std.specs.Prelude.{◌≡◌, ◌<◌, ◌≤◌, IfOk, OnOk, length, replicate};
-ghost use Rattle.cluster.specs.Copies.Prelude.{zero_replica};
+ghost use Rattle.cluster.specs.Copies.Prelude.{zero_page_replica};
 ghost use Rattle.test_memory.specs.Prelude.{AreNotices, AreOpen, IsNotice, IsStale};
 
-use cluster::copies::{Marks, MissingCounts, Replica, clean, harvest, learn, make_room};
+use cluster::copies::{MarkSet, MissingCounts, Replica, clean, harvest, learn, make_room_to_learn};
 use interval::{Notice, Sent};
 use page::Record;
 use std::alloc::{AllocError, Global};
@@ -15,7 +15,7 @@ use std::test::Fail;
 fn copies(alloc: Global, pages: usize, words: usize) -> Result<Vec<Replica>, AllocError>
     requires some { 0 < words }
     requires few { words ≤ 64 }
-    ensures { IfOk result (λ all. all.items ≡ replicate pages (zero_replica words)) }
+    ensures { IfOk result (λ all. all.items ≡ replicate pages (zero_page_replica words)) }
 {
     let mut replicas = Vec::with_capacity(alloc, pages)?;
     for _ in 0..pages {
@@ -25,7 +25,7 @@ fn copies(alloc: Global, pages: usize, words: usize) -> Result<Vec<Replica>, All
 }
 
 /// Stores in a page of 64 words, as a processor does.
-fn store(replicas: &mut [Replica], stored: &mut Marks, page: usize, offset: usize, value: u32)
+fn store(replicas: &mut [Replica], stored: &mut MarkSet, page: usize, offset: usize, value: u32)
     requires open { AreOpen 64 replicas.old stored.old }
     requires page { page < length replicas.old }
     requires offset { offset < 64 }
@@ -36,11 +36,11 @@ fn store(replicas: &mut [Replica], stored: &mut Marks, page: usize, offset: usiz
 }
 
 /// 64 copies of 64 words, to the first and the last of which was stored, and their marks.
-fn stored_to(alloc: Global) -> Result<(Vec<Replica>, Marks), AllocError>
+fn stored_to(alloc: Global) -> Result<(Vec<Replica>, MarkSet), AllocError>
     ensures { IfOk result (λ r. AreOpen 64 r.0.items r.1) }
 {
     let mut replicas = copies(alloc, 64, 64)?;
-    let mut stored = Marks::none();
+    let mut stored = MarkSet::none();
     store(&mut replicas, &mut stored, 63, 63, 7);
     store(&mut replicas, &mut stored, 0, 2, 0);
     store(&mut replicas, &mut stored, 0, 1, 5);
@@ -51,7 +51,7 @@ fn stored_to(alloc: Global) -> Result<(Vec<Replica>, Marks), AllocError>
 fn harvested_after(
     alloc: Global,
     replicas: &mut [Replica],
-    stored: &mut Marks,
+    stored: &mut MarkSet,
 ) -> Result<usize, AllocError>
     requires { AreOpen 64 replicas.old stored.old }
 {
@@ -81,7 +81,7 @@ fn harvests_by_rising_page(rt: HostRuntime) -> Result<(), Fail> {
 
 #[test]
 fn marks_up_to_63(rt: HostRuntime) {
-    let mut marks = Marks::none();
+    let mut marks = MarkSet::none();
     assert_eq!(rt; marks.first_from(0), None);
     marks.add(63);
     marks.add(5);
@@ -124,12 +124,12 @@ fn three(alloc: Global) -> Result<Vec<Sent>, AllocError>
 
 /// Makes room in the one copy, and then learns.
 fn learn_with_room(replicas: &mut [Replica], notices: Vec<Sent>) -> Result<(), AllocError>
-    requires zeros { replicas.old ≡ replicate 1 (zero_replica 4) }
+    requires zeros { replicas.old ≡ replicate 1 (zero_page_replica 4) }
     requires notices { AreNotices 4 notices.items }
     requires few { length notices.items ≤ 100 }
     ensures { OnOk result (IsStale replicas.new) }
 {
-    make_room(replicas, &[notices.len()])?;
+    make_room_to_learn(replicas, &[notices.len()])?;
     learn(replicas, notices);
     Ok(())
 }

@@ -2,7 +2,7 @@
 ghost use Rattle.std.specs.Prelude.{◌≡◌, ℕ, ◌+◌, ◌<◌, ◌≤◌, Some, IfOk, OnOk, OnErr, length, map};
 ghost use Rattle.std.specs.Prelude.{slice_get, slice_index, slice_set};
 ghost use Rattle.std.specs.Arc.{arc_value};
-ghost use Rattle.interval.specs.Prelude.{SentPagesRise, KeepsClosingsBetween};
+ghost use Rattle.interval.specs.Prelude.{SentIntervalPagesRise, HasKeptClosingsBetween};
 
 use interval::{Closed, Interval, Notice, Sent};
 use page::Record;
@@ -29,7 +29,7 @@ fn keep(
 ) -> Result<(), AllocError>
     requires two_owners { length closed.old.first ≡ 2 }
     requires next { slice_get closed.old.next owner ≡ Some number }
-    requires pages { SentPagesRise (map arc_value records.items) }
+    requires pages { SentIntervalPagesRise (map arc_value records.items) }
     requires few { closed.old.pushed < 10_000 }
     ensures two_owners { length closed.new.first ≡ 2 }
     ensures next { OnOk result (closed.new.next ≡ slice_set closed.old.next owner (number + 1)) }
@@ -118,7 +118,7 @@ fn times(
     new: [u64; 2],
 ) -> (VTime, VTime)
     requires { length closed.now.first ≡ 2 }
-    ensures { KeepsClosingsBetween closed.now result.0 result.1 }
+    ensures { HasKeptClosingsBetween closed.now result.0 result.1 }
 {
     let old = stamp(rt.alloc(), old);
     let new = stamp(rt.alloc(), new);
@@ -193,7 +193,7 @@ type Counts<'a> = ([u64; 2], [u64; 2], &'a [usize]);
 
 /// Whether that many notices of each page lie between the timestamps, counted page by page.
 fn has_each(closed: &Closed, old: &VTime, new: &VTime, counts: &[usize]) -> bool
-    requires { KeepsClosingsBetween closed.now old.now new.now }
+    requires { HasKeptClosingsBetween closed.now old.now new.now }
 {
     for (page, count) in counts.iter().enumerate() {
         if closed.news_of(page, old, new) != *count {
@@ -268,7 +268,7 @@ fn sends_what_a_trim_leaves(rt: HostRuntime) -> Result<(), Fail> {
 }
 
 fn one_record(alloc: Global, page: usize) -> Result<Vec<Arc<Record>>, AllocError>
-    ensures { IfOk result (λ rs. SentPagesRise (map arc_value rs.items)) }
+    ensures { IfOk result (λ rs. SentIntervalPagesRise (map arc_value rs.items)) }
 {
     Ok(vec![in alloc; record(alloc, page)?]?)
 }
@@ -277,7 +277,7 @@ fn one_record(alloc: Global, page: usize) -> Result<Vec<Arc<Record>>, AllocError
 fn last_owners(alloc: Global) -> Result<Interval, AllocError>
     ensures owner { IfOk result (λ i. i.owner ≡ 15) }
     ensures number { IfOk result (λ i. i.number ≡ 0) }
-    ensures pages { IfOk result (λ i. SentPagesRise i.records) }
+    ensures pages { IfOk result (λ i. SentIntervalPagesRise i.records) }
 {
     Ok(Interval {
         owner: 15,
@@ -314,7 +314,7 @@ fn tells_of_an_interval_before_it_is_closed(rt: HostRuntime) -> Result<(), Fail>
     let closed = Closed::new(rt.alloc(), 16)?;
     let interval = last_owners(rt.alloc())?;
     let (old, new) = last_times(rt.alloc());
-    let told = closed.between_after(&interval, &old, &new)?;
+    let told = closed.between_after_interval(&interval, &old, &new)?;
     assert!(rt; is_sent(&told, &[(notice(63, 15, 0), 0)]));
     Ok(())
 }

@@ -1,6 +1,6 @@
 //! Lines of processors at distributed locks.
 ghost use Rattle.std.specs.Prelude.{◌≡◌, ◌<◌, Some, [], length};
-ghost use Rattle.lockq.specs.LockQueues.{lock_at};
+ghost use Rattle.lockq.specs.LockQueues.{lock_queue_at};
 
 use base::MOST_PROCESSORS;
 use lockq::Locks;
@@ -53,8 +53,8 @@ fn grants_in_the_order_of_asks(rt: HostRuntime) -> Result<(), Fail> {
 fn ask_all(locks: &mut Locks, lock: usize)
     requires lock { lock < length locks.old.locks }
     requires processors { locks.old.processors ≡ 16 }
-    requires holder { (lock_at locks.old lock).holder ≡ Some 0 }
-    requires alone { (lock_at locks.old lock).queue ≡ [] }
+    requires holder { (lock_queue_at locks.old lock).holder ≡ Some 0 }
+    requires alone { (lock_queue_at locks.old lock).queue ≡ [] }
     ensures processors { locks.new.processors ≡ 16 }
     ensures locks { length locks.new.locks ≡ length locks.old.locks }
 {

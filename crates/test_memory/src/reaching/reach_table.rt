@@ -1,7 +1,7 @@
 //! Tables of what happens before what: small, plain and slow.
 ghost use Rattle.std.specs.Prelude.{◌||◌, ◌==◌, List, false, slice_index_or, ◌≡◌, ◌↔◌, ℕ, ◌+◌, ◌<◌, ◌≤◌, IsTrue};
 ghost use Rattle.std.specs.Prelude.{IfOk, Some, true, length, take, slice_get, vec_len, ◌≢◌};
-ghost use Rattle.journal.specs.Prelude.{is_arrive, is_depart, count_of, LetsThrough, Edge, HappensBefore, Conflict};
+ghost use Rattle.journal.specs.Prelude.{event_arrives, event_departs, event_count, LetsThrough, Edge, HappensBefore, Conflict};
 ghost use Rattle.journal.specs.Prelude.{Race};
 ghost use Rattle.test_memory.specs.Reaching.Prelude.{IsRow, AreRows, IsTable};
 
@@ -10,7 +10,7 @@ use std::alloc::{AllocError, Global};
 
 /// Whether this is an arrival.
 fn arrives(kind: Kind) -> bool
-    ensures { result ≡ is_arrive kind }
+    ensures { result ≡ event_arrives kind }
 {
     match kind {
         Kind::Arrive => true,
@@ -20,7 +20,7 @@ fn arrives(kind: Kind) -> bool
 
 /// Whether this is a departure.
 fn departs(kind: Kind) -> bool
-    ensures { result ≡ is_depart kind }
+    ensures { result ≡ event_departs kind }
 {
     match kind {
         Kind::Depart => true,
@@ -54,7 +54,7 @@ fn lets_through(first: Kind, second: Kind) -> bool
 /// How often the processor has arrived before this place.
 fn arrivals_before(events: &[Event], place: usize, processor: usize) -> usize
     requires { place ≤ length events.now }
-    ensures { result ≡ count_of is_arrive (take place events.now) processor }
+    ensures { result ≡ event_count event_arrives (take place events.now) processor }
 {
     let front = &events[..place];
     front
@@ -66,7 +66,7 @@ fn arrivals_before(events: &[Event], place: usize, processor: usize) -> usize
 /// How often the processor has departed before this place.
 fn departures_before(events: &[Event], place: usize, processor: usize) -> usize
     requires { place ≤ length events.now }
-    ensures { result ≡ count_of is_depart (take place events.now) processor }
+    ensures { result ≡ event_count event_departs (take place events.now) processor }
 {
     let front = &events[..place];
     front

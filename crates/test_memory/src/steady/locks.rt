@@ -1,6 +1,6 @@
 //! Distributed locks.
 ghost use Rattle.std.specs.Prelude.{◌≡◌, None, [], length};
-ghost use Rattle.lockq.specs.LockQueues.{lock_at};
+ghost use Rattle.lockq.specs.LockQueues.{lock_queue_at};
 
 use lockq::Locks;
 use std::alloc::{AllocError, Global};
@@ -12,12 +12,12 @@ use vtime::VTime;
 fn goes_round(alloc: Global, locks: &mut Locks) -> bool
     requires one { length locks.old.locks ≡ 1 }
     requires two { locks.old.processors ≡ 2 }
-    requires free { (lock_at locks.old 0).holder ≡ None }
-    requires none { (lock_at locks.old 0).queue ≡ [] }
+    requires free { (lock_queue_at locks.old 0).holder ≡ None }
+    requires none { (lock_queue_at locks.old 0).queue ≡ [] }
     ensures one { length locks.new.locks ≡ 1 }
     ensures two { locks.new.processors ≡ 2 }
-    ensures free { (lock_at locks.new 0).holder ≡ None }
-    ensures none { (lock_at locks.new 0).queue ≡ [] }
+    ensures free { (lock_queue_at locks.new 0).holder ≡ None }
+    ensures none { (lock_queue_at locks.new 0).queue ≡ [] }
 {
     let is_due = locks.ask(0, 0);
     let waits = !locks.ask(0, 1);

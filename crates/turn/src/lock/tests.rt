@@ -1,10 +1,10 @@
 ghost use Rattle.std.specs.Prelude.{◌≡◌, ◌*◌, ◌^◌, ◌<◌, ◌≤◌, IfOk};
-ghost use Rattle.turn.specs.Prelude.{entries, lock, chair_lock_id, IsChairOutside, IsSameChair, AreAllChairs};
+ghost use Rattle.turn.specs.Prelude.{entries, lock, chair_lock_id, IsChairOutside, IsSameChair, AreChairsInOrder};
 
 use super::{ArrayLock, TicketLock, TurnLock};
+use crate::boards::{ArrayBoard, Board, LINE, TicketBoard};
 use crate::chair::{Chair, Spent};
-use crate::contract::{Keeper, Outcome, Turn};
-use crate::lock_words::{ArrayBoard, Board, LINE, TicketBoard};
+use crate::turn::{Keeper, Outcome, Turn};
 use std::alloc::{AllocError, Global};
 use std::process::Abort;
 use std::sync::{Arc, Wait};
@@ -73,9 +73,9 @@ fn enter_at<B, T: Turn<B, Anything>, R: Wait>(
     chairs: &mut Vec<Chair<B, Anything>>,
     place: usize,
 ) -> Result<(), Spent>
-    requires all { AreAllChairs (T.id turn.now) (T.size turn.now) chairs.old.items }
+    requires all { AreChairsInOrder (T.id turn.now) (T.size turn.now) chairs.old.items }
     requires place { place < T.size turn.now }
-    ensures { AreAllChairs (T.id turn.now) (T.size turn.now) chairs.new.items }
+    ensures { AreChairsInOrder (T.id turn.now) (T.size turn.now) chairs.new.items }
 {
     pass_through(rt, turn, &mut chairs[place])
 }
@@ -90,9 +90,9 @@ fn goes<W: Board + Sync, R: Wait>(
     chairs: &mut Vec<Chair<u64, Anything>>,
     step: &Step,
 ) -> bool
-    requires { AreAllChairs (chair_lock_id turn.now.table.shared.table_id 3) turn.now.layout.seats
+    requires { AreChairsInOrder (chair_lock_id turn.now.table.shared.table_id 3) turn.now.layout.seats
         chairs.old.items }
-    ensures { AreAllChairs (chair_lock_id turn.now.table.shared.table_id 3) turn.now.layout.seats
+    ensures { AreChairsInOrder (chair_lock_id turn.now.table.shared.table_id 3) turn.now.layout.seats
         chairs.new.items }
 {
     let (place, enters, words) = *step;

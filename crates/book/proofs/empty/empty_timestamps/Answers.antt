@@ -1,6 +1,6 @@
 use Rattle.std.proofs.Common.{◌≡◌, ℕ, zero, suc, ◌∷◌, map, replicate, refl, ap, ◌∙◌}
 use Rattle.std.specs.Option.{option_map}
-use Rattle.journal.specs.Closing.{awaited_kind}
+use Rattle.journal.specs.ClosingKinds.{closing_awaits_kind}
 use Rattle.book.proofs.empty.empty_timestamps.Goals as goal
 
 module _ {A B : Type 0} (f : A → B) (a : A) where
@@ -10,4 +10,4 @@ module _ {A B : Type 0} (f : A → B) (a : A) where
 
 pub returns-clause-awaits : goal.returns-clause-awaits
 returns-clause-awaits c =
-    ap (map (option_map awaited_kind)) c.in_ok-nothing.ensures ∙ map_replicate (option_map awaited_kind) _ c.args.processors
+    ap (map (option_map closing_awaits_kind)) c.in_ok-empty_places.ensures ∙ map_replicate (option_map closing_awaits_kind) _ c.args.processors

@@ -1,7 +1,7 @@
 use Rattle.std.proofs.Common.{◌≡◌, ℕ, List, [], length, take, fold, slice_get, slice_index, slice_index_or, min, suc, ◌+◌, ◌<◌, Some, ap, ◌∙◌, sym, arith}
 use Rattle.std.proofs.lemmas.Option.{get_or_from_slice_get, slice_get-get_or}
 use Rattle.std.proofs.lemmas.List.Sums.{fold_push}
-use Rattle.base.proofs.SlicesAndCounts.{take-suc_at}
+use Rattle.base.proofs.SlicesAndCounts.{slice_take-suc_at}
 use Rattle.book.specs.Transitions.{transition_lesser}
 use Rattle.book.proofs.trims.least.Goals as goal
 
@@ -11,7 +11,7 @@ one_more : (times : List (List ℕ)) (q n i entry least : ℕ) (t : List ℕ) �
     → min least entry ≡ fold (transition_lesser q) n (take (i + 1) times)
 one_more times q n i entry least t lt is at so_far =
     let here = slice_get-get_or times i t lt ∙ ap (λ (x : List ℕ). Some x) (sym is) in
-    let front = take-suc_at times i t here in
+    let front = slice_take-suc_at times i t here in
     let e : i + 1 ≡ suc i = omega arith in
     let one = sym (get_or_from_slice_get t q entry 0 at) in
     ap (λ m. min m entry) so_far ∙ ap (λ m. min (fold (transition_lesser q) n (take i times)) m) one

@@ -1,22 +1,22 @@
 use Rattle.std.proofs.Common.{◌≡◌, ℕ, List, suc, ◌+◌, ◌<◌, ◌≤◌, length, Some, slice_get, slice_index_or, ap, ◌∙◌, sym, arith}
 use Rattle.std.proofs.lemmas.Option.{get_or_from_slice_get, slice_get-get_or}
-use Rattle.interval.specs.Closings.{Closings, closings_trimmed_below}
+use Rattle.interval.specs.KeptClosings.{KeptClosings, kept_closings_trimmed_below}
 use Rattle.book.specs.Transitions.{transition_trimmed_by}
-use Rattle.book.specs.Calls.{AllowsTrimOfCall}
-use Rattle.book.proofs.Parts.ClosedIntervals.{length-transition_trimmed_by}
-use Rattle.book.proofs.Parts.Trimmed.{IsSpared, trimmed_spared}
+use Rattle.book.specs.AllowedCalls.{AllowsTrimOfCall}
+use Rattle.book.proofs.Parts.BookIntervals.{length-transition_trimmed_by}
+use Rattle.book.proofs.Parts.TightTrims.{IsSparedByTightTrim, tight_trim_spared}
 use Rattle.book.proofs.trims.trim.Goals.{then-has_risen, else-has_risen+else-owner-processor}
 use Rattle.book.proofs.trims.trim.Goals as goal
 
 pub trim-requires : goal.trim-requires
 trim-requires c =
-    let same = ap (λ (x : Closings). length x.first) c.loop-owner.invariant
+    let same = ap (λ (x : KeptClosings). length x.first) c.loop-owner.invariant
     ∙ length-transition_trimmed_by c.args.closed.now c.args.times.now c.loop-owner.owner in
     let owners = c.requires.owners in
     omega arith
 
 -- of another owner, whose entry stands as it was, nothing is left to trim
-spared : (c : Closings) (times : List (List ℕ)) (p owner one two : ℕ) (before own : List ℕ)
+spared : (c : KeptClosings) (times : List (List ℕ)) (p owner one two : ℕ) (before own : List ℕ)
     → AllowsTrimOfCall c times p before → owner < length times → own ≡ slice_index_or times p own
     → slice_get own owner ≡ Some one → slice_get before owner ≡ Some two → one ≤ two → ¬ (owner ≡ p)
     → transition_trimmed_by c times owner ≡ transition_trimmed_by c times (owner + 1)
@@ -28,7 +28,7 @@ spared c times p owner one two before own may lt is now old le apart =
     let was = get_or_from_slice_get before owner two 0 old in
     let more : 1 < length times = omega arith in
     let next : suc owner ≡ owner + 1 = omega arith in
-    let spares : IsSpared c times owner = record {
+    let spares : IsSparedByTightTrim c times owner = record {
       p = p;
       old = before;
       new = own;
@@ -36,7 +36,7 @@ spared c times p owner one two before own may lt is now old le apart =
       le = omega arith;
       tight = may.tight more;
     } in
-    sym (trimmed_spared spares (omega arith) may.from)
+    sym (tight_trim_spared spares (omega arith) may.from)
     ∙ ap (λ (m : ℕ). transition_trimmed_by c times m) next
 
 pub loop-owner-preserved : goal.loop-owner-preserved
@@ -45,8 +45,8 @@ loop-owner-preserved c =
     elim c.if-has_risen.branch [
       | then-has_risen w ↦
           w.closed-is ∙ w.trim.ensures.value
-          ∙ ap (λ (x : Closings). closings_trimmed_below x c.loop-owner.owner w.least.result) c.loop-owner.invariant
-          ∙ ap (λ (n : ℕ). closings_trimmed_below (transition_trimmed_by c.args.closed.now c.args.times.now c.loop-owner.owner)
+          ∙ ap (λ (x : KeptClosings). kept_closings_trimmed_below x c.loop-owner.owner w.least.result) c.loop-owner.invariant
+          ∙ ap (λ (n : ℕ). kept_closings_trimmed_below (transition_trimmed_by c.args.closed.now c.args.times.now c.loop-owner.owner)
           c.loop-owner.owner n) w.least.ensures
           ∙ ap (λ (m : ℕ). transition_trimmed_by c.args.closed.now c.args.times.now m) next
       | else-has_risen+else-owner-processor w ↦ w.closed-is ∙ c.loop-owner.invariant

@@ -4,20 +4,20 @@ use Rattle.std.proofs.lemmas.Option.{slice_get-get_or}
 use Rattle.journal.specs.declared.event.Event.{Event}
 use Rattle.journal.specs.declared.event.Kind.TheVariants.{Load}
 use Rattle.journal.specs.DidEvent.{event}
-use Rattle.journal.specs.Events.{count_of, is_arrive, is_depart}
-use Rattle.journal.proofs.Passes.ClockEntry.{entry_zeros_at}
-use Rattle.journal.specs.InRange.{ProcessorsInRange}
-use Rattle.causes.specs.Edges.{AreEdges, EdgeFromOther, EdgeLeadsOn}
-use Rattle.causes.proofs.EdgeLeadsOn.{AreLeadingEdgesBelow, edge_leads_count_within, edge_leads_counts_next, edges_below_all, edges_start, edges_below_next, edges_others, leads, edge_leads_led, edge_one_or_none}
+use Rattle.journal.specs.Events.{event_count, event_arrives, event_departs}
+use Rattle.journal.proofs.Passes.ClockZeros.{clock_zeros_at}
+use Rattle.journal.specs.EventsInRange.{EventProcessorsInRange}
+use Rattle.causes.specs.Edges.{AreEdges, EdgeFromOther, EdgeLetsOn}
+use Rattle.causes.proofs.EdgeLeadsOn.{AreLeadingEdgesBelow, edge_leads_count_within, edge_leads_counts_next, edge_leads_all, edge_leads_start, edge_leads_next, edge_leads_others, leads, edge_leads_led, edge_leads_one_or_none}
 use Rattle.causes.proofs.edge.edges.Goals as goal
-use Rattle.causes.proofs.edge.edges.Goals.{then-from-to+then-edge_leads_on+in_ok-push, else-from-to, else-from-to-via-then-from-to+else-edge_leads_on, else-from-to-via-else-from-to}
+use Rattle.causes.proofs.edge.edges.Goals.{then-from-to+then-edge_lets_on+in_ok-push, else-from-to, else-from-to-via-then-from-to+else-edge_lets_on, else-from-to-via-else-from-to}
 
 -- the event at this place
 abbrev here : List Event → ℕ → Event
 here events place = slice_index_or events place (event 0 (Load 0 0))
 
 -- the processor of an event before the place is one of sixteen
-low : (events : List Event) (place i : ℕ) → i < place → place < length events → ProcessorsInRange 16 events
+low : (events : List Event) (place i : ℕ) → i < place → place < length events → EventProcessorsInRange 16 events
     → (here events i).processor < 16
 low events place i lt inside range =
     range i (here events i) (slice_get-get_or events i (event 0 (Load 0 0)) (omega arith))
@@ -26,15 +26,15 @@ low events place i lt inside range =
 within_here : (j events : List Event) → events ≡ j → (k : ℕ) → k < length j → k < length events
 within_here j events is k lt = subst (λ (xs : List Event). k < length xs) (sym is) lt
 
-sixteen : (n : ℕ) (events : List Event) → n ≤ 16 → ProcessorsInRange n events → ProcessorsInRange 16 events
+sixteen : (n : ℕ) (events : List Event) → n ≤ 16 → EventProcessorsInRange n events → EventProcessorsInRange 16 events
 sixteen n events few range i e at = let lt = range i e at in omega arith
 
 pub loop-i-init : goal.loop-i-init
 loop-i-init c = record {
-  counts = record { long = refl; each = λ q lt. entry_zeros_at 16 q };
+  counts = record { long = refl; each = λ q lt. clock_zeros_at 16 q };
   edges =
       subst (AreLeadingEdgesBelow c.events-events.result.now c.args.place 0) (sym c.new-places.ensures.items)
-      (edges_start c.events-events.result.now c.args.place);
+      (edge_leads_start c.events-events.result.now c.args.place);
 }
 
 pub offset_bounds-arrivals-from : goal.offset_bounds-arrivals-from
@@ -56,9 +56,9 @@ overflow_add-arrivals c =
     let small = c.ranges.place.fits in
     let is = low events c.args.place i lt inside (sixteen c.args.history.now.sizes.processors c.events-events.result.now c.events-events.ensures.few_processors c.events-events.ensures.processors) in
     let count = c.loop-i.invariant.counts.each p is in
-    let most = edge_leads_count_within is_arrive events i p (omega arith) in
-    let one = c.arrivals_of.ensures in
-    let bit = edge_one_or_none (is_arrive (here events i).kind) in
+    let most = edge_leads_count_within event_arrives events i p (omega arith) in
+    let one = c.edge_arrivals_of.ensures in
+    let bit = edge_leads_one_or_none (event_arrives (here events i).kind) in
     omega arith
 
 pub offset_bounds-arrivals-from-in-loop-i : goal.offset_bounds-arrivals-from-in-loop-i
@@ -84,31 +84,31 @@ loop-i-preserved c =
     let end = slice_get-get_or events k (event 0 (Load 0 0)) inside in
     let low = (sixteen c.args.history.now.sizes.processors c.events-events.result.now c.events-events.ensures.few_processors c.events-events.ensures.processors) i from at in
     let arrived = old.counts.each from.processor low in
-    let departed = c.departures_before-departed.ensures in
-    let one = c.arrivals_of.ensures in
+    let departed = c.edge_departures_before-departed.ensures in
+    let one = c.edge_arrivals_of.ensures in
     record {
       counts = edge_leads_counts_next from _ at old.counts (omega arith);
       edges = elim c.if-from-to.branch [
-        | then-from-to+then-edge_leads_on+in_ok-push w ↦
-            (let on : EdgeLeadsOn from.kind (count_of is_arrive (take i events) from.processor) to.kind (count_of is_depart (take k events) to.processor) =
-            subst (λ n. EdgeLeadsOn from.kind n to.kind (count_of is_depart (take k events) to.processor)) arrived
-            (subst (λ m. EdgeLeadsOn from.kind (slice_index c.loop-i.arrivals from.processor) to.kind m) departed (w.if-edge_leads_on.ensures.0 refl)) in
+        | then-from-to+then-edge_lets_on+in_ok-push w ↦
+            (let on : EdgeLetsOn from.kind (event_count event_arrives (take i events) from.processor) to.kind (event_count event_departs (take k events) to.processor) =
+            subst (λ n. EdgeLetsOn from.kind n to.kind (event_count event_departs (take k events) to.processor)) arrived
+            (subst (λ m. EdgeLetsOn from.kind (slice_index c.loop-i.arrivals from.processor) to.kind m) departed (w.if-edge_lets_on.ensures.0 refl)) in
             subst (λ v. AreLeadingEdgesBelow events k (i + 1) v.items) (sym w.places-is)
             (subst (AreLeadingEdgesBelow events k (i + 1)) (sym w.in_ok-push.ensures.items)
-            (edges_below_next events k i c.loop-i.places.items (leads events i k from to lt at end (w.if-from-to.true, on))
+            (edge_leads_next events k i c.loop-i.places.items (leads events i k from to lt at end (w.if-from-to.true, on))
             old.edges)))
         | else-from-to w ↦
             (let away : ¬ EdgeFromOther events i k = λ x.
             let l = edge_leads_led events i k from to at end x in
-            let on : EdgeLeadsOn from.kind (slice_index c.loop-i.arrivals from.processor) to.kind c.departures_before-departed.result =
-            subst (λ n. EdgeLeadsOn from.kind n to.kind c.departures_before-departed.result) (sym arrived)
-            (subst (λ m. EdgeLeadsOn from.kind (count_of is_arrive (take i events) from.processor) to.kind m) (sym departed) l.1) in
+            let on : EdgeLetsOn from.kind (slice_index c.loop-i.arrivals from.processor) to.kind c.edge_departures_before-departed.result =
+            subst (λ n. EdgeLetsOn from.kind n to.kind c.edge_departures_before-departed.result) (sym arrived)
+            (subst (λ m. EdgeLetsOn from.kind (event_count event_arrives (take i events) from.processor) to.kind m) (sym departed) l.1) in
             elim w.else-from-to.branch [
-              | else-from-to-via-then-from-to+else-edge_leads_on v ↦ false≢true (v.if-edge_leads_on.ensures.1 on)
+              | else-from-to-via-then-from-to+else-edge_lets_on v ↦ false≢true (v.if-edge_lets_on.ensures.1 on)
               | else-from-to-via-else-from-to v ↦ l.0 v.if-from-to.false
             ] in
             subst (λ v. AreLeadingEdgesBelow events k (i + 1) v.items) (sym w.places-is)
-            (edges_others events k i c.loop-i.places.items away old.edges))
+            (edge_leads_others events k i c.loop-i.places.items away old.edges))
       ];
     }
 
@@ -117,4 +117,4 @@ returns c =
     let lt = c.loop-i-test.false in
     let top = c.loop-i.auto.i-end in
     subst (λ j. AreEdges j c.args.place c.loop-i.places.items) c.events-events.ensures.value
-    (edges_below_all c.events-events.result.now c.args.place c.loop-i.i c.loop-i.places.items (omega arith) c.loop-i.invariant.edges)
+    (edge_leads_all c.events-events.result.now c.args.place c.loop-i.i c.loop-i.places.items (omega arith) c.loop-i.invariant.edges)

@@ -3,10 +3,10 @@ use Rattle.std.specs.Global.{Vec}
 use Rattle.std.proofs.lemmas.Option.{none-some}
 use Rattle.judge.specs.declared.sizes.Sizes.{Sizes as Given}
 use Rattle.judge.specs.Miscounted.{IsEventInSizes}
-use Rattle.judge.specs.Sizes.{sizes_of}
+use Rattle.judge.specs.JudgedSizes.{judged_sizes_of}
 use Rattle.causes.specs.declared.event_dues.Due.{Due}
 use Rattle.causes.specs.Dues.{AreAllDues, AreDues}
-use Rattle.causes.proofs.OwingDues.{dues_rows_next}
+use Rattle.causes.proofs.DueSpans.{due_span_rows_next}
 use Rattle.causes.proofs.event_dues.all_dues.Goals as goal
 
 pub loop-place-init : goal.loop-place-init
@@ -26,7 +26,7 @@ dues_at-requires c =
       few = c.requires.few;
       place = c.loop-place-test.true;
       within = λ k e at.
-          subst (λ (x : Given). IsEventInSizes (sizes_of x) e) (sym old.sizes) (c.requires.within k e at);
+          subst (λ (x : Given). IsEventInSizes (judged_sizes_of x) e) (sym old.sizes) (c.requires.within k e at);
       so_far = old.tells;
     }
 
@@ -43,9 +43,9 @@ loop-place-preserved c =
       sizes = c.dues_at.ensures.sizes ∙ old.sizes;
       long = (let len = c.in_ok-push.ensures.len in let was = old.long in omega arith);
       rows =
-          subst (AreAllDues (sizes_of c.args.gaps.now.sizes) events) (sym c.in_ok-push.ensures.items)
-          (dues_rows_next (sizes_of c.args.gaps.now.sizes) events rows.items place row long old.rows
-          (λ e at. subst (λ (x : Given). AreDues (sizes_of x) events place e row.items) old.sizes
+          subst (AreAllDues (judged_sizes_of c.args.gaps.now.sizes) events) (sym c.in_ok-push.ensures.items)
+          (due_span_rows_next (judged_sizes_of c.args.gaps.now.sizes) events rows.items place row long old.rows
+          (λ e at. subst (λ (x : Given). AreDues (judged_sizes_of x) events place e row.items) old.sizes
           (c.in_ok-dues_at.ensures.dues e at)));
     }
 

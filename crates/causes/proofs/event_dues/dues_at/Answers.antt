@@ -5,16 +5,16 @@ use Rattle.std.proofs.lemmas.Option.{slice_get-get_or}
 use Rattle.journal.specs.declared.event.Event.{Event}
 use Rattle.journal.specs.declared.event.Kind.TheVariants.{Load}
 use Rattle.journal.specs.DidEvent.{event}
-use Rattle.journal.specs.Events.{At, is_taking}
+use Rattle.journal.specs.Events.{EventAt, event_takes}
 use Rattle.journal.specs.Times.{IsTimeOf}
-use Rattle.journal.specs.WellFormed.{KindInRange}
-use Rattle.journal.proofs.Order.CountedAndNumbered.{numbered_at_same}
+use Rattle.journal.specs.WellFormed.{WellFormedKindInRange}
+use Rattle.journal.proofs.Order.EventPlacesAndCounts.{event_place_same}
 use Rattle.judge.specs.declared.sizes.Sizes.{Sizes as Given}
 use Rattle.judge.specs.Miscounted.{IsEventInSizes}
-use Rattle.judge.specs.Sizes.{sizes_of}
+use Rattle.judge.specs.JudgedSizes.{judged_sizes_of}
 use Rattle.causes.specs.declared.event_dues.Due.{Due}
 use Rattle.causes.specs.Dues.{AreDues}
-use Rattle.causes.proofs.OwingDues.{IsQuietAt, dues_quiet}
+use Rattle.causes.proofs.DueSpans.{HasNoDueSpanAt, due_span_quiet}
 use Rattle.causes.proofs.event_dues.dues_at.Goals as goal
 
 -- the event at this place
@@ -44,7 +44,7 @@ dues_of_fetch-requires-clause-fetch c = λ e at.
       fetch.writers,
       fetch.records,
       fetch.words,
-      sym (ap (λ (x : Event). x.kind) (numbered_at_same events k (here events k) e there at)) ∙ fetch.is,
+      sym (ap (λ (x : Event). x.kind) (event_place_same events k (here events k) e there at)) ∙ fetch.is,
     ))
 
 pub dues_of_fetch-requires-clause-page : goal.dues_of_fetch-requires-clause-page
@@ -52,7 +52,7 @@ dues_of_fetch-requires-clause-page c =
     let events = c.args.events.now in
     let k = c.args.place in
     let there = slice_get-get_or events k (event 0 (Load 0 0)) c.requires.place in
-    subst (KindInRange (sizes_of c.args.gaps.now.sizes)) c.in-Fetch.is (c.requires.within k (here events k) there).kind
+    subst (WellFormedKindInRange (judged_sizes_of c.args.gaps.now.sizes)) c.in-Fetch.is (c.requires.within k (here events k) there).kind
 
 pub note-requires : goal.note-requires
 note-requires c = record {
@@ -98,17 +98,17 @@ dues_of_taking-requires c =
       tells = c.in_ok-note-2.ensures.tells;
       place = c.requires.place;
       within = λ n e at.
-          subst (λ (x : Given). IsEventInSizes (sizes_of x) e) (sym c.note-2.ensures.sizes) (c.requires.within n e at);
+          subst (λ (x : Given). IsEventInSizes (judged_sizes_of x) e) (sym c.note-2.ensures.sizes) (c.requires.within n e at);
       takes = λ e at.
-          subst (λ (f : Event). is_taking f.kind ≡ true) (numbered_at_same events k (here events k) e there at)
-          (sym c.takes.ensures ∙ c.if-takes.true);
+          subst (λ (f : Event). event_takes f.kind ≡ true) (event_place_same events k (here events k) e there at)
+          (sym c.is_taking_event.ensures ∙ c.if-is_taking_event.true);
       before = λ e at.
           subst (λ (f : Event). IsTimeOf (take k events) f.processor (slice_index c.time.result.now))
-          (numbered_at_same events k (here events k) e there at) (c.time.ensures (take k events) c.requires.so_far);
+          (event_place_same events k (here events k) e there at) (c.time.ensures (take k events) c.requires.so_far);
     }
 
-pub returns-then-takes : goal.returns-then-takes
-returns-then-takes c =
+pub returns-then-is_taking_event : goal.returns-then-is_taking_event
+returns-then-is_taking_event c =
     let events = c.args.events.now in
     let k = c.args.place in
     record {
@@ -117,23 +117,23 @@ returns-then-takes c =
       dues =
           subst
           (λ (x : Given). IfOk c.dues_of_taking.result
-          (λ (v : Vec Due). (e : Event) → At events k e → AreDues (sizes_of x) events k e v.items))
+          (λ (v : Vec Due). (e : Event) → EventAt events k e → AreDues (judged_sizes_of x) events k e v.items))
           c.note-2.ensures.sizes c.dues_of_taking.ensures;
     }
 
-pub returns-else-takes : goal.returns-else-takes
-returns-else-takes c =
+pub returns-else-is_taking_event : goal.returns-else-is_taking_event
+returns-else-is_taking_event c =
     let events = c.args.events.now in
     let k = c.args.place in
-    let s = sizes_of c.args.gaps.now.sizes in
+    let s = judged_sizes_of c.args.gaps.now.sizes in
     let there = slice_get-get_or events k (event 0 (Load 0 0)) c.requires.place in
-    let quiet : IsQuietAt events k (here events k) =
-    record { at = there; takes = sym c.takes.ensures ∙ c.if-takes.false; fetches = c.in_default.not-Fetch } in
+    let quiet : HasNoDueSpanAt events k (here events k) =
+    record { at = there; takes = sym c.is_taking_event.ensures ∙ c.if-is_taking_event.false; fetches = c.in_default.not-Fetch } in
     record {
       sizes = c.note-2.ensures.sizes;
       tells = c.in_ok-note-2.ensures.tells;
       dues = λ e at.
           subst (AreDues s events k e) (sym c.new.ensures.items)
-          (subst (λ (f : Event). AreDues s events k f []) (numbered_at_same events k (here events k) e there at)
-          (dues_quiet s quiet));
+          (subst (λ (f : Event). AreDues s events k f []) (event_place_same events k (here events k) e there at)
+          (due_span_quiet s quiet));
     }

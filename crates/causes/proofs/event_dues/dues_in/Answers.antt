@@ -1,7 +1,7 @@
 use Rattle.std.proofs.Common.{◌≡◌, ◌+◌, ◌*◌, subst, arith}
-use Rattle.judge.specs.Sizes.{sizes_of}
+use Rattle.judge.specs.JudgedSizes.{judged_sizes_of}
 use Rattle.causes.specs.Dues.{DuesBelow}
-use Rattle.causes.proofs.OwingDues.{dues_below_none}
+use Rattle.causes.proofs.DueSpans.{due_span_below_start}
 use Rattle.std.proofs.Common.{refl}
 use Rattle.causes.proofs.event_dues.dues_in.Goals as goal
 
@@ -9,7 +9,7 @@ pub loop-page-init : goal.loop-page-init
 loop-page-init c = record {
   first = omega arith;
   dues = λ j tells.
-      dues_below_none (sizes_of c.args.gaps.now.sizes) j c.args.span.now _ _ refl c.new-dues.ensures.items;
+      due_span_below_start (judged_sizes_of c.args.gaps.now.sizes) j c.args.span.now _ _ refl c.new-dues.ensures.items;
 }
 
 pub loop-page-preserved : goal.loop-page-preserved
@@ -22,7 +22,7 @@ loop-page-preserved c =
       first = omega arith;
       dues = λ j tells.
           subst
-          (λ m. DuesBelow (sizes_of c.args.gaps.now.sizes) j c.args.span.now m c.add_dues.new.dues.items) next
+          (λ m. DuesBelow (judged_sizes_of c.args.gaps.now.sizes) j c.args.span.now m c.add_dues.new.dues.items) next
           (c.in_ok-add_dues.ensures j tells (was.dues j tells));
     }
 
@@ -32,5 +32,5 @@ returns c = λ j tells.
     let top = c.loop-page.auto.page-end in
     let order = c.requires.order in
     let is : c.loop-page.page ≡ c.args.span.now.end = omega arith in
-    subst (λ m. DuesBelow (sizes_of c.args.gaps.now.sizes) j c.args.span.now (m * 16) c.loop-page.dues.items) is
+    subst (λ m. DuesBelow (judged_sizes_of c.args.gaps.now.sizes) j c.args.span.now (m * 16) c.loop-page.dues.items) is
     (c.loop-page.invariant.dues j tells)

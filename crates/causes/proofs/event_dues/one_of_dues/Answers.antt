@@ -1,5 +1,5 @@
 use Rattle.std.proofs.Common.{◌∙◌}
-use Rattle.causes.proofs.OwingDues.{due_none_between, due_none_counted}
+use Rattle.causes.proofs.DueSpans.{due_span_none_between, due_span_none_counted}
 use Rattle.causes.proofs.event_dues.one_of_dues.Goals as goal
 use Rattle.causes.proofs.event_dues.one_of_dues.Goals.{then-writer-span-via-then-writer-span, then-writer-span-via-else-writer-span+then-span-writer}
 
@@ -8,10 +8,10 @@ returns-then-writer-span c = λ j tells x y page writer.
     elim c.then-writer-span.branch [
       | then-writer-span-via-then-writer-span w ↦ y.apart (writer ∙ w.if-writer-span.true)
       | then-writer-span-via-else-writer-span+then-span-writer w ↦
-          due_none_between c.args.writer y writer w.if-span-writer.true
+          due_span_none_between c.args.writer y writer w.if-span-writer.true
     ]
 
 pub returns-then-records-eq0 : goal.returns-then-records-eq0
 returns-then-records-eq0 c = λ j tells x y page writer.
-    due_none_counted c.args.page c.args.writer c.records-records.result y page writer (c.records-records.ensures j tells)
+    due_span_none_counted c.args.page c.args.writer c.records-records.result y page writer (c.records-records.ensures j tells)
     c.if-records-eq0.true

@@ -1,5 +1,5 @@
 use Rattle.std.proofs.Common.{subst}
-use Rattle.causes.specs.Origins.{NameOrigins}
+use Rattle.causes.specs.Origins.{AreOriginsNamed}
 use Rattle.causes.proofs.explaining.explain.Goals as goal
 
 pub returns : goal.returns
@@ -10,7 +10,7 @@ returns c = record {
   origins = c.in_ok-origins.ensures.origins;
   long = c.in_ok-loads.ensures.long;
   loads = c.in_ok-loads.ensures.sources;
-  named = subst (λ o. NameOrigins c.args.history.now.events o c.in_ok-loads.loads.items) c.deref-2.ensures.value
+  named = subst (λ o. AreOriginsNamed c.args.history.now.events o c.in_ok-loads.loads.items) c.deref-2.ensures.value
       c.in_ok-loads.ensures.origins;
   race = c.in_ok-race.ensures;
   incoming_long = c.in_ok-incoming.ensures.long;

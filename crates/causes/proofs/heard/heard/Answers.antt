@@ -5,14 +5,14 @@ use Rattle.journal.specs.declared.event.Kind.TheVariants.{Load}
 use Rattle.journal.specs.DidEvent.{event}
 use Rattle.journal.specs.Times.{IsTimeOf}
 use Rattle.journal.specs.ClockEntry.{entry}
-use Rattle.journal.proofs.Order.CountedAndNumbered.{numbered_at_same}
-use Rattle.journal.proofs.Times.Uses.{time_uses_ordered}
-use Rattle.journal.specs.InRange.{ProcessorsInRange}
+use Rattle.journal.proofs.Order.EventPlacesAndCounts.{event_place_same}
+use Rattle.journal.proofs.Times.OrderByTime.{order_by_time_counts}
+use Rattle.journal.specs.EventsInRange.{EventProcessorsInRange}
 use Rattle.causes.proofs.heard.heard.Goals as goal
 
 pub note-requires-clause-processors : goal.note-requires-clause-processors
 note-requires-clause-processors c =
-    subst (λ n. ProcessorsInRange n c.args.events.now) (sym c.loop-place.invariant.present) c.requires.processors
+    subst (λ n. EventProcessorsInRange n c.args.events.now) (sym c.loop-place.invariant.present) c.requires.processors
 
 pub note-requires-clause-place : goal.note-requires-clause-place
 note-requires-clause-place c =
@@ -36,7 +36,7 @@ of-time-requires c =
     let at = c.requires.second.1 in
     let within = slice_get_within events second e at in
     let same =
-    numbered_at_same events second (slice_index_or events second (event 0 (Load 0 0))) e
+    event_place_same events second (slice_index_or events second (event 0 (Load 0 0))) e
     (slice_get-get_or events second (event 0 (Load 0 0)) within) at in
     let one = ap (λ (y : Event). y.processor) same in
     let few = c.requires.few_processors in
@@ -58,7 +58,7 @@ last_heard-requires-clause-tells c = λ i a does lt.
     let p = e.processor in
     let within = slice_get_within events second e at in
     let same =
-    numbered_at_same events second (slice_index_or events second (event 0 (Load 0 0))) e
+    event_place_same events second (slice_index_or events second (event 0 (Load 0 0))) e
     (slice_get-get_or events second (event 0 (Load 0 0)) within) at in
     let items = c.loop-place.clocks.processors.items in
     let few = c.requires.few_processors in
@@ -70,7 +70,7 @@ last_heard-requires-clause-tells c = λ i a does lt.
     subst (λ n. IsTimeOf (take n events) p (entry items p)) is
     (c.loop-place.invariant.clocks.times p (omega arith)) in
     let tells =
-    time_uses_ordered time does at c.requires.second.2 c.requires.second.3
+    order_by_time_counts time does at c.requires.second.2 c.requires.second.3
     lt in
     let of = c.of-time.ensures by in
     let one = ap (λ (y : Event). entry items y.processor by) same in

@@ -1,7 +1,7 @@
 use Rattle.std.proofs.Common.{◌≡◌, ℕ, length, subst, sym, arith}
 use Rattle.std.specs.Global.{Vec}
 use Rattle.causes.specs.Index.{AreIndexedClosingsOf}
-use Rattle.causes.proofs.Rows.{IsEachRow, rows_next}
+use Rattle.causes.proofs.Rows.{AreRows, rows_next}
 use Rattle.causes.proofs.index.index_closings.Goals as goal
 
 pub loop-by-preserved : goal.loop-by-preserved
@@ -14,6 +14,6 @@ loop-by-preserved c =
     record {
       long = (let len = c.in_ok-push.ensures.len in let was = old.long in omega arith);
       rows =
-          subst (IsEachRow closed) (sym c.in_ok-push.ensures.items)
+          subst (AreRows closed) (sym c.in_ok-push.ensures.items)
           (rows_next closed rows.items c.loop-by.by c.in_ok-index_closings_of.field-0 long old.rows c.in_ok-index_closings_of.ensures);
     }

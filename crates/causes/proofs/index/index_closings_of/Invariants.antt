@@ -1,5 +1,5 @@
-use Rattle.causes.proofs.LookedUpIndex.{AreIndexedClosingsBelow}
+use Rattle.causes.proofs.LookedUpIndex.{AreLookedUpClosingsBelow}
 use Rattle.causes.proofs.index.index_closings_of.Given as goal
 
 abbrev pub invariant-loop-place : goal.invariant-loop-place
-invariant-loop-place l = AreIndexedClosingsBelow l.events l.by l.place l.places.items
+invariant-loop-place l = AreLookedUpClosingsBelow l.events l.by l.place l.places.items

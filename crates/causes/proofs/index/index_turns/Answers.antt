@@ -4,11 +4,11 @@ use Rattle.std.proofs.lemmas.Option.{none-some, slice_get-get_or}
 use Rattle.journal.specs.declared.event.Event.{Event}
 use Rattle.journal.specs.declared.event.Kind.TheVariants.{Load}
 use Rattle.journal.specs.DidEvent.{event}
-use Rattle.journal.specs.Events.{At}
+use Rattle.journal.specs.Events.{EventAt}
 use Rattle.causes.specs.declared.index.Turn.{Turn}
 use Rattle.causes.specs.Index.{IsIndexedTurn}
-use Rattle.causes.proofs.LookedUpIndex.{AreIndexNextTurns, HasTurn, index_next_turns_start, index_next_turns_next, index_turn_here, index_turn_small}
-use Rattle.causes.proofs.Rows.{IsEachRow, rows_next}
+use Rattle.causes.proofs.LookedUpIndex.{AreLookedUpNextTurns, HasLookedUpTurn, looked_up_turns_start, looked_up_turns_next, looked_up_turn_here, looked_up_turn_small}
+use Rattle.causes.proofs.Rows.{AreRows, rows_next}
 use Rattle.causes.proofs.index.index_turns.Goals as goal
 
 abbrev zero : Turn
@@ -20,7 +20,7 @@ here events place = slice_index_or events place (event 0 (Load 0 0))
 
 -- the turn that is next for its processor
 own : (events : List Event) (place : ℕ) (next : List Turn) → place < length events → length next ≡ 16
-    → (here events place).processor < 16 → AreIndexNextTurns events place next
+    → (here events place).processor < 16 → AreLookedUpNextTurns events place next
     → IsIndexedTurn events place (here events place).processor (slice_index_or next (here events place).processor zero)
 own events place next lt long low are =
     are (here events place).processor (slice_index_or next (here events place).processor zero)
@@ -29,7 +29,7 @@ own events place next lt long low are =
 pub loop-place-init : goal.loop-place-init
 loop-place-init c = record {
   next_long = refl;
-  next = index_next_turns_start c.args.events.now zero refl refl;
+  next = looked_up_turns_start c.args.events.now zero refl refl;
   long = c.in_ok-turns.ensures.len;
   each = λ i t to e at.
       absurd (none-some t (subst (λ (items : List Turn). slice_get items i ≡ Some t) c.in_ok-turns.ensures.items to));
@@ -48,8 +48,8 @@ bounds-next-event c =
     let at = slice_get-get_or events c.loop-place.place (event 0 (Load 0 0)) c.loop-place-test.true in
     c.requires.processors c.loop-place.place (here events c.loop-place.place) at
 
-pub turn_after-requires-clause-arrived : goal.turn_after-requires-clause-arrived
-turn_after-requires-clause-arrived c =
+pub index_turn_after-requires-clause-arrived : goal.index_turn_after-requires-clause-arrived
+index_turn_after-requires-clause-arrived c =
     let events = c.args.events.now in
     let place = c.loop-place.place in
     let lt = c.loop-place-test.true in
@@ -58,10 +58,10 @@ turn_after-requires-clause-arrived c =
     let at = slice_get-get_or events place (event 0 (Load 0 0)) (omega arith) in
     let low = c.requires.processors place (here events place) at in
     let mine = own events place c.loop-place.next (omega arith) c.loop-place.invariant.next_long low c.loop-place.invariant.next in
-    (index_turn_small events place (here events place).processor _ (omega arith) few mine).0
+    (looked_up_turn_small events place (here events place).processor _ (omega arith) few mine).0
 
-pub turn_after-requires-clause-departed : goal.turn_after-requires-clause-departed
-turn_after-requires-clause-departed c =
+pub index_turn_after-requires-clause-departed : goal.index_turn_after-requires-clause-departed
+index_turn_after-requires-clause-departed c =
     let events = c.args.events.now in
     let place = c.loop-place.place in
     let lt = c.loop-place-test.true in
@@ -70,7 +70,7 @@ turn_after-requires-clause-departed c =
     let at = slice_get-get_or events place (event 0 (Load 0 0)) (omega arith) in
     let low = c.requires.processors place (here events place) at in
     let mine = own events place c.loop-place.next (omega arith) c.loop-place.invariant.next_long low c.loop-place.invariant.next in
-    (index_turn_small events place (here events place).processor _ (omega arith) few mine).1
+    (looked_up_turn_small events place (here events place).processor _ (omega arith) few mine).1
 
 pub offset_bounds-next-event-in-loop-place : goal.offset_bounds-next-event-in-loop-place
 offset_bounds-next-event-in-loop-place c =
@@ -97,18 +97,18 @@ loop-place-preserved c =
     let low = c.requires.processors place e at in
     let mine = own events place c.loop-place.next lt old.next_long low old.next in
     let turn = slice_index_or c.loop-place.next e.processor zero in
-    let has : HasTurn events place e turn = record { at = at; turn = mine } in
-    let counted = λ (i : ℕ) (t : Turn). (f : Event) → At events i f → IsIndexedTurn events i f.processor t in
+    let has : HasLookedUpTurn events place e turn = record { at = at; turn = mine } in
+    let counted = λ (i : ℕ) (t : Turn). (f : Event) → EventAt events i f → IsIndexedTurn events i f.processor t in
     let long : length turns.items ≡ place = omega (arith, turns.ok.0, old.long) in
     record {
       next_long = length-set c.loop-place.next e.processor _ ∙ old.next_long;
       next =
-          index_next_turns_next c.loop-place.next c.turn_after.result has c.turn_after.ensures.arrived
-          c.turn_after.ensures.departed old.next;
+          looked_up_turns_next c.loop-place.next c.index_turn_after.result has c.index_turn_after.ensures.arrived
+          c.index_turn_after.ensures.departed old.next;
       long = (let len = c.in_ok-push.ensures.len in let was = old.long in omega arith);
       each =
-          subst (IsEachRow counted) (sym c.in_ok-push.ensures.items)
-          (rows_next counted turns.items place turn long old.each (index_turn_here has));
+          subst (AreRows counted) (sym c.in_ok-push.ensures.items)
+          (rows_next counted turns.items place turn long old.each (looked_up_turn_here has));
     }
 
 pub returns : goal.returns

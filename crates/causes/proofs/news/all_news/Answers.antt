@@ -1,8 +1,8 @@
 use Rattle.std.proofs.Common.{◌≡◌, ℕ, List, Some, length, slice_get, subst, sym, refl, ◌∙◌, arith}
 use Rattle.std.specs.Global.{Vec}
 use Rattle.std.proofs.lemmas.Option.{none-some}
-use Rattle.journal.specs.InRange.{ProcessorsInRange}
-use Rattle.causes.specs.News.{AreIncoming, AreNewsInOrder}
+use Rattle.journal.specs.EventsInRange.{EventProcessorsInRange}
+use Rattle.causes.specs.News.{AreIncomingNews, AreNewsRising}
 use Rattle.causes.proofs.Rows.{rows_next}
 use Rattle.causes.proofs.news.all_news.Goals as goal
 
@@ -16,13 +16,13 @@ loop-place-init c = record {
       (subst (λ (rows : List (Vec ℕ)). slice_get rows k ≡ Some row) c.in_ok-rows.ensures.items at));
 }
 
-pub take_step-requires : goal.take_step-requires
-take_step-requires c =
+pub next_step-requires : goal.next_step-requires
+next_step-requires c =
     let old = c.loop-place.invariant in
     record {
       place = c.loop-place-test.true;
       few = c.requires.few;
-      processors = subst (λ n. ProcessorsInRange n c.args.events.now) (sym old.present) c.requires.processors;
+      processors = subst (λ n. EventProcessorsInRange n c.args.events.now) (sym old.present) c.requires.processors;
       so_far = old.clocks;
     }
 
@@ -49,10 +49,10 @@ loop-place-preserved c =
       present = c.in_ok-step.ensures.present ∙ old.present;
       long = (let len = c.in_ok-push.ensures.len in let was = old.long in omega arith);
       rows =
-          subst (AreIncoming events)
+          subst (AreIncomingNews events)
           (sym c.in_ok-push.ensures.items)
-          (rows_next (λ (k : ℕ) (xs : Vec ℕ). AreNewsInOrder events k xs.items) rows.items place row long old.rows
-          (subst (λ n. AreNewsInOrder events n row.items) c.in_ok-step.ensures.place c.in_ok-news.ensures));
+          (rows_next (λ (k : ℕ) (xs : Vec ℕ). AreNewsRising events k xs.items) rows.items place row long old.rows
+          (subst (λ n. AreNewsRising events n row.items) c.in_ok-step.ensures.place c.in_ok-news.ensures));
     }
 
 pub returns-clause-long : goal.returns-clause-long

@@ -1,6 +1,6 @@
 use Rattle.std.proofs.Common.{◌≡◌, take, vec_len}
 use Rattle.journal.specs.Clocks.{AreClocks}
-use Rattle.causes.specs.News.{AreIncoming}
+use Rattle.causes.specs.News.{AreIncomingNews}
 use Rattle.causes.proofs.news.all_news.Given as goal
 
 abbrev pub invariant-loop-place : goal.invariant-loop-place
@@ -8,5 +8,5 @@ invariant-loop-place l = record {
   clocks : AreClocks (take l.place l.events) l.clocks;
   present : l.clocks.present ≡ l.fn.clocks.present;
   long : vec_len l.rows ≡ l.place;
-  rows : AreIncoming l.events l.rows.items;
+  rows : AreIncomingNews l.events l.rows.items;
 }

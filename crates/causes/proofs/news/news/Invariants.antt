@@ -1,5 +1,5 @@
-use Rattle.causes.proofs.FreshNews.{AreNewsBelow}
+use Rattle.causes.proofs.FreshNews.{AreFreshNewsBelow}
 use Rattle.causes.proofs.news.news.Given as goal
 
 abbrev pub invariant-loop-by : goal.invariant-loop-by
-invariant-loop-by l = AreNewsBelow l.events l.step l.by l.places.items
+invariant-loop-by l = AreFreshNewsBelow l.events l.step l.by l.places.items

@@ -5,20 +5,20 @@ use Rattle.std.proofs.lemmas.Option.{slice_get-get_or}
 use Rattle.journal.specs.declared.event.Event.{Event}
 use Rattle.journal.specs.declared.event.Kind.TheVariants.{Load}
 use Rattle.journal.specs.DidEvent.{event}
-use Rattle.journal.specs.Events.{At}
-use Rattle.journal.specs.InRange.{ProcessorsInRange}
+use Rattle.journal.specs.Events.{EventAt}
+use Rattle.journal.specs.EventsInRange.{EventProcessorsInRange}
 use Rattle.journal.specs.Times.{IsTimeOf}
-use Rattle.journal.specs.WellFormed.{KindInRange}
-use Rattle.journal.proofs.Order.CountedAndNumbered.{numbered_at_same}
+use Rattle.journal.specs.WellFormed.{WellFormedKindInRange}
+use Rattle.journal.proofs.Order.EventPlacesAndCounts.{event_place_same}
 use Rattle.judge.specs.declared.gaps.Gaps.{Gaps}
 use Rattle.judge.specs.declared.sizes.Sizes.{Sizes as Given}
-use Rattle.judge.specs.Gaps.{TellsGaps}
+use Rattle.judge.specs.FetchGaps.{TellsFetchGaps}
 use Rattle.judge.specs.Miscounted.{IsEventInSizes}
-use Rattle.judge.specs.Sizes.{sizes_of}
+use Rattle.judge.specs.JudgedSizes.{judged_sizes_of}
 use Rattle.causes.specs.declared.notices.WriteNotice.{WriteNotice}
-use Rattle.causes.specs.Notices.{AreWriteNotices, NoticesBelow}
-use Rattle.causes.proofs.NoticeRows.{all_notices_below, notices_in_fetch, notices_in_taken, notices_quiet_event}
-use Rattle.causes.proofs.OwingDues.{IsFetchSpan, IsQuietAt, IsTakingSpan, due_if_ok, due_none_told, due_pages_within}
+use Rattle.causes.specs.Notices.{AreNoticesAt, NoticesBelow}
+use Rattle.causes.proofs.NoticeRows.{notice_rows_all_below, notice_rows_in_fetch, notice_rows_in_taken, notice_rows_quiet_event}
+use Rattle.causes.proofs.DueSpans.{IsDueSpanOfFetch, HasNoDueSpanAt, IsDueSpanOfTaking, due_span_if_ok, due_span_none_told, due_span_pages_within}
 use Rattle.causes.proofs.notices.notices_at.Goals as goal
 
 -- the event at this place
@@ -26,7 +26,7 @@ abbrev here : List Event → ℕ → Event
 here events place = slice_index_or events place (event 0 (Load 0 0))
 
 -- a history that is told has at most sixteen processors
-low : (j : List Event) (g : Gaps) → TellsGaps j g → ProcessorsInRange 16 j
+low : (j : List Event) (g : Gaps) → TellsFetchGaps j g → EventProcessorsInRange 16 j
 low j g tells i e at =
     let lt = tells.processors i e at in let few = tells.long.sizes.processors in omega arith
 
@@ -35,8 +35,8 @@ on_ok : {A E P : Type 0} (r : Result A E) → P → OnOk r P
 on_ok (Ok x) p = p
 on_ok (Err e) p = tt
 
-pub fetch_span-requires-clause-reader : goal.fetch_span-requires-clause-reader
-fetch_span-requires-clause-reader c =
+pub span_of_fetch-requires-clause-reader : goal.span_of_fetch-requires-clause-reader
+span_of_fetch-requires-clause-reader c =
     let events = c.args.events.now in
     let k = c.args.place in
     let there = slice_get-get_or events k (event 0 (Load 0 0)) c.requires.place in
@@ -44,36 +44,36 @@ fetch_span-requires-clause-reader c =
     let few = c.requires.so_far.long.sizes.processors in
     omega arith
 
-pub fetch_span-requires-clause-page : goal.fetch_span-requires-clause-page
-fetch_span-requires-clause-page c =
+pub span_of_fetch-requires-clause-page : goal.span_of_fetch-requires-clause-page
+span_of_fetch-requires-clause-page c =
     let events = c.args.events.now in
     let k = c.args.place in
     let there = slice_get-get_or events k (event 0 (Load 0 0)) c.requires.place in
-    subst (KindInRange (sizes_of c.args.gaps.now.sizes)) c.in-Fetch.is (c.requires.within k (here events k) there).kind
+    subst (WellFormedKindInRange (judged_sizes_of c.args.gaps.now.sizes)) c.in-Fetch.is (c.requires.within k (here events k) there).kind
 
 pub returns-in-Fetch-clause-notices : goal.returns-in-Fetch-clause-notices
 returns-in-Fetch-clause-notices c = λ e at.
     let g = c.args.gaps.now in
-    let s = sizes_of g.sizes in
+    let s = judged_sizes_of g.sizes in
     let events = c.args.events.now in
     let k = c.args.place in
     let own = here events k in
     let there = slice_get-get_or events k (event 0 (Load 0 0)) c.requires.place in
     let fetch = c.in-Fetch in
-    let span = c.fetch_span.result in
-    let is = c.fetch_span.ensures in
+    let span = c.span_of_fetch.result in
+    let is = c.span_of_fetch.ensures in
     let notices = c.in_ok-notices.notices.items in
     let tells = c.requires.so_far in
-    let is_span : IsFetchSpan s (take k events) own.processor fetch.page span = record {
+    let is_span : IsDueSpanOfFetch s (take k events) own.processor fetch.page span = record {
       reader = is.reader;
       first = is.first;
       end = is.end;
       from = is.from (take k events) tells;
       to = is.to (take k events) tells;
     } in
-    let same = notices_in_fetch events k own fetch.is is_span (low (take k events) g tells) in
-    subst (λ (f : Event). AreWriteNotices s events k f notices) (numbered_at_same events k own e there at)
-    (all_notices_below s events (take k events) k own span notices same (c.in_ok-notices.ensures (take k events) tells))
+    let same = notice_rows_in_fetch events k own fetch.is is_span (low (take k events) g tells) in
+    subst (λ (f : Event). AreNoticesAt s events k f notices) (event_place_same events k own e there at)
+    (notice_rows_all_below s events (take k events) k own span notices same (c.in_ok-notices.ensures (take k events) tells))
 
 pub time-requires : goal.time-requires
 time-requires c =
@@ -84,8 +84,8 @@ time-requires c =
     let few = c.requires.so_far.long.sizes.processors in
     record { tells = (take k events, c.requires.so_far); processor = omega arith }
 
-pub taking_span-requires : goal.taking_span-requires
-taking_span-requires c =
+pub span_of_taking-requires : goal.span_of_taking-requires
+span_of_taking-requires c =
     let events = c.args.events.now in
     let k = c.args.place in
     let there = slice_get-get_or events k (event 0 (Load 0 0)) c.requires.place in
@@ -93,27 +93,27 @@ taking_span-requires c =
     let few = c.requires.so_far.long.sizes.processors in
     record { tells = (take (k + 1) events, c.in_ok-note-2.ensures.tells); reader = omega arith }
 
-pub returns-then-takes : goal.returns-then-takes
-returns-then-takes c =
+pub returns-then-is_taking_event : goal.returns-then-is_taking_event
+returns-then-is_taking_event c =
     let events = c.args.events.now in
     let k = c.args.place in
     let g = c.note-2.new.self in
-    let s = sizes_of g.sizes in
+    let s = judged_sizes_of g.sizes in
     let own = here events k in
     let there = slice_get-get_or events k (event 0 (Load 0 0)) c.requires.place in
-    let span = c.taking_span.result in
-    let is = c.taking_span.ensures in
+    let span = c.span_of_taking.result in
+    let is = c.span_of_taking.ensures in
     let h = take (k + 1) events in
     let tells = c.in_ok-note-2.ensures.tells in
     let before : IsTimeOf (take k events) own.processor (slice_index span.from) =
     subst (λ t. IsTimeOf (take k events) own.processor (slice_index t)) (sym is.from)
     (c.time.ensures (take k events) c.requires.so_far) in
-    let within = λ (n : ℕ) (f : Event) (at : At events n f).
-    subst (λ (x : Given). IsEventInSizes (sizes_of x) f) (sym c.note-2.ensures.sizes) (c.requires.within n f at) in
-    let round : IsTakingSpan s events k own span = record {
+    let within = λ (n : ℕ) (f : Event) (at : EventAt events n f).
+    subst (λ (x : Given). IsEventInSizes (judged_sizes_of x) f) (sym c.note-2.ensures.sizes) (c.requires.within n f at) in
+    let round : IsDueSpanOfTaking s events k own span = record {
       takes = record {
         at = there;
-        takes = sym c.takes.ensures ∙ c.if-takes.true;
+        takes = sym c.is_taking_event.ensures ∙ c.if-is_taking_event.true;
         before = before;
         after = is.to h tells;
       };
@@ -121,39 +121,39 @@ returns-then-takes c =
       first = is.first;
       end = is.end;
       low = low h g tells;
-      pages = due_pages_within s events (k + 1) within;
+      pages = due_span_pages_within s events (k + 1) within;
     } in
-    let same = notices_in_taken round in
+    let same = notice_rows_in_taken round in
     record {
       sizes = c.note-2.ensures.sizes;
-      tells = on_ok c.notices_in-then-takes.result tells;
+      tells = on_ok c.notices_in-then-is_taking_event.result tells;
       notices =
           subst
-          (λ (x : Given). IfOk c.notices_in-then-takes.result
-          (λ (v : Vec WriteNotice). (e : Event) → At events k e → AreWriteNotices (sizes_of x) events k e v.items))
+          (λ (x : Given). IfOk c.notices_in-then-is_taking_event.result
+          (λ (v : Vec WriteNotice). (e : Event) → EventAt events k e → AreNoticesAt (judged_sizes_of x) events k e v.items))
           c.note-2.ensures.sizes
-          (due_if_ok c.notices_in-then-takes.result
-          (λ (v : Vec WriteNotice). (j : List Event) → TellsGaps j g → NoticesBelow s j span (span.end * 16) 0 v.items)
-          (λ (v : Vec WriteNotice). (e : Event) → At events k e → AreWriteNotices s events k e v.items)
-          (λ v are e at. subst (λ (f : Event). AreWriteNotices s events k f v.items)
-          (numbered_at_same events k own e there at)
-          (all_notices_below s events h k own span v.items same (are h tells))) c.notices_in-then-takes.ensures);
+          (due_span_if_ok c.notices_in-then-is_taking_event.result
+          (λ (v : Vec WriteNotice). (j : List Event) → TellsFetchGaps j g → NoticesBelow s j span (span.end * 16) 0 v.items)
+          (λ (v : Vec WriteNotice). (e : Event) → EventAt events k e → AreNoticesAt s events k e v.items)
+          (λ v are e at. subst (λ (f : Event). AreNoticesAt s events k f v.items)
+          (event_place_same events k own e there at)
+          (notice_rows_all_below s events h k own span v.items same (are h tells))) c.notices_in-then-is_taking_event.ensures);
     }
 
-pub returns-else-takes : goal.returns-else-takes
-returns-else-takes c =
+pub returns-else-is_taking_event : goal.returns-else-is_taking_event
+returns-else-is_taking_event c =
     let events = c.args.events.now in
     let k = c.args.place in
-    let s = sizes_of c.args.gaps.now.sizes in
+    let s = judged_sizes_of c.args.gaps.now.sizes in
     let own = here events k in
     let there = slice_get-get_or events k (event 0 (Load 0 0)) c.requires.place in
-    let quiet : IsQuietAt events k own =
-    record { at = there; takes = sym c.takes.ensures ∙ c.if-takes.false; fetches = c.in_default.not-Fetch } in
+    let quiet : HasNoDueSpanAt events k own =
+    record { at = there; takes = sym c.is_taking_event.ensures ∙ c.if-is_taking_event.false; fetches = c.in_default.not-Fetch } in
     record {
       sizes = c.note-2.ensures.sizes;
       tells = c.in_ok-note-2.ensures.tells;
       notices = λ e at.
-          subst (AreWriteNotices s events k e) (sym c.new.ensures.items)
-          (subst (λ (f : Event). AreWriteNotices s events k f []) (numbered_at_same events k own e there at)
-          (notices_quiet_event s events k own (due_none_told s quiet)));
+          subst (AreNoticesAt s events k e) (sym c.new.ensures.items)
+          (subst (λ (f : Event). AreNoticesAt s events k f []) (event_place_same events k own e there at)
+          (notice_rows_quiet_event s events k own (due_span_none_told s quiet)));
     }

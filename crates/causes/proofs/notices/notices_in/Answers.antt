@@ -1,14 +1,14 @@
 use Rattle.std.proofs.Common.{◌≡◌, ◌+◌, ◌*◌, refl, subst, arith}
-use Rattle.judge.specs.Sizes.{sizes_of}
+use Rattle.judge.specs.JudgedSizes.{judged_sizes_of}
 use Rattle.causes.specs.Notices.{NoticesBelow}
-use Rattle.causes.proofs.NoticeRows.{notices_none}
+use Rattle.causes.proofs.NoticeRows.{notice_rows_start}
 use Rattle.causes.proofs.notices.notices_in.Goals as goal
 
 pub loop-page-init : goal.loop-page-init
 loop-page-init c = record {
   first = omega arith;
   notices = λ j tells.
-      notices_none (sizes_of c.args.gaps.now.sizes) j c.args.span.now _ _ refl c.new-notices.ensures.items;
+      notice_rows_start (judged_sizes_of c.args.gaps.now.sizes) j c.args.span.now _ _ refl c.new-notices.ensures.items;
 }
 
 pub loop-page-preserved : goal.loop-page-preserved
@@ -21,7 +21,7 @@ loop-page-preserved c =
       first = omega arith;
       notices = λ j tells.
           subst
-          (λ m. NoticesBelow (sizes_of c.args.gaps.now.sizes) j c.args.span.now m 0 c.add_notices_of_page.new.notices.items) next
+          (λ m. NoticesBelow (judged_sizes_of c.args.gaps.now.sizes) j c.args.span.now m 0 c.add_notices_of_page.new.notices.items) next
           (c.in_ok-add_notices_of_page.ensures j tells (was.notices j tells));
     }
 
@@ -31,5 +31,5 @@ returns c = λ j tells.
     let top = c.loop-page.auto.page-end in
     let order = c.requires.order in
     let is : c.loop-page.page ≡ c.args.span.now.end = omega arith in
-    subst (λ m. NoticesBelow (sizes_of c.args.gaps.now.sizes) j c.args.span.now (m * 16) 0 c.loop-page.notices.items) is
+    subst (λ m. NoticesBelow (judged_sizes_of c.args.gaps.now.sizes) j c.args.span.now (m * 16) 0 c.loop-page.notices.items) is
     (c.loop-page.invariant.notices j tells)

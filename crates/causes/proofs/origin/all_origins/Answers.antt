@@ -1,29 +1,29 @@
 use Rattle.std.proofs.Common.{◌≡◌, ℕ, ◌+◌, Option, length, subst, sym, ◌∙◌, arith}
 use Rattle.journal.specs.declared.event.Event.{Event}
-use Rattle.journal.specs.Events.{At}
+use Rattle.journal.specs.Events.{EventAt}
 use Rattle.judge.specs.declared.sizes.Sizes.{Sizes as Given}
 use Rattle.judge.specs.Miscounted.{IsEventInSizes}
-use Rattle.judge.specs.Sizes.{AreSizesJudged, sizes_of}
+use Rattle.judge.specs.JudgedSizes.{AreJudgedSizes, judged_sizes_of}
 use Rattle.causes.specs.declared.origin.WordOrigin.{WordOrigin}
 use Rattle.causes.specs.Origins.{AreOrigins, IsOriginAt}
-use Rattle.causes.specs.OriginSteps.{AreOriginsBefore}
+use Rattle.causes.specs.FetchedOrigins.{AreOriginsBefore}
 use Rattle.causes.proofs.Rows.{rows_next}
 use Rattle.causes.proofs.origin.all_origins.Goals as goal
 
 pub loop-place-preserved : goal.loop-place-preserved
 loop-place-preserved c =
     let events = c.args.events.now in
-    let s = sizes_of c.args.sizes in
+    let s = judged_sizes_of c.args.sizes in
     let place = c.loop-place.place in
     let old = c.loop-place.invariant in
     let rows = c.loop-place.rows in
     let long : length rows.items ≡ place = omega (arith, rows.ok.0, old.long) in
-    let small : AreSizesJudged s = subst (λ (x : Given). AreSizesJudged (sizes_of x)) old.sizes old.tells.long.sizes in
+    let small : AreJudgedSizes s = subst (λ (x : Given). AreJudgedSizes (judged_sizes_of x)) old.sizes old.tells.long.sizes in
     record {
       tells = c.in_ok-note.ensures.tells;
       sizes = c.note.ensures.sizes ∙ old.sizes;
-      words = subst (λ (x : Given). AreOriginsBefore (sizes_of x) events (place + 1) c.note_origins.new.words) old.sizes
-          c.note_origins.ensures;
+      words = subst (λ (x : Given). AreOriginsBefore (judged_sizes_of x) events (place + 1) c.update_origins.new.words) old.sizes
+          c.update_origins.ensures;
       long = (let len = c.in_ok-push.ensures.len in let was = old.long in omega arith);
       rows =
           subst (AreOrigins s events) (sym c.in_ok-push.ensures.items)
@@ -33,5 +33,5 @@ loop-place-preserved c =
 
 pub note-requires-clause-within : goal.note-requires-clause-within
 note-requires-clause-within c =
-    subst (λ (x : Given). (k : ℕ) (e : Event) → At c.args.events.now k e → IsEventInSizes (sizes_of x) e)
+    subst (λ (x : Given). (k : ℕ) (e : Event) → EventAt c.args.events.now k e → IsEventInSizes (judged_sizes_of x) e)
     (sym c.loop-place.invariant.sizes) c.requires.within

@@ -2,17 +2,17 @@ use Rattle.std.proofs.Common.{subst, sym, arith}
 use Rattle.std.proofs.Math.Nat.{mul-le-mul_left}
 use Rattle.judge.specs.declared.sizes.Sizes.{Sizes as Given}
 use Rattle.judge.specs.Miscounted.{IsEventInSizes}
-use Rattle.judge.specs.Sizes.{sizes_of}
-use Rattle.causes.specs.OriginSteps.{AreOriginsBefore}
-use Rattle.causes.proofs.OriginSteps.{origins_start}
+use Rattle.judge.specs.JudgedSizes.{judged_sizes_of}
+use Rattle.causes.specs.FetchedOrigins.{AreOriginsBefore}
+use Rattle.causes.proofs.OriginSteps.{origin_steps_start}
 use Rattle.causes.proofs.origin.origins.Goals as goal
 
 pub all_origins-requires-clause-words : goal.all_origins-requires-clause-words
 all_origins-requires-clause-words c =
-    let s = sizes_of c.sizes-sizes.result in
+    let s = judged_sizes_of c.sizes-sizes.result in
     let words = c.in_ok-words.words in
     subst (AreOriginsBefore s c.events-events.result.now 0) (sym c.deref_mut.ensures.value)
-    (origins_start s c.events-events.result.now words.items (omega (arith, words.ok.0, c.in_ok-words.ensures.long))
+    (origin_steps_start s c.events-events.result.now words.items (omega (arith, words.ok.0, c.in_ok-words.ensures.long))
     c.in_ok-words.ensures.none)
 
 pub all_origins-requires-clause-looked : goal.all_origins-requires-clause-looked
@@ -32,5 +32,5 @@ all_origins-requires-clause-looked c = record {
 
 pub all_origins-requires-clause-within : goal.all_origins-requires-clause-within
 all_origins-requires-clause-within c = λ k e at.
-    subst (λ (x : Given). IsEventInSizes (sizes_of x) e) (sym c.sizes-sizes.ensures.value)
+    subst (λ (x : Given). IsEventInSizes (judged_sizes_of x) e) (sym c.sizes-sizes.ensures.value)
     (c.events-events.ensures.within k e at)

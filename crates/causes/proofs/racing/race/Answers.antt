@@ -3,18 +3,18 @@ use Rattle.std.proofs.lemmas.Option.{slice_get-get_or}
 use Rattle.journal.specs.declared.event.Event.{Event}
 use Rattle.journal.specs.declared.event.Kind.TheVariants.{Load}
 use Rattle.journal.specs.DidEvent.{event}
-use Rattle.journal.specs.Events.{At}
+use Rattle.journal.specs.Events.{EventAt}
 use Rattle.journal.specs.Races.{IsFirstRace, RaceFree}
-use Rattle.journal.proofs.Order.CountedAndNumbered.{numbered_at_same}
-use Rattle.causes.specs.Heard.{IsFirstRaceTold, IsHeard}
-use Rattle.causes.proofs.LastHeard.{heard_are_apart}
+use Rattle.journal.proofs.Order.EventPlacesAndCounts.{event_place_same}
+use Rattle.causes.specs.Heard.{IsHeardAtRace, IsHeard}
+use Rattle.causes.proofs.LastHeard.{last_heard_are_apart}
 use Rattle.causes.proofs.racing.race.Goals as goal
 
 -- the event at this place
 abbrev here : List Event → ℕ → Event
 here events place = slice_index_or events place (event 0 (Load 0 0))
 
-there : (events : List Event) (place : ℕ) → place < length events → At events place (here events place)
+there : (events : List Event) (place : ℕ) → place < length events → EventAt events place (here events place)
 there events place lt = slice_get-get_or events place (event 0 (Load 0 0)) lt
 
 pub returns-in_default : goal.returns-in_default
@@ -25,7 +25,7 @@ offset_bounds-events-first c =
     let events = c.events-events.result.now in
     let first = c.in-Some.first in
     let race : IsFirstRace events first c.in-Some.second = rw c.in-Some.is at c.in_ok-first.ensures in
-    let parts = heard_are_apart events first c.in-Some.second (here events first) race.race (there events first) in
+    let parts = last_heard_are_apart events first c.in-Some.second (here events first) race.race (there events first) in
     let within = parts.within in
     omega arith
 
@@ -34,14 +34,14 @@ bounds-events-first c =
     let events = c.events-events.result.now in
     let first = c.in-Some.first in
     let race : IsFirstRace events first c.in-Some.second = rw c.in-Some.is at c.in_ok-first.ensures in
-    (heard_are_apart events first c.in-Some.second (here events first) race.race (there events first)).within
+    (last_heard_are_apart events first c.in-Some.second (here events first) race.race (there events first)).within
 
 pub heard-requires-clause-by : goal.heard-requires-clause-by
 heard-requires-clause-by c =
     let events = c.events-events.result.now in
     let first = c.in-Some.first in
     let race : IsFirstRace events first c.in-Some.second = rw c.in-Some.is at c.in_ok-first.ensures in
-    let parts = heard_are_apart events first c.in-Some.second (here events first) race.race (there events first) in
+    let parts = last_heard_are_apart events first c.in-Some.second (here events first) race.race (there events first) in
     let lt = c.events-events.ensures.processors first (here events first) (there events first parts.within) in
     let few = c.events-events.ensures.few_processors in
     omega arith
@@ -51,7 +51,7 @@ heard-requires-clause-second c =
     let events = c.events-events.result.now in
     let first = c.in-Some.first in
     let race : IsFirstRace events first c.in-Some.second = rw c.in-Some.is at c.in_ok-first.ensures in
-    let parts = heard_are_apart events first c.in-Some.second (here events first) race.race (there events first) in
+    let parts = last_heard_are_apart events first c.in-Some.second (here events first) race.race (there events first) in
     (parts.second, parts.at, parts.quiet, parts.apart)
 
 pub returns : goal.returns
@@ -60,11 +60,11 @@ returns c =
     let first = c.in-Some.first in
     let second = c.in-Some.second in
     let race : IsFirstRace events first second = rw c.in-Some.is at c.in_ok-first.ensures in
-    let parts = heard_are_apart events first second (here events first) race.race (there events first) in
-    subst (λ j. IsFirstRaceTold j (record { first = first; second = second; heard = c.in_ok-heard.heard })) c.events-events.ensures.value
+    let parts = last_heard_are_apart events first second (here events first) race.race (there events first) in
+    subst (λ j. IsHeardAtRace j (record { first = first; second = second; heard = c.in_ok-heard.heard })) c.events-events.ensures.value
     (record {
       race = race;
       heard = λ e at.
-          let same = numbered_at_same events first (here events first) e (there events first parts.within) at in
+          let same = event_place_same events first (here events first) e (there events first parts.within) at in
           subst (λ (x : Event). IsHeard events x.processor second c.in_ok-heard.heard) same c.in_ok-heard.ensures;
     })

@@ -1,5 +1,5 @@
-use Rattle.causes.proofs.CauseSources.{NoSourceStores}
+use Rattle.causes.proofs.CauseSources.{NoCauseSourceStores}
 use Rattle.causes.proofs.source.first_source.Given as goal
 
 abbrev pub invariant-loop-place : goal.invariant-loop-place
-invariant-loop-place l = NoSourceStores l.events l.places l.place-index l.value
+invariant-loop-place l = NoCauseSourceStores l.events l.places l.place-index l.value

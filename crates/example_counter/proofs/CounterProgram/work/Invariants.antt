@@ -1,6 +1,6 @@
 -- It has added as many as it made rounds.
 use Rattle.seats.specs.Sitting.{seat_deeds}
-use Rattle.seats.specs.Totals.{AddsUpTo}
+use Rattle.seats.specs.WordTallies.{AddsUpTo}
 use Rattle.example_counter.proofs.CounterProgram.work.Given as goal
 
 abbrev pub invariant-loop-round : goal.invariant-loop-round

@@ -1,14 +1,14 @@
 use Rattle.std.proofs.Common.{ℕ, ◌≡◌, List, [], ◌∷◌, ◌++◌, Some, length, vec_len, slice_get, ap, refl, sym, subst, ◌∙◌, arith}
 use Rattle.std.proofs.lemmas.Bool.{eq-eqb, eqb-true, false≢true}
 use Rattle.base.specs.InOrderOnce.{Has}
-use Rattle.judge.proofs.sources.Answering.{answering_marked_within}
+use Rattle.judge.proofs.sources.Answering.{answering_marked_place}
 use Rattle.explore.proofs.allowed_runs.Answers.{allowed_answers_none, allowed_answers_some}
 use Rattle.explore.proofs.allowed_answers.allowed_answers.Goals.{then-is_empty+in_ok-push, else-is_empty}
 use Rattle.explore.proofs.allowed_answers.allowed_answers.Goals as goal
 
-pub stored_answers-requires : goal.stored_answers-requires
-stored_answers-requires c = λ q i at.
-    answering_marked_within c.args.events.now c.args.processor c.args.address 0
+pub allowed_answers_stored-requires : goal.allowed_answers_stored-requires
+allowed_answers_stored-requires c = λ q i at.
+    answering_marked_place c.args.events.now c.args.processor c.args.address 0
     (λ r k. slice_get c.before-latest.result r ≡ Some (Some k))
     (c.before-latest.ensures c.args.events.now c.requires.tells 0) q i at
 

@@ -2,16 +2,16 @@ use Rattle.std.proofs.Common.{◌≡◌, inl, inr, List, length, map, vec_len, �
 use Rattle.lrc_script.specs.Plan.{plan_of}
 use Rattle.explore.specs.declared.explored.ScriptOutcome.{ScriptOutcome}
 use Rattle.explore.specs.Explored.{explored_outcome}
-use Rattle.explore.proofs.allowed_runs.Searching.{allowed_answered}
+use Rattle.explore.proofs.allowed_runs.SearchByRules.{rules_search_answered}
 use Rattle.explore.proofs.allowed_search.allowed_outcomes.Goals as goal
 
 pub returns : goal.returns
 returns g c =
     let x = c.look_at_all.new.self in
     let long : vec_len x.pending ≡ length x.pending.items = omega arith in
-    allowed_answered (plan_of c.args.script.now) c.args.detail c.args.most c.in_ok-beginnings.beginnings x _ c.in_ok-beginnings.ensures.searched
+    rules_search_answered (plan_of c.args.script.now) c.args.detail c.args.most c.in_ok-beginnings.beginnings x _ c.in_ok-beginnings.ensures.searched
     (elim c.in_ok-beginnings.ensures.most [
-      | inl reached ↦ inl (reached ∙ c.beginnings_to_look_at-most.ensures)
+      | inl reached ↦ inl (reached ∙ c.allowed_room_at_most-most.ensures)
       | inr none ↦ inr none
     ]) refl
     (ap (λ (os : List ScriptOutcome). map explored_outcome os)

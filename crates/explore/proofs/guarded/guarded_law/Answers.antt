@@ -1,5 +1,5 @@
 use Rattle.explore.proofs.guarded.guarded_law.Goals as goal
-use Rattle.explore.proofs.locksets.Law.{guarded_law}
+use Rattle.explore.proofs.locksets.TextGuardLaw.{text_guard_law}
 
 pub returns : goal.returns
-returns c = guarded_law
+returns c = text_guard_law

@@ -6,7 +6,7 @@ use Rattle.std.proofs.lemmas.Option.{none-some, same_Some}
 use Rattle.journal.specs.DidEvent.{event}
 use Rattle.journal.specs.Races.{Conflict}
 use Rattle.explore.specs.Nexts.{AreNextInConflict}
-use Rattle.explore.proofs.neighbours.neighbour_of.Goals.{in-Some+else-other-processor, else-other-processor-via-then-other-processor+else-conflicts, else-other-processor-via-else-other-processor, in_default}
+use Rattle.explore.proofs.neighbours.neighbour_of.Goals.{in-Some+else-other-processor, else-other-processor-via-then-other-processor+else-neighbours_conflict, else-other-processor-via-else-other-processor, in_default}
 use Rattle.explore.proofs.neighbours.neighbour_of.Goals as goal
 
 pub loop-other-preserved : goal.loop-other-preserved
@@ -20,10 +20,10 @@ loop-other-preserved c q b lt conflict =
           (let here = subst (λ m. AreNextInConflict xs p m c.args.kind b) is conflict in
           elim c.match-nexts-other.branch [
             | in-Some+else-other-processor w ↦ elim w.else-other-processor.branch [
-              | else-other-processor-via-then-other-processor+else-conflicts v ↦
+              | else-other-processor-via-then-other-processor+else-neighbours_conflict v ↦
                   (let same = same_Some b w.in-Some.next (sym here.second ∙ w.in-Some.is) in
                   let told = subst (λ k. Conflict (event p c.args.kind) (event n k)) same here.conflict in
-                  false≢true (sym v.if-conflicts.false ∙ (v.conflicts.ensures p n).1 told))
+                  false≢true (sym v.if-neighbours_conflict.false ∙ (v.neighbours_conflict.ensures p n).1 told))
               | else-other-processor-via-else-other-processor v ↦ here.apart (sym v.if-other-processor.false)
             ]
             | in_default w ↦ w.in_default.not-Some b here.second

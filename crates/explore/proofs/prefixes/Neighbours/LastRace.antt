@@ -4,18 +4,18 @@ use Rattle.std.proofs.lemmas.Bool.{cases_order}
 use Rattle.std.proofs.lemmas.Option.{none-some, same_Some}
 use Rattle.std.specs.Prelude.{Some, slice_get}
 use Rattle.journal.specs.declared.event.Event.{Event}
-use Rattle.journal.specs.Events.{At}
+use Rattle.journal.specs.Events.{EventAt}
 use Rattle.journal.specs.HappensBeforeEdges.{HappensBefore}
 use Rattle.journal.specs.HappensBeforeEdges.HappensBefore.{edge, on}
 use Rattle.journal.specs.Races.{Race, RaceFree}
-use Rattle.journal.proofs.Order.CountedAndNumbered.{numbered_at_within}
-use Rattle.journal.proofs.Order.HappensBefore.{before_goes_forward, before_ends_within, before_transitive, before_longer}
+use Rattle.journal.proofs.Order.EventPlacesAndCounts.{event_place_inside}
+use Rattle.journal.proofs.Order.HappensBefore.{happens_before_goes_forward, happens_before_ends_within, happens_before_transitive, happens_before_longer}
 use Rattle.base.proofs.SlicesAndCounts.{slice_get-take}
 use Rattle.lrc_script.specs.Plan.{Plan}
-use Rattle.explore.specs.Prefixes.Beginnings.{IsFlatBeginning}
-use Rattle.explore.proofs.prefixes.Beginnings.{beginning_front}
-use Rattle.explore.proofs.prefixes.Removal.Places.{removal_lift, removal_lift_before, removal_place_lowered}
-use Rattle.explore.proofs.prefixes.Removal.Order.{removal_race_left}
+use Rattle.explore.specs.Prefixes.FlatBeginnings.{IsFlatBeginning}
+use Rattle.explore.proofs.prefixes.Beginnings.{prefix_beginning_front}
+use Rattle.explore.proofs.prefixes.Removal.Places.{removal_place_lift, removal_place_lift_before, removal_place_lowered}
+use Rattle.explore.proofs.prefixes.Removal.Order.{removal_order_race_kept}
 use Rattle.explore.proofs.prefixes.Removal.Removed.{MayBeRemoved, removed_others_behind, removed_without_race, removed}
 
 -- what holds of each list around the item x holds of a list where x stands
@@ -28,11 +28,11 @@ last_race_around x P h (y ∷ xs) (suc k) at = last_race_around x (λ ys n. P (y
 -- a front is a beginning
 pub last_race_begins_take : (s : Plan) (g : List Event) (n : ℕ) → IsFlatBeginning s g → IsFlatBeginning s (take n g)
 last_race_begins_take s g n h =
-    beginning_front s (take n g) (drop n g) (subst (IsFlatBeginning s) (sym (take-append-drop n g)) h)
+    prefix_beginning_front s (take n g) (drop n g) (subst (IsFlatBeginning s) (sym (take-append-drop n g)) h)
 
 -- and the front up to the second of two that race has their race
-pub race_take : (g : List Event) (i k : ℕ) → Race g i k → Race (take (suc k) g) i k
-race_take g i k race =
+pub last_race_of_front : (g : List Event) (i k : ℕ) → Race g i k → Race (take (suc k) g) i k
+last_race_of_front g i k race =
     let less = race.before in
     record {
       before = race.before;
@@ -43,7 +43,7 @@ race_take g i k race =
       apart = race.apart;
       conflict = race.conflict;
       unordered = λ h. race.unordered (subst (λ es. HappensBefore es i k) (take-append-drop (suc k) g)
-          (before_longer (take (suc k) g) (drop (suc k) g) h));
+          (happens_before_longer (take (suc k) g) (drop (suc k) g) h));
     }
 
 -- g's last event, at this place, races with that at i and with none between them, and no shorter beginning races
@@ -55,26 +55,26 @@ pub record RacesLast (s : Plan) (g : List Event) (i last : ℕ) : Type 0 where
   pub later : (m : ℕ) → i < m → ¬ Race g m last
 
 -- so no race ends before
-no_race_before : (s : Plan) (g : List Event) (i last m n : ℕ) → RacesLast s g i last → n < last → ¬ Race g m n
-no_race_before s g i last m n r lt race =
-    let within = numbered_at_within g n race.second race.second_at in
+last_race_none_before : (s : Plan) (g : List Event) (i last m n : ℕ) → RacesLast s g i last → n < last → ¬ Race g m n
+last_race_none_before s g i last m n r lt race =
+    let within = event_place_inside g n race.second race.second_at in
     let long = length-take-le (suc n) g (omega arith) in
-    r.shorter (take (suc n) g) (omega arith) (last_race_begins_take s g (suc n) r.begins) m n (race_take g m n race)
+    r.shorter (take (suc n) g) (omega arith) (last_race_begins_take s g (suc n) r.begins) m n (last_race_of_front g m n race)
 
 -- an event between that is reached from i, and is the last such one, could be left out
-last_race_nearest : (s : Plan) (a b : List Event) (x : Event) (i last : ℕ) → RacesLast s (a ++ x ∷ b) i last → length a < last
+last_race_no_latest_between : (s : Plan) (a b : List Event) (x : Event) (i last : ℕ) → RacesLast s (a ++ x ∷ b) i last → length a < last
     → HappensBefore (a ++ x ∷ b) i (length a)
     → ((m : ℕ) → length a < m → m < last → ¬ HappensBefore (a ++ x ∷ b) i m) → ⊥
-last_race_nearest s a b x i last r before reached none =
+last_race_no_latest_between s a b x i last r before reached none =
     r.shorter (a ++ b) (omega (arith, short)) (removed s a b x free r.begins) i low.0
-    (removal_race_left a b x (removed_others_behind a b x unreached) i low.0
-    (subst (λ m. Race (a ++ x ∷ b) m (removal_lift (length a) low.0)) (sym (removal_lift_before (length a) i forward))
+    (removal_order_race_kept a b x (removed_others_behind a b x unreached) i low.0
+    (subst (λ m. Race (a ++ x ∷ b) m (removal_place_lift (length a) low.0)) (sym (removal_place_lift_before (length a) i forward))
     (subst (Race (a ++ x ∷ b) i) (sym low.1) r.race)))
   where
     forward : i < length a
-    forward = before_goes_forward (a ++ x ∷ b) reached
+    forward = happens_before_goes_forward (a ++ x ∷ b) reached
 
-    low : (k : ℕ) × (removal_lift (length a) k ≡ last)
+    low : (k : ℕ) × (removal_place_lift (length a) k ≡ last)
     low = removal_place_lowered (length a) last (λ is. absurd (omega arith))
 
     short : length (a ++ b) ≡ last
@@ -86,10 +86,10 @@ last_race_nearest s a b x i last r before reached none =
 
     unreached : (m : ℕ) → ¬ HappensBefore (a ++ x ∷ b) (length a) m
     unreached m h =
-        let ahead = before_goes_forward (a ++ x ∷ b) h in
-        let within = before_ends_within (a ++ x ∷ b) h in
+        let ahead = happens_before_goes_forward (a ++ x ∷ b) h in
+        let within = happens_before_ends_within (a ++ x ∷ b) h in
         let long = r.long in
-        let on_to = before_transitive (a ++ x ∷ b) reached h in
+        let on_to = happens_before_transitive (a ++ x ∷ b) reached h in
         elim (cases_order m last) [
           | inl is ↦ r.race.unordered (subst (HappensBefore (a ++ x ∷ b) i) is on_to)
           | inr apart ↦ elim apart [ inl lt ↦ none m ahead lt on_to | inr lt ↦ absurd (omega arith) ]
@@ -97,12 +97,12 @@ last_race_nearest s a b x i last r before reached none =
 
     unraced : (m : ℕ) → ¬ Race (a ++ x ∷ b) (length a) m
     unraced m race =
-        let within = numbered_at_within (a ++ x ∷ b) m race.second race.second_at in
+        let within = event_place_inside (a ++ x ∷ b) m race.second race.second_at in
         let long = r.long in
         elim (cases_order m last) [
           | inl is ↦ r.later (length a) forward (subst (Race (a ++ x ∷ b) (length a)) is race)
           | inr apart ↦ elim apart [
-            | inl lt ↦ no_race_before s (a ++ x ∷ b) i last (length a) m r lt race
+            | inl lt ↦ last_race_none_before s (a ++ x ∷ b) i last (length a) m r lt race
             | inr lt ↦ absurd (omega arith)
           ]
         ]
@@ -111,7 +111,7 @@ last_race_nearest s a b x i last r before reached none =
     free = removed_without_race a b x unreached unraced
 
 -- what is reached stands in the history
-last_race_reached_at : (j : List Event) {i m : ℕ} → HappensBefore j i m → (f : Event) × At j m f
+last_race_reached_at : (j : List Event) {i m : ℕ} → HappensBefore j i m → (f : Event) × EventAt j m f
 last_race_reached_at j (edge e) = (e.to, e.to_at)
 last_race_reached_at j (on h e) = (e.to, e.to_at)
 
@@ -124,13 +124,13 @@ last_race_unreached_between s g i last r (suc c) m lt le h =
     last_race_around there.0
     (λ xs n. RacesLast s xs i last → n < last → HappensBefore xs i n
     → ((k : ℕ) → n < k → k < last → ¬ HappensBefore xs i k) → ⊥)
-    (λ a b. last_race_nearest s a b there.0 i last) g m there.1 r lt h
+    (λ a b. last_race_no_latest_between s a b there.0 i last) g m there.1 r lt h
     (λ k above below. last_race_unreached_between s g i last r c k below (omega arith))
 
 -- and nothing at all
 pub last_race_unreached : (s : Plan) (g : List Event) (i last : ℕ) → RacesLast s g i last → (m : ℕ) → ¬ HappensBefore g i m
 last_race_unreached s g i last r m h =
-    let within = before_ends_within g h in
+    let within = happens_before_ends_within g h in
     let long = r.long in
     elim (cases_order m last) [
       | inl is ↦ r.race.unordered (subst (HappensBefore g i) is h)

@@ -1,12 +1,12 @@
 use Rattle.std.proofs.Common.{ℕ, ◌≡◌, ◌<◌, ◌≤◌, ◌↔◌, inl, inr, Bool, false, IsTrue, length, refl, subst, sym, ◌∙◌, arith}
 use Rattle.std.proofs.lemmas.Bool.{cases_lt, false≢true}
 use Rattle.std.proofs.lemmas.Option.{same_Some}
-use Rattle.explore.specs.Found.{states_found}
-use Rattle.explore.specs.Machines.{Knows}
-use Rattle.explore.specs.Searched.{HasMoreToSearch, IsSearchedAt}
-use Rattle.explore.specs.UntilSearched.{SearchedWithoutWords}
-use Rattle.explore.proofs.Machines.{machine_none_of}
-use Rattle.explore.proofs.UntilSearched.{until_none_next}
+use Rattle.explore.specs.FoundStates.{found_states}
+use Rattle.explore.specs.Machines.{MachineKnows}
+use Rattle.explore.specs.FlatSearch.{HasMoreToFlatSearch, IsFlatSearchedAt}
+use Rattle.explore.specs.UntilSearched.{SearchedUntilWithoutEnding}
+use Rattle.explore.proofs.MachineSteps.{machine_step_none_of}
+use Rattle.explore.proofs.UntilSearched.{until_search_none_next}
 use Rattle.explore.proofs.until.look_until.Goals as goal
 
 -- the states are no more than these
@@ -23,14 +23,14 @@ loop-place-init g c = record {
   telling = λ s lawful searched. refl;
 }
 
-pub returns-then-is_past-clause-looked : goal.returns-then-is_past-clause-looked
-returns-then-is_past-clause-looked g c = λ s lawful searched. record {
+pub returns-then-is_search_past-clause-looked : goal.returns-then-is_search_past-clause-looked
+returns-then-is_search_past-clause-looked g c = λ s lawful searched. record {
   found = (c.loop-place.invariant.searched s lawful searched).searched.found;
-  end = λ few. absurd (let over = c.is_past.ensures.0 c.if-is_past.true in let is = c.len-states.ensures.count in omega arith);
+  end = λ few. absurd (let over = c.is_search_past.ensures.0 c.if-is_search_past.true in let is = c.len-states.ensures.count in omega arith);
 }
 
-pub returns-then-is_past-clause-few : goal.returns-then-is_past-clause-few
-returns-then-is_past-clause-few g c = c.loop-place.invariant.few
+pub returns-then-is_search_past-clause-few : goal.returns-then-is_search_past-clause-few
+returns-then-is_search_past-clause-few g c = c.loop-place.invariant.few
 
 pub returns-then-place-states-clause-looked : goal.returns-then-place-states-clause-looked
 returns-then-place-states-clause-looked g c = λ s lawful searched.
@@ -38,22 +38,22 @@ returns-then-place-states-clause-looked g c = λ s lawful searched.
     record {
       found = old.searched.found;
       end = λ few.
-          subst (SearchedWithoutWords s c.loop-place.search c.args.steps.now c.args.words.now)
+          subst (SearchedUntilWithoutEnding s c.loop-place.search c.args.steps.now c.args.words.now)
           (c.if-place-states.true ∙ c.len-states.ensures.count) old;
     }
 
 pub returns-then-place-states-clause-few : goal.returns-then-place-states-clause-few
 returns-then-place-states-clause-few g c = c.loop-place.invariant.few
 
-pub is_ending-requires : goal.is_ending-requires
-is_ending-requires g c =
+pub has_until_words-requires : goal.has_until_words-requires
+has_until_words-requires g c =
     let s = c.requires.searched.0 in
     let old = c.loop-place.invariant.searched s c.requires.searched.1 c.requires.searched.2 in
     let h = old.searched.found.known c.loop-place.place c.at.result.now c.at.ensures in
     record { plan = s; lawful = c.requires.searched.1; events = h.0; knows = h.1 }
 
-pub returns-then-is_ending-clause-looked : goal.returns-then-is_ending-clause-looked
-returns-then-is_ending-clause-looked g c = λ s lawful searched.
+pub returns-then-has_until_words-clause-looked : goal.returns-then-has_until_words-clause-looked
+returns-then-has_until_words-clause-looked g c = λ s lawful searched.
     let old = c.loop-place.invariant.searched s lawful searched in
     let within = old.searched.within in
     let is = c.len-states.ensures.count in
@@ -63,13 +63,13 @@ returns-then-is_ending-clause-looked g c = λ s lawful searched.
       end = record {
         within = omega (arith, within, is, isnt);
         ends = λ m h at knows.
-            let mine = subst (Knows s h) (same_Some m c.at.result.now (sym at ∙ c.at.ensures)) knows in
-            (c.is_ending.ensures s h lawful mine).0 c.if-is_ending.true;
+            let mine = subst (MachineKnows s h) (same_Some m c.at.result.now (sym at ∙ c.at.ensures)) knows in
+            (c.has_until_words.ensures s h lawful mine).0 c.if-has_until_words.true;
       };
     }
 
-pub returns-then-is_ending-clause-few : goal.returns-then-is_ending-clause-few
-returns-then-is_ending-clause-few g c = c.loop-place.invariant.few
+pub returns-then-has_until_words-clause-few : goal.returns-then-has_until_words-clause-few
+returns-then-has_until_words-clause-few g c = c.loop-place.invariant.few
 
 pub look_at-requires-clause-unvisited : goal.look_at-requires-clause-unvisited
 look_at-requires-clause-unvisited g c =
@@ -78,7 +78,7 @@ look_at-requires-clause-unvisited g c =
     let within = old.searched.within in
     let is = c.len-states.ensures.count in
     let isnt = c.if-place-states.false in
-    let lt : c.loop-place.place < length (states_found c.loop-place.search.found) = omega (arith, within, is, isnt) in
+    let lt : c.loop-place.place < length (found_states c.loop-place.search.found) = omega (arith, within, is, isnt) in
     (s, record { lawful = c.requires.searched.1; searched = old.searched; more = lt })
 
 pub loop-place-preserved : goal.loop-place-preserved
@@ -88,24 +88,24 @@ loop-place-preserved g c = record {
       let within = old.searched.within in
       let is = c.len-states.ensures.count in
       let isnt = c.if-place-states.false in
-      let lt : c.loop-place.place < length (states_found c.loop-place.search.found) = omega (arith, within, is, isnt) in
-      let more : HasMoreToSearch s c.loop-place.search c.args.steps.now c.loop-place.place = record { lawful = lawful; searched = old.searched; more = lt } in
+      let lt : c.loop-place.place < length (found_states c.loop-place.search.found) = omega (arith, within, is, isnt) in
+      let more : HasMoreToFlatSearch s c.loop-place.search c.args.steps.now c.loop-place.place = record { lawful = lawful; searched = old.searched; more = lt } in
       record {
-        searched = subst (λ o. IsSearchedAt s c.look_at.new.self c.args.steps.now c.loop-place.place o)
-            (machine_none_of c.in_ok-neighbours.field-0 c.in_default.not-Some) (c.in_ok-neighbours.ensures.looked s more);
-        none = until_none_next s c.args.words.now (states_found c.loop-place.search.found) (states_found c.look_at.new.self.found)
+        searched = subst (λ o. IsFlatSearchedAt s c.look_at.new.self c.args.steps.now c.loop-place.place o)
+            (machine_step_none_of c.in_ok-neighbours.field-0 c.in_default.not-Some) (c.in_ok-neighbours.ensures.looked s more);
+        none = until_search_none_next s c.args.words.now (found_states c.loop-place.search.found) (found_states c.look_at.new.self.found)
             c.loop-place.place (c.in_ok-neighbours.ensures.found s more).0 lt
             (λ m h at knows ends.
-            let mine = subst (Knows s h) (same_Some m c.at.result.now (sym at ∙ c.at.ensures)) knows in
-            false≢true (sym c.if-is_ending.false ∙ (c.is_ending.ensures s h lawful mine).1 ends)) old.none;
+            let mine = subst (MachineKnows s h) (same_Some m c.at.result.now (sym at ∙ c.at.ensures)) knows in
+            false≢true (sym c.if-has_until_words.false ∙ (c.has_until_words.ensures s h lawful mine).1 ends)) old.none;
       };
   few = λ s lawful searched one.
       let old = c.loop-place.invariant.searched s lawful searched in
       let within = old.searched.within in
       let is = c.len-states.ensures.count in
       let isnt = c.if-place-states.false in
-      let lt : c.loop-place.place < length (states_found c.loop-place.search.found) = omega (arith, within, is, isnt) in
-      let under = not_past c.args.most c.len-states.result c.is_past.result c.is_past.ensures c.if-is_past.false in
+      let lt : c.loop-place.place < length (found_states c.loop-place.search.found) = omega (arith, within, is, isnt) in
+      let under = not_past c.args.most c.len-states.result c.is_search_past.result c.is_search_past.ensures c.if-is_search_past.false in
       let more = (c.in_ok-neighbours.ensures.found s (record { lawful = lawful; searched = old.searched; more = lt })).1 in
       omega (arith, more, under, is);
   telling = λ s lawful searched.
@@ -113,7 +113,7 @@ loop-place-preserved g c = record {
       let within = old.searched.within in
       let is = c.len-states.ensures.count in
       let isnt = c.if-place-states.false in
-      let lt : c.loop-place.place < length (states_found c.loop-place.search.found) = omega (arith, within, is, isnt) in
+      let lt : c.loop-place.place < length (found_states c.loop-place.search.found) = omega (arith, within, is, isnt) in
       (c.in_ok-neighbours.ensures.found s (record { lawful = lawful; searched = old.searched; more = lt })).2
       ∙ c.loop-place.invariant.telling s lawful searched;
 }
@@ -124,9 +124,9 @@ returns-in-Some-clause-looked g c = λ s lawful searched.
     let within = old.searched.within in
     let is = c.len-states.ensures.count in
     let isnt = c.if-place-states.false in
-    let lt : c.loop-place.place < length (states_found c.loop-place.search.found) = omega (arith, within, is, isnt) in
+    let lt : c.loop-place.place < length (found_states c.loop-place.search.found) = omega (arith, within, is, isnt) in
     let both =
-    subst (λ o. IsSearchedAt s c.look_at.new.self c.args.steps.now c.loop-place.place o) c.in-Some.is
+    subst (λ o. IsFlatSearchedAt s c.look_at.new.self c.args.steps.now c.loop-place.place o) c.in-Some.is
     (c.in_ok-neighbours.ensures.looked s (record { lawful = lawful; searched = old.searched; more = lt })) in
     record { found = both.0.found; end = both.1 }
 
@@ -136,8 +136,8 @@ returns-in-Some-clause-few g c = λ s lawful searched one.
     let within = old.searched.within in
     let is = c.len-states.ensures.count in
     let isnt = c.if-place-states.false in
-    let lt : c.loop-place.place < length (states_found c.loop-place.search.found) = omega (arith, within, is, isnt) in
-    let under = not_past c.args.most c.len-states.result c.is_past.result c.is_past.ensures c.if-is_past.false in
+    let lt : c.loop-place.place < length (found_states c.loop-place.search.found) = omega (arith, within, is, isnt) in
+    let under = not_past c.args.most c.len-states.result c.is_search_past.result c.is_search_past.ensures c.if-is_search_past.false in
     let more = (c.in_ok-neighbours.ensures.found s (record { lawful = lawful; searched = old.searched; more = lt })).1 in
     omega (arith, more, under, is)
 
@@ -149,18 +149,18 @@ returns-clause-looked g c = λ s lawful searched.
       end = λ few.
           let within = old.searched.within in
           let over = c.loop-place-test.false in
-          let end : c.loop-place.place ≡ length (states_found c.loop-place.search.found) = omega arith in
-          subst (SearchedWithoutWords s c.loop-place.search c.args.steps.now c.args.words.now) end old;
+          let end : c.loop-place.place ≡ length (found_states c.loop-place.search.found) = omega arith in
+          subst (SearchedUntilWithoutEnding s c.loop-place.search c.args.steps.now c.args.words.now) end old;
     }
 
-pub returns-then-is_past-clause-telling : goal.returns-then-is_past-clause-telling
-returns-then-is_past-clause-telling g c = c.loop-place.invariant.telling
+pub returns-then-is_search_past-clause-telling : goal.returns-then-is_search_past-clause-telling
+returns-then-is_search_past-clause-telling g c = c.loop-place.invariant.telling
 
 pub returns-then-place-states-clause-telling : goal.returns-then-place-states-clause-telling
 returns-then-place-states-clause-telling g c = c.loop-place.invariant.telling
 
-pub returns-then-is_ending-clause-telling : goal.returns-then-is_ending-clause-telling
-returns-then-is_ending-clause-telling g c = c.loop-place.invariant.telling
+pub returns-then-has_until_words-clause-telling : goal.returns-then-has_until_words-clause-telling
+returns-then-has_until_words-clause-telling g c = c.loop-place.invariant.telling
 
 pub returns-in-Some-clause-telling : goal.returns-in-Some-clause-telling
 returns-in-Some-clause-telling g c = λ s lawful searched.
@@ -168,7 +168,7 @@ returns-in-Some-clause-telling g c = λ s lawful searched.
     let within = old.searched.within in
     let is = c.len-states.ensures.count in
     let isnt = c.if-place-states.false in
-    let lt : c.loop-place.place < length (states_found c.loop-place.search.found) = omega (arith, within, is, isnt) in
+    let lt : c.loop-place.place < length (found_states c.loop-place.search.found) = omega (arith, within, is, isnt) in
     (c.in_ok-neighbours.ensures.found s (record { lawful = lawful; searched = old.searched; more = lt })).2
     ∙ c.loop-place.invariant.telling s lawful searched
 

@@ -1,17 +1,17 @@
 use Rattle.std.proofs.Common.{arith, ◌∙◌}
 use Rattle.lrc_script.specs.Plan.{plan_of}
-use Rattle.explore.proofs.UntilSearched.{until_ended, until_open_only}
+use Rattle.explore.proofs.UntilSearched.{until_search_ended, until_search_open_only}
 use Rattle.explore.proofs.until.until_by_steps.Goals as goal
 
 pub look_until-requires-clause-searched : goal.look_until-requires-clause-searched
 look_until-requires-clause-searched g c =
     (plan_of c.args.script.now, c.requires, c.in_ok-search.ensures.searched c.args.steps.now)
 
-pub showing_of-requires-clause-ended : goal.showing_of-requires-clause-ended
-showing_of-requires-clause-ended g c =
+pub until_showing_of-requires-clause-ended : goal.until_showing_of-requires-clause-ended
+until_showing_of-requires-clause-ended g c =
     let s = plan_of c.args.script.now in (
       c.args.words.now,
-      until_ended s c.look_until.new.search c.args.steps.now c.args.words.now c.states_to_look_at-most.result c.len-states.result
+      until_search_ended s c.look_until.new.search c.args.steps.now c.args.words.now c.state_room_at_most-most.result c.len-states.result
           c.in_ok-met.met c.len-states.ensures.count
           (c.in_ok-met.ensures.looked s c.requires (c.in_ok-search.ensures.searched c.args.steps.now)),
     )
@@ -21,7 +21,7 @@ returns g c =
     let s = plan_of c.args.script.now in
     let begun = c.in_ok-search.ensures.searched c.args.steps.now in
     let looked = c.in_ok-met.ensures.looked s c.requires begun in
-    let most = c.states_to_look_at-most.ensures in
+    let most = c.state_room_at_most-most.ensures in
     let count = c.len-states.ensures.count in
     let telling = c.in_ok-met.ensures.telling s c.requires begun ∙ c.in_ok-search.ensures.telling in
     record {
@@ -30,10 +30,10 @@ returns g c =
           let found = c.in_ok-met.ensures.few s c.requires begun c.in_ok-search.ensures.few in
           omega (arith, found, count, most));
       showing = c.in_ok-showing.ensures.showing c.args.words.now c.args.detail
-          (until_ended s c.look_until.new.search c.args.steps.now c.args.words.now c.states_to_look_at-most.result c.len-states.result
+          (until_search_ended s c.look_until.new.search c.args.steps.now c.args.words.now c.state_room_at_most-most.result c.len-states.result
           c.in_ok-met.met count looked) telling;
       given_up = λ opens.
-          let more = until_open_only c.states_to_look_at-most.result c.len-states.result c.in_ok-met.met c.in_ok-showing.showing
+          let more = until_search_open_only c.state_room_at_most-most.result c.len-states.result c.in_ok-met.met c.in_ok-showing.showing
           c.in_ok-showing.ensures.opens opens in
           omega (arith, more, most);
     }

@@ -1,5 +1,5 @@
-use Rattle.judge.proofs.Refusing.{lax_law}
+use Rattle.judge.proofs.Refusing.{refusing_lax_law}
 use Rattle.judge.proofs.laws.lax_law.Goals as goal
 
 pub returns : goal.returns
-returns c = lax_law
+returns c = refusing_lax_law

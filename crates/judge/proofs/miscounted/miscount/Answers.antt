@@ -4,24 +4,24 @@ use Rattle.journal.specs.declared.event.Event.{Event}
 use Rattle.journal.specs.declared.event.Kind.{Kind}
 use Rattle.journal.specs.declared.event.Kind.TheVariants.{Fetch}
 use Rattle.journal.specs.Sizes.{Sizes}
-use Rattle.journal.specs.PageImages.{GapCounts, StoredInGapOfImage}
-use Rattle.judge.specs.declared.gaps.CountedGap.{CountedGap}
-use Rattle.judge.specs.Sizes.{sizes_of}
-use Rattle.judge.proofs.Counts.{count_unique}
+use Rattle.journal.specs.PageImages.{GapCounts, StoredInGapOfPageImage}
+use Rattle.judge.specs.declared.gaps.GapAmounts.{GapAmounts}
+use Rattle.judge.specs.JudgedSizes.{judged_sizes_of}
+use Rattle.judge.proofs.ValueCounts.{value_count_unique}
 use Rattle.judge.proofs.GapParts.{GapPartRecords, GapPartWrites}
 use Rattle.judge.proofs.miscounted.miscount.Goals as goal
 
-abbrev made : ℕ → ℕ → ℕ → CountedGap
+abbrev made : ℕ → ℕ → ℕ → GapAmounts
 made w r d = record { writers = w; records = r; words = d }
 
 -- a gap has one of each count
-unique : (s : Sizes) (j : List Event) (p n w r d : ℕ) (due : CountedGap)
+unique : (s : Sizes) (j : List Event) (p n w r d : ℕ) (due : GapAmounts)
     → GapCounts s j p n due.writers due.records due.words → GapCounts s j p n w r d
     → due ≡ record { writers = w; records = r; words = d }
 unique s j p n w r d due is other =
-    let first = count_unique (GapPartWrites s j p n) due.writers w is.writers_are other.writers_are in
-    let second = count_unique (GapPartRecords s j p n) due.records r is.records_are other.records_are in
-    let third = count_unique (StoredInGapOfImage s j p n) due.words d is.words_are other.words_are in
+    let first = value_count_unique (GapPartWrites s j p n) due.writers w is.writers_are other.writers_are in
+    let second = value_count_unique (GapPartRecords s j p n) due.records r is.records_are other.records_are in
+    let third = value_count_unique (StoredInGapOfPageImage s j p n) due.words d is.words_are other.words_are in
     ap (λ x. made x due.records due.words) first ∙ ap (λ x. made w x due.words) second ∙ ap (made w r) third
 
 -- a fetch that counts what is due counts its gap
@@ -36,18 +36,18 @@ counts s j p n w r d k is due m w' r' d' same =
     subst (λ x. GapCounts s j p x w' r' d') b (subst (λ x. GapCounts s j p n x r' d') a
     (subst (λ x. GapCounts s j p n w x d') e (subst (λ x. GapCounts s j p n w r x) f due)))
 
-pub returns-then-is_count-clause-verdict : goal.returns-then-is_count-clause-verdict
-returns-then-is_count-clause-verdict c = λ j tells.
-    let s = sizes_of c.args.gaps.now.sizes in
+pub returns-then-is_not_miscounted-clause-verdict : goal.returns-then-is_not_miscounted-clause-verdict
+returns-then-is_not_miscounted-clause-verdict c = λ j tells.
+    let s = judged_sizes_of c.args.gaps.now.sizes in
     let f = c.in-Fetch in
     let p = c.args.event.processor in
-    let same = c.if-is_count.ensures.0 refl in
-    let P : CountedGap → Type 0 = λ x. GapCounts s j p f.page x.writers x.records x.words in
+    let same = c.if-is_not_miscounted.ensures.0 refl in
+    let P : GapAmounts → Type 0 = λ x. GapCounts s j p f.page x.writers x.records x.words in
     counts s j p f.page f.writers f.records f.words c.args.event.kind f.is (subst P same (c.due-due.ensures j tells))
 
-pub returns-else-is_count-clause-verdict : goal.returns-else-is_count-clause-verdict
-returns-else-is_count-clause-verdict c = λ j tells.
-    let s = sizes_of c.args.gaps.now.sizes in
+pub returns-else-is_not_miscounted-clause-verdict : goal.returns-else-is_not_miscounted-clause-verdict
+returns-else-is_not_miscounted-clause-verdict c = λ j tells.
+    let s = judged_sizes_of c.args.gaps.now.sizes in
     let f = c.in-Fetch in
     let p = c.args.event.processor in
     let due = c.due-due.ensures j tells in
@@ -57,7 +57,7 @@ returns-else-is_count-clause-verdict c = λ j tells.
       records = f.records;
       words = f.words;
       fetch = f.is;
-      wrong = λ counted. false≢true (c.if-is_count.ensures.1
+      wrong = λ counted. false≢true (c.if-is_not_miscounted.ensures.1
           (unique s j p f.page f.writers f.records f.words c.due-due.result due counted));
       due = due;
     }

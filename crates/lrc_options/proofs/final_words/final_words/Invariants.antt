@@ -1,5 +1,5 @@
 use Rattle.std.proofs.Common.{◌≡◌, ◌+◌, ◌++◌, ℕ, List, Option, None, Some, Bor, length}
-use Rattle.lrc_script.specs.LineReading.{parts_left_of_line}
+use Rattle.lrc_script.specs.LineReading.{parts_behind_in_read_line}
 use Rattle.lrc_options.specs.FinalWords.{AreFinalWordsWritten}
 use Rattle.lrc_options.proofs.final_words.final_words.Given as goal
 
@@ -7,7 +7,7 @@ use Rattle.lrc_options.proofs.final_words.final_words.Given as goal
 abbrev pub invariant-loop-rest : goal.invariant-loop-rest
 invariant-loop-rest l =
     (before : List (List ℕ)) × AreFinalWordsWritten before l.words.items
-    × (before ++ parts_left_of_line 44 l.rest ≡ parts_left_of_line 44 l.initial.rest)
+    × (before ++ parts_behind_in_read_line 44 l.rest ≡ parts_behind_in_read_line 44 l.initial.rest)
 
 -- how many bytes are left, and one if some part is
 abbrev pub left : Option (Bor (List ℕ)) → ℕ

@@ -1,6 +1,6 @@
 use Rattle.std.proofs.Common.{rules, ◌≡◌, ◌++◌, ◌∷◌, [], get_or, arith}
 use Rattle.std.proofs.lemmas.Grind.{common_steps}
-use Rattle.lrc_run.proofs.SeesAndMakes.{makes_loads_more}
+use Rattle.lrc_run.proofs.MoreCalls.{makes_more_calls_loads_more}
 use Rattle.lrc_run.proofs.shown.show.Goals as goal
 
 pub loop-address-preserved : goal.loop-address-preserved
@@ -9,7 +9,7 @@ loop-address-preserved g c =
     let more : c.push.new.self.items ≡ c.loop-address.words.items ++ (a, c.in_ok-word.word) ∷ [] =
     first_of (search rules, grind (arith, common_steps)) in
     record {
-      loads = makes_loads_more c.args.processor.now c.loop-address.processor c.load.new.processor c.loop-address.words.items
+      loads = makes_more_calls_loads_more c.args.processor.now c.loop-address.processor c.load.new.processor c.loop-address.words.items
           c.push.new.self.items a c.in_ok-word.word more c.loop-address.invariant.loads c.in_ok-word.ensures;
       addresses = first_of (search rules, grind (arith, common_steps));
     }

@@ -4,8 +4,8 @@ use Rattle.std.specs.Prelude.{All}
 use Rattle.lrc_script.specs.Plan.{plan_of}
 use Rattle.conformance.specs.declared.progress.TurnProgress.{TurnProgress}
 use Rattle.conformance.specs.declared.progress.TurnProgress.TheVariants.{Passed}
-use Rattle.lrc_run.proofs.Turning.{before_turn_rounds, next_turn_round, turning_some_of, ways_turned}
-use Rattle.lrc_run.proofs.Stepping.{stepping_own_at}
+use Rattle.lrc_run.proofs.TurnWays.{turn_way_before_rounds, turn_way_next_round, turn_way_some_of, turn_ways_after_turns}
+use Rattle.lrc_run.proofs.StepsAfterTurns.{step_after_turn_own_at}
 use Rattle.lrc_run.proofs.steps.go_round.Goals as goal
 
 pub loop-init : goal.loop-init
@@ -13,7 +13,7 @@ loop-init g c =
     let ms = c.args.processors.now.items in
     let many : c.len.result ≡ length ms = omega (arith, c.len.ensures, c.args.processors.now.ok) in
     record {
-      between = before_turn_rounds c.args.cluster.now (plan_of c.args.script.now) c.args.seed ms c.args.all.now.items _
+      between = turn_way_before_rounds c.args.cluster.now (plan_of c.args.script.now) c.args.seed ms c.args.all.now.items _
           c.requires.way c.generator_of-generator.ensures;
       long = omega (arith, c.in-Ok.ensures, many, c.requires.way.many);
     }
@@ -29,19 +29,19 @@ returns-then-have_passed-clause-whole g c =
 pub is_stuck-requires-clause-own : goal.is_stuck-requires-clause-own
 is_stuck-requires-clause-own g c κs within = λ m here.
     let s = plan_of c.args.script.now in
-    let way = ways_turned c.args.cluster.now s.sections c.deref.result.now c.loop.processors.items
+    let way = turn_ways_after_turns c.args.cluster.now s.sections c.deref.result.now c.loop.processors.items
     c.round.new.processors.items c.loop.all.items c.round.new.all.items c.loop.invariant.between.gone.way
     c.in_ok-moved.ensures.turns in
-    stepping_own_at 0 m c.requires.lawful
+    step_after_turn_own_at 0 m c.requires.lawful
     c.requires.sizes way here
 
 pub is_stuck-requires-clause-some : goal.is_stuck-requires-clause-some
 is_stuck-requires-clause-some g c κs within =
     let s = plan_of c.args.script.now in
-    let way = ways_turned c.args.cluster.now s.sections c.deref.result.now c.loop.processors.items
+    let way = turn_ways_after_turns c.args.cluster.now s.sections c.deref.result.now c.loop.processors.items
     c.round.new.processors.items c.loop.all.items c.round.new.all.items c.loop.invariant.between.gone.way
     c.in_ok-moved.ensures.turns in
-    let some = turning_some_of s c.args.cluster.now c.round.new.processors.items c.round.new.all.items c.requires.lawful
+    let some = turn_way_some_of s c.args.cluster.now c.round.new.processors.items c.round.new.all.items c.requires.lawful
     c.requires.sizes way in
     omega (arith, some, c.round.new.processors.ok)
 
@@ -58,7 +58,7 @@ returns-then-branch-clause-gone g c =
     let fits : c.loop.list.len ≡ length order = omega (arith, c.draw.ensures.below.1, c.deref_mut.ensures.len) in
     let drawn_is : list ≡ order =
     c.deref.ensures.value ∙ ap (λ k. take k (order ++ rest)) fits ∙ take-append_seam order rest in
-    let next = next_turn_round list
+    let next = turn_way_next_round list
     c.requires.sizes many c.loop.invariant.between (drawn_is ∙ c.draw.ensures.list) c.draw.ensures.state
     c.in_ok-moved.ensures.turns c.is_stuck.ensures.seen in
     next.gone
@@ -81,7 +81,7 @@ loop-preserved g c =
     let fits : c.loop.list.len ≡ length order = omega (arith, c.draw.ensures.below.1, c.deref_mut.ensures.len) in
     let drawn_is : list ≡ order =
     c.deref.ensures.value ∙ ap (λ k. take k (order ++ rest)) fits ∙ take-append_seam order rest in
-    let next = next_turn_round list
+    let next = turn_way_next_round list
     c.requires.sizes many c.loop.invariant.between (drawn_is ∙ c.draw.ensures.list) c.draw.ensures.state
     c.in_ok-moved.ensures.turns c.is_stuck.ensures.seen in
     record { between = next; long = search rules }

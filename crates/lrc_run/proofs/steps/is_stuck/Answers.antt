@@ -1,11 +1,11 @@
 use Rattle.std.proofs.Common.{◌<◌, length, refl, arith}
 use Rattle.std.proofs.lemmas.Option.{slice_get_read}
-use Rattle.lrc_run.proofs.Turning.{turning_seen_same}
-use Rattle.lrc_run.proofs.Waiting.{waiting_seen_at, waits_on}
+use Rattle.lrc_run.proofs.TurnWays.{turn_way_seen_same}
+use Rattle.lrc_run.proofs.RunWaits.{run_wait_seen_at, run_wait_goes_on}
 use Rattle.lrc_run.proofs.steps.is_stuck.Goals as goal
 
 pub returns-then-moved-clause-seen : goal.returns-then-moved-clause-seen
-returns-then-moved-clause-seen g c = turning_seen_same c.args.processors.now.items
+returns-then-moved-clause-seen g c = turn_way_seen_same c.args.processors.now.items
 
 pub wait-requires-clause-own : goal.wait-requires-clause-own
 wait-requires-clause-own g c κs within =
@@ -19,8 +19,8 @@ returns-in-Ok-Stuck-clause-seen g c =
     let ms = c.args.processors.now.items in
     let m = c.index_mut.result.now in
     let some : 0 < length ms = omega (arith, c.requires.some, c.args.processors.now.ok) in
-    waiting_seen_at ms m c.wait.new.processor (slice_get_read ms (length ms) 0 m refl some c.index_mut.ensures.value)
-    (waits_on m c.wait.new.processor c.wait.result c.wait.ensures)
+    run_wait_seen_at ms m c.wait.new.processor (slice_get_read ms (length ms) 0 m refl some c.index_mut.ensures.value)
+    (run_wait_goes_on m c.wait.new.processor c.wait.result c.wait.ensures)
 
 pub returns-in-Ok : goal.returns-in-Ok
 returns-in-Ok g c =
@@ -28,8 +28,8 @@ returns-in-Ok g c =
     let m = c.index_mut.result.now in
     let some : 0 < length ms = omega (arith, c.requires.some, c.args.processors.now.ok) in
     record {
-      seen = waiting_seen_at ms m c.wait.new.processor (slice_get_read ms (length ms) 0 m refl some c.index_mut.ensures.value)
-          (waits_on m c.wait.new.processor c.wait.result c.wait.ensures);
+      seen = run_wait_seen_at ms m c.wait.new.processor (slice_get_read ms (length ms) 0 m refl some c.index_mut.ensures.value)
+          (run_wait_goes_on m c.wait.new.processor c.wait.result c.wait.ensures);
       stuck = λ no. absurd (cc);
       err = tt;
     }
@@ -39,5 +39,5 @@ returns-in-Err-clause-seen g c =
     let ms = c.args.processors.now.items in
     let m = c.index_mut.result.now in
     let some : 0 < length ms = omega (arith, c.requires.some, c.args.processors.now.ok) in
-    waiting_seen_at ms m c.wait.new.processor (slice_get_read ms (length ms) 0 m refl some c.index_mut.ensures.value)
-    (waits_on m c.wait.new.processor c.wait.result c.wait.ensures)
+    run_wait_seen_at ms m c.wait.new.processor (slice_get_read ms (length ms) 0 m refl some c.index_mut.ensures.value)
+    (run_wait_goes_on m c.wait.new.processor c.wait.result c.wait.ensures)

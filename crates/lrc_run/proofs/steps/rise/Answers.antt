@@ -2,7 +2,7 @@ use Rattle.std.proofs.Common.{suc, zero-add, ◌≡◌, ◌+◌, ◌<◌, [], �
 use Rattle.std.specs.List.{range_with_len}
 use Rattle.std.proofs.Math.Seq.{take-length}
 use Rattle.std.proofs.lemmas.List.{length-set, take_more_set}
-use Rattle.lrc_run.proofs.Exchanging.{exchanging_rising_more}
+use Rattle.lrc_run.proofs.OrderExchanges.{order_exchange_rising_more}
 use Rattle.lrc_run.proofs.steps.rise.Goals as goal
 
 pub loop-place-preserved : goal.loop-place-preserved
@@ -15,7 +15,7 @@ loop-place-preserved c =
     record {
       long = length-set xs k k ∙ was.long;
       front = take_more_set xs k k inside ∙ ap (λ ys. ys ++ k ∷ []) was.front ∙ sym (ap (range_with_len 0) on
-          ∙ exchanging_rising_more 0 k ∙ ap (λ x. range_with_len 0 k ++ x ∷ []) (zero-add k));
+          ∙ order_exchange_rising_more 0 k ∙ ap (λ x. range_with_len 0 k ++ x ∷ []) (zero-add k));
     }
 
 pub returns : goal.returns

@@ -1,9 +1,9 @@
 use Rattle.std.proofs.Common.{◌≡◌}
-use Rattle.lrc_run.specs.MakesCalls.{BeginsCall}
+use Rattle.lrc_run.specs.RunCalls.{IsRunCallBegun}
 use Rattle.lrc_run.proofs.walk.perform.Given as goal
 
 abbrev pub invariant-loop : goal.invariant-loop
 invariant-loop g l = record {
   own : l.processor.lock ≡ l.cluster.lock;
-  begun : BeginsCall l.fn.processor l.processor l.fn.instruction;
+  begun : IsRunCallBegun l.fn.processor l.processor l.fn.instruction;
 }

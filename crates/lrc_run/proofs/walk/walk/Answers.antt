@@ -1,10 +1,10 @@
 use Rattle.std.proofs.Common.{◌≡◌, add-one, ap, subst, take, length, List, ◌∙◌, arith}
 use Rattle.std.proofs.Math.Seq.{take-length}
 use Rattle.std.proofs.lemmas.Option.{slice_get-get_or}
-use Rattle.base.proofs.SlicesAndCounts.{take-suc_at}
+use Rattle.base.proofs.SlicesAndCounts.{slice_take-suc_at}
 use Rattle.lrc_script.specs.declared.script.Instruction.{Instruction}
-use Rattle.lrc_run.specs.MakesCalls.{MakesAll}
-use Rattle.lrc_run.proofs.SeesAndMakes.{makes_all_more, makes_walk_where}
+use Rattle.lrc_run.specs.RunCalls.{HasRunCallsOfAll}
+use Rattle.lrc_run.proofs.MoreCalls.{makes_more_calls_all_more, makes_more_calls_walk_where}
 use Rattle.lrc_run.proofs.walk.walk.Goals as goal
 
 pub loop-index-preserved : goal.loop-index-preserved
@@ -12,8 +12,8 @@ loop-index-preserved g c =
     let at = slice_get-get_or c.args.section.now c.loop-index.index _ c.loop-index-test.true in
     record {
       own = c.perform.ensures.same.lock ∙ c.loop-index.invariant.own;
-      all = rw (add-one, take-suc_at c.args.section.now c.loop-index.index _ at)
-          (makes_all_more c.args.processor.now c.loop-index.processor c.perform.new.processor
+      all = rw (add-one, slice_take-suc_at c.args.section.now c.loop-index.index _ at)
+          (makes_more_calls_all_more c.args.processor.now c.loop-index.processor c.perform.new.processor
           _ _ c.loop-index.invariant.all c.in_ok-perform.ensures.ok);
     }
 
@@ -25,5 +25,5 @@ returns-clause-ok g c =
     let end = c.loop-index.auto.index-end in
     let last : c.loop-index.index ≡ length section = omega (arith, c.loop-index-test.false) in
     let whole = ap (λ n. take n section) last ∙ take-length section in
-    let all = subst (λ (is : List Instruction). MakesAll start m is) whole c.loop-index.invariant.all in
-    makes_walk_where start m c.perform-2.new.processor section c.perform-2.result all c.perform-2.ensures.ok
+    let all = subst (λ (is : List Instruction). HasRunCallsOfAll start m is) whole c.loop-index.invariant.all in
+    makes_more_calls_walk_where start m c.perform-2.new.processor section c.perform-2.result all c.perform-2.ensures.ok

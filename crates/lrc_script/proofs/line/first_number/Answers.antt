@@ -1,7 +1,7 @@
 use Rattle.std.proofs.Common.{sym, ◌∙◌, arith}
 use Rattle.std.proofs.lemmas.List.{take_rest}
 use Rattle.lrc_script.proofs.Reading.Digits.{digits_more, digits_sum_more}
-use Rattle.lrc_script.proofs.Reading.FirstNumbers.{first_number_found, first_number_last, first_number_letter, first_number_great, great_mul, great_add}
+use Rattle.lrc_script.proofs.Reading.FirstNumbers.{first_number_found, first_number_last, first_number_letter, first_number_great, first_number_great_mul, first_number_great_add}
 use Rattle.lrc_script.proofs.line.first_number.Goals as goal
 
 pub returns-then-byte-eq32 : goal.returns-then-byte-eq32
@@ -24,14 +24,14 @@ returns-in_err-checked_mul c =
     let digit = sym c.is_ascii_digit.ensures.value ∙ c.if-not-is_ascii_digit.false in
     rw c.from_residual.ensures
     (first_number_great c.args.line.now c.loop-at.at c.loop-at-test.true c.loop-at.invariant.digits digit (λ w at.
-    great_mul c.args.line.now w c.loop-at.at c.loop-at.sum at c.loop-at.invariant.sum c.in_err-checked_mul.ensures))
+    first_number_great_mul c.args.line.now w c.loop-at.at c.loop-at.sum at c.loop-at.invariant.sum c.in_err-checked_mul.ensures))
 
 pub returns-in_err-sum : goal.returns-in_err-sum
 returns-in_err-sum c =
     let digit = sym c.is_ascii_digit.ensures.value ∙ c.if-not-is_ascii_digit.false in
     rw c.from_residual-in_err-sum.ensures
     (first_number_great c.args.line.now c.loop-at.at c.loop-at-test.true c.loop-at.invariant.digits digit (λ w at.
-    great_add c.args.line.now w c.loop-at.at c.loop-at.sum at c.loop-at.invariant.sum (λ small.
+    first_number_great_add c.args.line.now w c.loop-at.at c.loop-at.sum at c.loop-at.invariant.sum (λ small.
     c.in_err-sum.ensures (omega (arith, c.in_ok-checked_mul.ensures.1, c.from.ensures, small)))))
 
 pub loop-at-preserved : goal.loop-at-preserved

@@ -4,7 +4,7 @@ use Rattle.std.specs.Global.{Vec}
 use Rattle.lrc_script.specs.declared.script.Instruction.{Instruction}
 use Rattle.lrc_script.specs.Plan.{plan_of, plan_sections}
 use Rattle.lrc_script.specs.Lawful.{barriers}
-use Rattle.lrc_script.proofs.Faults.EvenSections.{AreEvenSoFar, even_more, even_all, first_section_barriers, few_section_instructions}
+use Rattle.lrc_script.proofs.Faults.EvenSections.{AreEvenSectionsSoFar, even_sections_more, even_sections_all, even_sections_first_barriers, even_sections_few_instructions}
 use Rattle.lrc_script.proofs.uneven_barriers.uneven_line.Goals as goal
 
 pub loop-section-preserved : goal.loop-section-preserved
@@ -21,11 +21,11 @@ loop-section-preserved c =
     let count : length section.items ≡ c.len.result =
     ap (λ (is : List Instruction). length is) (sym c.deref-in-loop-section.ensures.value)
     ∙ c.deref-in-loop-section.ensures.len ∙ sym c.len.ensures in
-    subst (λ (n : ℕ). AreEvenSoFar xs (c.loop-section.section-index + 1) c.barriers-expected.result
+    subst (λ (n : ℕ). AreEvenSectionsSoFar xs (c.loop-section.section-index + 1) c.barriers-expected.result
     (c.loop-section.line + (n + 1)))
-    count (even_more section
+    count (even_sections_more section
     c.loop-section.invariant lt c.section-item.is
-    (few_section_instructions xs c.loop-section.section-index section each lt c.section-item.is) same)
+    (even_sections_few_instructions xs c.loop-section.section-index section each lt c.section-item.is) same)
 
 pub returns-clause-even : goal.returns-clause-even
 returns-clause-even c =
@@ -33,8 +33,8 @@ returns-clause-even c =
     let value = c.deref-section-items.ensures.value in
     let first : c.barriers-expected.result ≡ barriers (slice_index_or (plan_of c.args.script.now).sections 0 []) =
     c.barriers-expected.ensures ∙ ap barriers c.deref-in_ok-first.ensures.value
-    ∙ first_section_barriers c.deref.result.now c.in_ok-first.field-0.now c.in_ok-first.ensures.value
+    ∙ even_sections_first_barriers c.deref.result.now c.in_ok-first.field-0.now c.in_ok-first.ensures.value
     ∙ ap (λ (ys : List (Vec Instruction)). barriers (slice_index_or (plan_sections ys) 0 [])) c.deref.ensures.value
     in
-    even_all (plan_of c.args.script.now) xs c.loop-section.section-index c.barriers-expected.result
+    even_sections_all (plan_of c.args.script.now) xs c.loop-section.section-index c.barriers-expected.result
     c.loop-section.line (ap plan_sections (sym value)) c.loop-section.invariant (omega arith) first

@@ -1,4 +1,4 @@
-use Rattle.seats.proofs.TotalsInHistories.{added_law as added}
+use Rattle.seats.proofs.TalliedHistories.{tallied_history_law as added}
 use Rattle.seats.proofs.laws.added_law.Goals as goal
 
 pub returns : goal.returns

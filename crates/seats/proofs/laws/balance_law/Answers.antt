@@ -1,4 +1,4 @@
-use Rattle.seats.proofs.Balances.{balance_law as balanced}
+use Rattle.seats.proofs.BalancedTenures.{balanced_tenure_law as balanced}
 use Rattle.seats.proofs.laws.balance_law.Goals as goal
 
 pub returns : goal.returns

@@ -1,4 +1,4 @@
-use Rattle.seats.proofs.Tenures.{kept_law}
+use Rattle.seats.proofs.KeptFacts.{kept_law}
 use Rattle.seats.proofs.laws.kept_law.Goals as goal
 
 pub returns : goal.returns

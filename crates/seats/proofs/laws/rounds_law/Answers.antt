@@ -1,4 +1,4 @@
-use Rattle.seats.proofs.Rounds.RoundsLaw.{rounds_law}
+use Rattle.seats.proofs.Rounds.RoundHistories.{rounds_law}
 use Rattle.seats.proofs.laws.rounds_law.Goals as goal
 
 pub returns : goal.returns

@@ -1,5 +1,5 @@
-use Rattle.seats.proofs.Guarded.{table_law}
+use Rattle.seats.proofs.GuardedDeeds.{guarded_deeds_table_law}
 use Rattle.seats.proofs.laws.table_law.Goals as goal
 
 pub returns : goal.returns
-returns c = table_law
+returns c = guarded_deeds_table_law

@@ -1,5 +1,5 @@
 use Rattle.std.proofs.Common.{ℕ, ◌≡◌, ◌≤◌, length, min, max, slice_get}
-use Rattle.seats.specs.Tables.{guard_put, is_between}
+use Rattle.seats.specs.Tables.{table_guard_put, table_range_has}
 use Rattle.seats.proofs.layout.put_in.Given as goal
 
 abbrev pub invariant-loop-address : goal.invariant-loop-address
@@ -8,5 +8,5 @@ invariant-loop-address l = record {
   least : l.from ≤ l.address;
   most : l.address ≤ max l.from (min l.to (length l.fn.table.items));
   each : (a : ℕ) → slice_get l.table.items a
-      ≡ guard_put (is_between l.from l.address a) l.guard (slice_get l.fn.table.items a);
+      ≡ table_guard_put (table_range_has l.from l.address a) l.guard (slice_get l.fn.table.items a);
 }

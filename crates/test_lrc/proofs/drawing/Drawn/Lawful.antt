@@ -14,7 +14,7 @@ use Rattle.test_lrc.specs.declared.drawing.draw.DrawSizes.{DrawSizes}
 use Rattle.lrc_script.specs.declared.script.Instruction.{Instruction}
 use Rattle.lrc_script.specs.declared.script.Instruction.TheVariants.{Load, Store, Add, Barrier}
 use Rattle.lrc_script.specs.Plan.{Plan}
-use Rattle.lrc_script.specs.Lawful.{plan_addresses, barriers, IsInstructionInRange, IsLawfulSection, IsEven, IsLawful}
+use Rattle.lrc_script.specs.Lawful.{plan_addresses, barriers, IsInstructionInRange, IsLawfulSection, IsLawfullyEven, IsLawful}
 use Rattle.test_lrc.specs.Drawing.Draw.{below, shape, group, access, item, piece, pieces, most_pieces, phase, more_phases, section, drawn_sections, drawn, IsShape}
 
 below_lt : (m : ℕ) (g : Lcg) → 0 < m → (below m g).0 < m
@@ -178,7 +178,7 @@ range_from_zero : (n : ℕ) → AllByRecursion (λ x. x < n) (range_with_len 0 n
 range_from_zero n =
     subst (λ (k : ℕ). AllByRecursion (λ x. x < k) (range_with_len 0 n)) (omega arith) (range_below n 0)
 
-even_from : (s : Plan) (count : ℕ) → All (λ is. barriers is ≡ count) s.sections → IsEven s
+even_from : (s : Plan) (count : ℕ) → All (λ is. barriers is ≡ count) s.sections → IsLawfullyEven s
 even_from s count h = λ k d lt. h k d lt ∙ sym (h 0 [] (omega (arith, lt)))
 
 pub drawn_lawful : (style : Style) (g : Lcg) → IsLawful (drawn style g)

@@ -1,10 +1,10 @@
 use Rattle.std.proofs.Common.{◌≡◌, map, ◌∙◌, arith, rules}
 use Rattle.std.specs.Arc.{arc_value}
 use Rattle.journal.specs.declared.event.Kind.TheVariants.{Set}
-use Rattle.book.specs.BookInvariant.{book_state}
+use Rattle.book.specs.BookInvariant.{book_invariant_state}
 use Rattle.book.specs.Transitions.{transition_handed_in, transition_closed_by}
-use Rattle.book.proofs.Calling.Closing.{closing_opens, closing_still_open, HasClosedSince, closed_since}
-use Rattle.book.proofs.Calling.AskingAndSetting.{IsSetting, asking_still_timed, setting_read, setting_is}
+use Rattle.book.proofs.Calling.IdleCalls.{idle_call_interval_open, idle_call_still_open, IsClosedSinceIdleCall, idle_call_closed_since}
+use Rattle.book.proofs.Calling.AskAndSetCalls.{IsSetCall, ask_call_still_timed, set_call_read, set_call_is}
 use Rattle.book.proofs.book.Book.set.Goals.{After-deref_mut-parts, After-parts, After-index-2}
 use Rattle.book.proofs.book.Book.set.Goals as goal
 
@@ -14,40 +14,40 @@ same c = c.deref_mut-parts.ensures.value ∙ c.self.view_is
 
 pub open_interval-interval-requires : goal.open_interval-interval-requires
 open_interval-interval-requires c =
-    closing_opens c.deref_mut-parts.result.now c.args.self.now c.args.processor c.args.block.now
+    idle_call_interval_open c.deref_mut-parts.result.now c.args.self.now c.args.processor c.args.block.now
     (same (goal.at.open_interval-interval-requires c).After-deref_mut-parts) c.requires.call
 
 pub close-requires-clause-open : goal.close-requires-clause-open
 close-requires-clause-open c =
-    closing_still_open c.deref_mut-parts.result.now c.args.processor c.open_interval-interval.result
+    idle_call_still_open c.deref_mut-parts.result.now c.args.processor c.open_interval-interval.result
     (map arc_value c.args.records.items)
     c.open_interval-interval.ensures
 
 -- the book once the interval is closed
-closed : (c : After-parts) → book_state c.parts.inside
+closed : (c : After-parts) → book_invariant_state c.parts.inside
     ≡ transition_closed_by (transition_handed_in c.args.self.now c.args.block.now) c.args.processor (Set c.args.flag)
     (map arc_value c.args.records.items)
 closed c =
-    let is : HasClosedSince c.deref_mut-parts.result.now c.args.self.now (book_state c.parts.inside) c.args.block.now
+    let is : IsClosedSinceIdleCall c.deref_mut-parts.result.now c.args.self.now (book_invariant_state c.parts.inside) c.args.block.now
     c.args.processor (Set c.args.flag) (map arc_value c.args.records.items) = record {
       i = c.open_interval-interval.result;
       same = c.deref_mut-parts.ensures.value ∙ c.self.view_is;
       opened = c.open_interval-interval.ensures;
       closed = c.parts.view_is ∙ c.in_ok-close.ensures.ok;
     } in
-    closed_since is
+    idle_call_closed_since is
 
 pub index-requires-2 : goal.index-requires-2
 index-requires-2 c =
-    let lt = asking_still_timed c.args.self.now (book_state c.parts.inside) c.args.processor (Set c.args.flag) c.args.block.now
+    let lt = ask_call_still_timed c.args.self.now (book_invariant_state c.parts.inside) c.args.processor (Set c.args.flag) c.args.block.now
     (map arc_value c.args.records.items) c.requires.call (closed (goal.at.index-requires-2 c).After-parts) in
     omega (arith, lt, c.parts.inside.times.ok.0)
 
 -- the flag and p's timestamp, as they are read
-setting : (c : After-index-2) → book_state c.parts.inside
+setting : (c : After-index-2) → book_invariant_state c.parts.inside
     ≡ transition_closed_by (transition_handed_in c.args.self.now c.args.block.now) c.args.processor (Set c.args.flag)
     (map arc_value c.args.records.items)
-    → IsSetting c.args.self.now (book_state c.parts.inside) c.args.processor c.args.flag c.args.block.now
+    → IsSetCall c.args.self.now (book_invariant_state c.parts.inside) c.args.processor c.args.flag c.args.block.now
     (map arc_value c.args.records.items) c.index.result.now c.index-2.result.now
 setting c is = record {
   may = c.requires.call;
@@ -57,15 +57,15 @@ setting c is = record {
   time = c.index-2.ensures;
 }
 
-pub with_set-time-requires : goal.with_set-time-requires
-with_set-time-requires c =
-    let at = goal.at.with_set-time-requires c in (setting_read (setting at.After-index-2 (closed at.After-parts))).long
+pub protocol_flag_with_set-time-requires : goal.protocol_flag_with_set-time-requires
+protocol_flag_with_set-time-requires c =
+    let at = goal.at.protocol_flag_with_set-time-requires c in (set_call_read (setting at.After-index-2 (closed at.After-parts))).long
 
 pub returns : goal.returns
 returns c =
     let at = goal.at.returns c in
     record {
-      ok = setting_is (setting at.After-index-2 (closed at.After-parts)) c.with_set-time.result c.with_set-time.ensures;
+      ok = set_call_is (setting at.After-index-2 (closed at.After-parts)) c.protocol_flag_with_set-time.result c.protocol_flag_with_set-time.ensures;
       err = search rules;
       full = search rules;
       only = search rules;

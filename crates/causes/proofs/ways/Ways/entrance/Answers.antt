@@ -7,7 +7,7 @@ use Rattle.journal.specs.Pasts.{UpTo}
 use Rattle.causes.specs.declared.ways.Ways.{Ways}
 use Rattle.causes.specs.HandOvers.{AreHandOvers}
 use Rattle.causes.specs.Paths.{ArePathWays}
-use Rattle.causes.proofs.ReachedPaths.{reached_up_to_longer}
+use Rattle.causes.proofs.ReachedPaths.{reached_path_up_to_longer}
 use Rattle.causes.proofs.ways.Ways.entrance.Goals as goal
 
 -- the row that is read has the event's entrances
@@ -70,4 +70,4 @@ returns c = λ i news up.
     let x = are.all i news in
     let end = c.loop-entrance-test.false in
     let lt = slice_get_within places x.1.0 x.0 x.1.1 in
-    c.loop-entrance.invariant x.1.0 x.0 (omega arith) x.1.1 (reached_up_to_longer events c.args.from i x.0 up x.2)
+    c.loop-entrance.invariant x.1.0 x.0 (omega arith) x.1.1 (reached_path_up_to_longer events c.args.from i x.0 up x.2)

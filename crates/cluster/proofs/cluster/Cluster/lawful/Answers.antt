@@ -2,12 +2,12 @@ use Rattle.std.proofs.Common.{ℕ, ◌≡◌, ◌^◌, [], replicate, refl, sym,
 use Rattle.std.proofs.lemmas.Nat.{mul-le}
 use Rattle.journal.specs.Sizes.{Sizes}
 use Rattle.turn.specs.Chairs.{ChairLockId}
-use Rattle.book.specs.State.{State}
+use Rattle.book.specs.BookState.{BookState}
 use Rattle.book.specs.Transitions.{transition_new_book}
 use Rattle.cluster.specs.Copies.Local.{new_local}
 use Rattle.cluster.specs.Copies.Sound.{AreSoundSizes}
-use Rattle.cluster.specs.KeptViews.{LockInvariant, view_of_nothing, view_book_sizes}
-use Rattle.cluster.proofs.Starting.{start_sizes, start_kept, start_covered}
+use Rattle.cluster.specs.KeptViews.{KeptViewsInvariant, view_of_nothing, view_book_sizes}
+use Rattle.cluster.proofs.StartingProcessors.{starting_processors_sizes, starting_processors_kept, starting_processors_covered}
 use Rattle.cluster.proofs.cluster.Cluster.lawful.Goals as goal
 
 pub new-requires-3-clause-addresses : goal.new-requires-3-clause-addresses
@@ -27,15 +27,15 @@ new-requires-4-clause-fact g c =
     let s = c.args.shape in
     let size = ap (λ (x : Sizes). x.processors) c.shape.view_is in
     let book = c.in_ok-book.ensures ∙ ap transition_new_book c.shape.view_is in
-    let P : State → ℕ → Type 0 = λ b n. LockInvariant s [] b (replicate n (view_of_nothing (view_book_sizes b))) in
-    let kept = start_kept s c.requires.sizes.some_processors in
-    (s, [], subst₂ P (sym book) (sym size) (rw (start_sizes s c.requires.sizes.some_words) kept))
+    let P : BookState → ℕ → Type 0 = λ b n. KeptViewsInvariant s [] b (replicate n (view_of_nothing (view_book_sizes b))) in
+    let kept = starting_processors_kept s c.requires.sizes.some_processors in
+    (s, [], subst₂ P (sym book) (sym size) (rw (starting_processors_sizes s c.requires.sizes.some_words) kept))
 
 pub seat_all-all-requires-clause-chairs : goal.seat_all-all-requires-clause-chairs
 seat_all-all-requires-clause-chairs g c κs within =
     let same : view_book_sizes c.in_ok-book.book ≡ c.args.shape =
     ap view_book_sizes (c.in_ok-book.ensures ∙ ap transition_new_book c.shape.view_is)
-    ∙ start_sizes c.args.shape c.requires.sizes.some_words in
+    ∙ starting_processors_sizes c.args.shape c.requires.sizes.some_words in
     let made = c.in_ok-turn.ensures in (
       (let long = made.1 in let size = ap (λ (x : Sizes). x.processors) c.shape.view_is in omega arith),
       λ p x at. (let f = made.2 p x at in record {
@@ -59,4 +59,4 @@ returns-clause-new g c =
     }
 
 pub returns-clause-covers : goal.returns-clause-covers
-returns-clause-covers g c = start_covered _ _ c.requires.sizes (returns-clause-new g c)
+returns-clause-covers g c = starting_processors_covered _ _ c.requires.sizes (returns-clause-new g c)

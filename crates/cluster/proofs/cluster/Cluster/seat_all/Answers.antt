@@ -5,8 +5,8 @@ use Rattle.std.specs.Vec.Iter.{into_iter_items}
 use Rattle.base.proofs.SlicesAndCounts.{slice_get-append_left, slice_get-last}
 use Rattle.turn.specs.Chairs.{lock}
 use Rattle.cluster.specs.Copies.Local.{Local, new_local}
-use Rattle.cluster.specs.Clusters.{IsNewClusterChair}
-use Rattle.cluster.proofs.Starting.{starting_at_middle, starting_seated_more}
+use Rattle.cluster.specs.NewClusters.{IsNewClusterChair}
+use Rattle.cluster.proofs.StartingProcessors.{starting_processors_middle, starting_processors_seated_more}
 use Rattle.cluster.proofs.cluster.Cluster.seat_all.Goals as goal
 
 pub seated-requires-clause-chair : goal.seated-requires-clause-chair
@@ -14,7 +14,7 @@ seated-requires-clause-chair g c κs within =
     let inv = c.loop-chair.invariant in
     let here : slice_get c.args.chairs.items (length c.loop-chair.yielded) ≡ Some c.in-Some.chair =
     rw (← inv.came, c.in-Some.ensures.steps.0)
-    (starting_at_middle c.loop-chair.yielded (into_iter_items c.next.new.self) c.in-Some.chair) in
+    (starting_processors_middle c.loop-chair.yielded (into_iter_items c.next.new.self) c.in-Some.chair) in
     let place : length c.loop-chair.yielded ≡ c.len.result = let n = c.len.ensures in
     let made = inv.made in omega arith in
     let P : ℕ → Type 0 = λ k. IsNewClusterChair (lock c.in-Some.chair) c.args.shape k c.in-Some.chair in
@@ -33,13 +33,13 @@ loop-chair-preserved g c =
     let yielded = c.loop-chair.yielded in
     let more = length_push yielded chair in
     let here : slice_get chairs (length yielded) ≡ Some chair =
-    rw (← inv.came, c.in-Some.ensures.steps.0) (starting_at_middle yielded (into_iter_items c.next.new.self) chair) in
+    rw (← inv.came, c.in-Some.ensures.steps.0) (starting_processors_middle yielded (into_iter_items c.next.new.self) chair) in
     let made : length yielded ≡ length c.loop-chair.all.items = let m = inv.made in omega arith in
     let long : c.len.result ≡ length c.loop-chair.all.items = let n = c.len.ensures in omega arith in
     let P : ℕ → Type 0 = λ k. slice_get chairs k ≡ Some chair in
     let Q : ℕ → Type 0 = λ k. c.seated.result ≡ new_local (lock chair) k c.args.shape in
     let each =
-    starting_seated_more c.args.shape chairs c.loop-chair.all.items chair c.seated.result (subst P made here)
+    starting_processors_seated_more c.args.shape chairs c.loop-chair.all.items chair c.seated.result (subst P made here)
     (subst Q long c.seated.ensures) inv.each in
     record {
       came =

@@ -1,7 +1,7 @@
 use Rattle.std.proofs.Common.{◌≡◌, Some, slice_get, slice_set, sym, ap, subst, ◌+◌, ◌∙◌, arith}
-use Rattle.cluster.specs.Copies.PageReplica.{Copied}
+use Rattle.cluster.specs.Copies.PageReplica.{PageReplica}
 use Rattle.cluster.specs.Copies.AfterNews.{copy_cleaned_after_news}
-use Rattle.cluster.proofs.copies.Steps.{step_item_at}
+use Rattle.cluster.proofs.copies.LoopItems.{loop_item_at}
 use Rattle.cluster.proofs.copies.Cleaned.{IsCleanBelow, clean_start, clean_more, clean_end, clean_past}
 use Rattle.cluster.proofs.copies.harvesting.clean.Goals as goal
 use Rattle.cluster.proofs.copies.harvesting.clean.Goals.{in-Some+then-page-replicas, in_default}
@@ -13,14 +13,14 @@ pub loop-page-preserved : goal.loop-page-preserved
 loop-page-preserved c =
     let now = c.loop-page.replicas in
     let page = c.in-Some.page in
-    let copy : Copied = c.index-replicas-page.result in
-    let at : slice_get now page ≡ Some copy = step_item_at now page copy (omega arith) c.index-replicas-page.is in
+    let copy : PageReplica = c.index-replicas-page.result in
+    let at : slice_get now page ≡ Some copy = loop_item_at now page copy (omega arith) c.index-replicas-page.is in
     let so_far = c.loop-page.invariant.clean in
     let more =
     clean_more c.args.replicas.now now c.args.stored.now c.loop-page.next so_far page copy c.in-Some.ensures.some
     at in
     let is : copy_cleaned_after_news copy ≡ c.clean.new.self = ap copy_cleaned_after_news c.index-replicas-page.is ∙ sym c.clean.ensures in
-    let P : Copied → Type 0 =
+    let P : PageReplica → Type 0 =
     λ d. IsCleanBelow c.args.replicas.now (slice_set now page d) c.args.stored.now (page + 1) in
     record {
       within = let few = c.requires.few in let long = c.loop-page.auto.replicas in omega arith;

@@ -1,9 +1,9 @@
 use Rattle.std.proofs.Common.{◌≡◌, ◌/◌, Some, slice_get, sym, ap, ◌∙◌, subst, rules, refl}
 use Rattle.std.specs.Option.{option_map}
 use Rattle.std.specs.Result.{result_err}
-use Rattle.journal.specs.Closing.{awaited_kind}
+use Rattle.journal.specs.ClosingKinds.{closing_awaits_kind}
 use Rattle.cluster.specs.Copies.Local.{Local}
-use Rattle.cluster.specs.Seats.{seat_local}
+use Rattle.cluster.specs.SeatedProcessor.{seated_processor}
 use Rattle.cluster.specs.declared.processor.Processor.TheInside.{Inside}
 use Rattle.cluster.specs.Copies.Sound.{IsSound}
 use Rattle.cluster.proofs.Access.{access_copy_found, access_past, access_at}
@@ -14,8 +14,8 @@ use Rattle.cluster.proofs.processor.Processor.admit.Goals.{In-Some}
 -- what the fields say of the processor
 abbrev local_of : (g : given.Over) → Inside g.row.T.Denot → Local
 local_of g i =
-    seat_local i.chair i.number i.shape i.block.items i.replicas.items i.stored i.time i.held.items
-    (option_map awaited_kind i.awaits)
+    seated_processor i.chair i.number i.shape i.block.items i.replicas.items i.stored i.time i.held.items
+    (option_map closing_awaits_kind i.awaits)
 
 -- the copy that is found is the processor's
 found : (g : given.Over) (c : In-Some g)

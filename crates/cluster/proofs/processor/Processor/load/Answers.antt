@@ -5,9 +5,9 @@ use Rattle.journal.specs.Events.{events_of}
 use Rattle.cluster.specs.Copies.Local.{Local, calls, local_noted}
 use Rattle.page.specs.declared.page.Access.TheVariants.{Valid}
 use Rattle.cluster.specs.Copies.Sound.{IsSound}
-use Rattle.cluster.proofs.Covering.{covers}
-use Rattle.cluster.proofs.MayAccessAndFetch.{access_copy_read, access_place_within, access_room_within}
-use Rattle.cluster.proofs.Noting.{noted_offset_within, loaded_noted}
+use Rattle.cluster.proofs.CoveringHistories.{covers}
+use Rattle.cluster.proofs.MayAccessAndFetch.{may_access_copy_read, may_access_place_within, may_access_room_within}
+use Rattle.cluster.proofs.NotedEvents.{noted_event_offset_in_page, noted_event_loaded}
 use Rattle.cluster.proofs.processor.Processor.load.Given as given
 use Rattle.cluster.proofs.processor.Processor.load.Goals as goal
 use Rattle.cluster.proofs.processor.Processor.load.Goals.{After-index}
@@ -18,19 +18,19 @@ read : (g : given.Over) (c : After-index g)
     let x = c.index.result.now in
     (slice_get m.copies (c.args.address / m.sizes.words) ≡ Some x) × (x.page.access ≡ Valid)
 read g c =
-    access_copy_read _ _ _ _ _ c.self.view_is (sym c.in_ok-page.ensures.refused) c.in_ok-page.ensures.place.0
+    may_access_copy_read _ _ _ _ _ c.self.view_is (sym c.in_ok-page.ensures.refused) c.in_ok-page.ensures.place.0
     c.index.ensures
 
 pub index-requires : goal.index-requires
 index-requires g c =
     let place = c.in_ok-page.ensures.place.0 in
-    let within = access_place_within _ _ c.args.address _ c.self.view_is (sym c.in_ok-page.ensures.refused) place in
+    let within = may_access_place_within _ _ c.args.address _ c.self.view_is (sym c.in_ok-page.ensures.refused) place in
     let long = c.self.inside.replicas.ok.0 in
     omega arith
 
 pub push_reserved-requires : goal.push_reserved-requires
 push_reserved-requires g c =
-    let room = access_room_within _ _ c.args.address c.self.view_is (sym c.in_ok-page.ensures.refused) in
+    let room = may_access_room_within _ _ c.args.address c.self.view_is (sym c.in_ok-page.ensures.refused) in
     let kept = c.self.invariant.2 in
     let long = c.self.inside.block.ok.0 in
     omega arith
@@ -39,7 +39,7 @@ pub load-value-requires-clause-in_range : goal.load-value-requires-clause-in_ran
 load-value-requires-clause-in_range g c =
     let r = read g (goal.at.load-value-requires-clause-in_range g c).After-index in
     rw (c.in_ok-page.ensures.place.1)
-    (noted_offset_within _ c.args.address _ r.0 (subst IsSound c.self.view_is c.self.invariant.0))
+    (noted_event_offset_in_page _ c.args.address _ r.0 (subst IsSound c.self.view_is c.self.invariant.0))
 
 pub load-value-requires-clause-valid : goal.load-value-requires-clause-valid
 load-value-requires-clause-valid g c = (read g (goal.at.load-value-requires-clause-valid g c).After-index).1
@@ -72,7 +72,7 @@ invariant_of-self g c =
     let word : slice_get c.index.result.now.page.words (c.args.address % m.sizes.words) ≡ Some c.load-value.result =
     rw (← c.in_ok-page.ensures.place.1) c.load-value.ensures in
     let sound =
-    loaded_noted m c.args.address c.load-value.result c.index.result.now (sym c.in_ok-page.ensures.refused) r.0 word
+    noted_event_loaded m c.args.address c.load-value.result c.index.result.now (sym c.in_ok-page.ensures.refused) r.0 word
     (subst IsSound c.self.view_is c.self.invariant.0) in (
       rw (c.push_reserved.ensures.items) (subst (λ (x : Local).
           IsSound (local_noted x (Load c.args.address c.load-value.result))) (sym c.self.view_is) sound),

@@ -1,9 +1,9 @@
 use Rattle.std.proofs.Common.{◌≡◌, ◌/◌, Some, slice_get, sym, subst, arith}
 use Rattle.page.specs.declared.page.Access.TheVariants.{Valid}
 use Rattle.cluster.specs.Copies.Sound.{IsSound}
-use Rattle.cluster.proofs.Covering.{covers}
-use Rattle.cluster.proofs.MayAccessAndFetch.{access_copy_read, access_place_within, access_room_within}
-use Rattle.cluster.proofs.Noting.{noted_offset_within, noting_stored_sound, store_noted_done}
+use Rattle.cluster.proofs.CoveringHistories.{covers}
+use Rattle.cluster.proofs.MayAccessAndFetch.{may_access_copy_read, may_access_place_within, may_access_room_within}
+use Rattle.cluster.proofs.NotedEvents.{noted_event_offset_in_page, noted_event_stored_sound, noted_event_store_done}
 use Rattle.cluster.proofs.processor.Processor.store.Given as given
 use Rattle.cluster.proofs.processor.Processor.store.Goals as goal
 use Rattle.cluster.proofs.processor.Processor.store.Goals.{After-index_mut}
@@ -14,27 +14,27 @@ read : (g : given.Over) (c : After-index_mut g)
     let x = c.index_mut.result.now in
     (slice_get m.copies (c.args.address / m.sizes.words) ≡ Some x) × (x.page.access ≡ Valid)
 read g c =
-    access_copy_read _ _ _ _ _ c.self.view_is (sym c.in_ok-page.ensures.refused) c.in_ok-page.ensures.place.0
+    may_access_copy_read _ _ _ _ _ c.self.view_is (sym c.in_ok-page.ensures.refused) c.in_ok-page.ensures.place.0
     c.index_mut.ensures.value
 
 pub index_mut-requires : goal.index_mut-requires
 index_mut-requires g c =
     let place = c.in_ok-page.ensures.place.0 in
-    let within = access_place_within _ _ c.args.address _ c.self.view_is (sym c.in_ok-page.ensures.refused) place in
+    let within = may_access_place_within _ _ c.args.address _ c.self.view_is (sym c.in_ok-page.ensures.refused) place in
     let long = c.self.inside.replicas.ok.0 in
     omega arith
 
 pub add-requires : goal.add-requires
 add-requires g c =
     let place = c.in_ok-page.ensures.place.0 in
-    let within = access_place_within _ _ c.args.address _ c.self.view_is (sym c.in_ok-page.ensures.refused) place in
+    let within = may_access_place_within _ _ c.args.address _ c.self.view_is (sym c.in_ok-page.ensures.refused) place in
     let long = c.self.invariant.0.copies.long in
     let few = c.self.invariant.0.sizes.pages in
     omega arith
 
 pub push_reserved-requires : goal.push_reserved-requires
 push_reserved-requires g c =
-    let room = access_room_within _ _ c.args.address c.self.view_is (sym c.in_ok-page.ensures.refused) in
+    let room = may_access_room_within _ _ c.args.address c.self.view_is (sym c.in_ok-page.ensures.refused) in
     let kept = c.self.invariant.2 in
     let long = c.self.inside.block.ok.0 in
     omega arith
@@ -43,7 +43,7 @@ pub store-requires-clause-in_range : goal.store-requires-clause-in_range
 store-requires-clause-in_range g c =
     let r = read g (goal.at.store-requires-clause-in_range g c).After-index_mut in
     rw (c.in_ok-page.ensures.place.1)
-    (noted_offset_within _ c.args.address _ r.0 (subst IsSound c.self.view_is c.self.invariant.0))
+    (noted_event_offset_in_page _ c.args.address _ r.0 (subst IsSound c.self.view_is c.self.invariant.0))
 
 pub store-requires-clause-valid : goal.store-requires-clause-valid
 store-requires-clause-valid g c = (read g (goal.at.store-requires-clause-valid g c).After-index_mut).1
@@ -57,7 +57,7 @@ returns-clause-ok g c = record {
   at = (read g (goal.at.returns-clause-ok g c).After-index_mut).0;
   after =
       let place = c.in_ok-page.ensures.place in
-      store_noted_done c.args.address c.args.value c.index_mut.result.now c.self.view_is place.0 place.1 c.store.ensures
+      noted_event_store_done c.args.address c.args.value c.index_mut.result.now c.self.view_is place.0 place.1 c.store.ensures
       c.push_reserved.ensures.items c.add.ensures;
 }
 
@@ -66,9 +66,9 @@ invariant_of-self g c =
     let r = read g (goal.at.invariant_of-self g c).After-index_mut in
     let place = c.in_ok-page.ensures.place in
     let after =
-    store_noted_done c.args.address c.args.value c.index_mut.result.now c.self.view_is place.0 place.1 c.store.ensures c.push_reserved.ensures.items c.add.ensures in
+    noted_event_store_done c.args.address c.args.value c.index_mut.result.now c.self.view_is place.0 place.1 c.store.ensures c.push_reserved.ensures.items c.add.ensures in
     let sound =
-    noting_stored_sound _ c.args.address c.args.value _ (sym c.in_ok-page.ensures.refused) r.0
+    noted_event_stored_sound _ c.args.address c.args.value _ (sym c.in_ok-page.ensures.refused) r.0
     (subst IsSound c.self.view_is c.self.invariant.0) in (
       subst IsSound (sym after) sound,
       c.self.invariant.1,

@@ -1,6 +1,6 @@
-use Rattle.explore.specs.AllowedBeginnings.{allowed_events}
-use Rattle.explore.proofs.allowed_runs.Lengthened.{other_followed}
-use Rattle.explore.proofs.allowed_runs.NextCalls.{allowed_other_next}
+use Rattle.explore.specs.AllowedBeginnings.{allowed_beginning_events}
+use Rattle.explore.proofs.allowed_runs.Lengthened.{lengthened_by_other_call}
+use Rattle.explore.proofs.allowed_runs.NextAllowed.{next_allowed_other_call}
 use Rattle.explore.proofs.allowed_beginning.AllowedBeginning.follow.Goals as goal
 
 pub lengthened-requires : goal.lengthened-requires
@@ -11,15 +11,15 @@ lengthened-requires c =
       record {
         lawful = may.lawful;
         tells = may.tells;
-        next = allowed_other_next s (allowed_events c.args.self.now) c.args.processor c.args.call may.tells.beginning may.may c.in_default.not-Load;
+        next = next_allowed_other_call s (allowed_beginning_events c.args.self.now) c.args.processor c.args.call may.tells.beginning may.may c.in_default.not-Load;
       },
     )
 
 pub returns-in_ok-push-in_default : goal.returns-in_ok-push-in_default
 returns-in_ok-push-in_default c = λ s may.
-    let g = allowed_events c.args.self.now in
-    let next = allowed_other_next s g c.args.processor c.args.call may.tells.beginning may.may c.in_default.not-Load in
-    other_followed s g c.args.processor c.args.call c.in_ok-lengthened-in_default.field-0 c.args.pending.now.items c.push.new.self.items
+    let g = allowed_beginning_events c.args.self.now in
+    let next = next_allowed_other_call s g c.args.processor c.args.call may.tells.beginning may.may c.in_default.not-Load in
+    lengthened_by_other_call s g c.args.processor c.args.call c.in_ok-lengthened-in_default.field-0 c.args.pending.now.items c.push.new.self.items
     c.in_default.not-Load may.plain next c.in_ok-push-in_default.ensures.items
     (c.in_ok-lengthened-in_default.ensures.told s (record { lawful = may.lawful; tells = may.tells; next = next }))
     c.in_ok-lengthened-in_default.ensures.events

@@ -3,8 +3,8 @@ use Rattle.std.specs.Prelude.{None}
 use Rattle.std.proofs.lemmas.Bool.{cases_lt}
 use Rattle.std.proofs.lemmas.List.{get_or_past}
 use Rattle.std.proofs.lemmas.Option.{none-some}
-use Rattle.explore.specs.AllowedBeginnings.{allowed_events}
-use Rattle.explore.proofs.allowed_runs.Lengthened.{AreFollowedBelow, followed_below_all, followed_below_next, followed_below_none}
+use Rattle.explore.specs.AllowedBeginnings.{allowed_beginning_events}
+use Rattle.explore.proofs.allowed_runs.Lengthened.{AreLengthenedBelow, lengthened_below_all, lengthened_below_next, lengthened_below_none}
 use Rattle.explore.proofs.allowed_beginning.AllowedBeginning.follow_all.Goals.{in-Some+in_ok-follow, in_default}
 use Rattle.explore.proofs.allowed_beginning.AllowedBeginning.follow_all.Goals as goal
 
@@ -27,7 +27,7 @@ follow-requires c =
 pub loop-processor-preserved : goal.loop-processor-preserved
 loop-processor-preserved c = λ s may.
     let n = c.loop-processor.processor in
-    let g = allowed_events c.args.self.now in
+    let g = allowed_beginning_events c.args.self.now in
     let calls = c.args.calls.now in
     let old = c.loop-processor.invariant s may in
     let before = c.args.pending.now.items in
@@ -43,11 +43,11 @@ loop-processor-preserved c = λ s may.
             plain = may.plain n call w.in-Some.is;
             may = may.may n call w.in-Some.is;
           }) in
-          subst (λ z. AreFollowedBelow s g calls (n + 1) before z.items) (sym w.pending-is)
-          (followed_below_next s g calls n call before c.loop-processor.pending.items w.follow.new.pending.items w.in-Some.is old followed))
+          subst (λ z. AreLengthenedBelow s g calls (n + 1) before z.items) (sym w.pending-is)
+          (lengthened_below_next s g calls n call before c.loop-processor.pending.items w.follow.new.pending.items w.in-Some.is old followed))
       | in_default w ↦
-          subst (λ z. AreFollowedBelow s g calls (n + 1) before z.items) (sym w.pending-is)
-          (followed_below_none s g calls n before c.loop-processor.pending.items w.in_default.not-Some old)
+          subst (λ z. AreLengthenedBelow s g calls (n + 1) before z.items) (sym w.pending-is)
+          (lengthened_below_none s g calls n before c.loop-processor.pending.items w.in_default.not-Some old)
     ]
 
 pub returns : goal.returns
@@ -56,7 +56,7 @@ returns c = λ s may.
     let calls = c.args.calls.now in
     let long = may.long in
     let over = c.loop-processor-test.false in
-    followed_below_all s (allowed_events c.args.self.now) calls n c.args.pending.now.items c.loop-processor.pending.items
+    lengthened_below_all s (allowed_beginning_events c.args.self.now) calls n c.args.pending.now.items c.loop-processor.pending.items
     (λ p call at. elim (cases_lt p n) [
       | inl lt ↦ lt
       | inr past ↦ absurd (none-some call (sym (get_or_past calls p None (omega arith)) ∙ at))

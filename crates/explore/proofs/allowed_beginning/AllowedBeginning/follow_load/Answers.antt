@@ -6,27 +6,27 @@ use Rattle.journal.specs.declared.event.Event.{Event}
 use Rattle.journal.specs.declared.event.Kind.TheVariants.{Load}
 use Rattle.journal.specs.DidEvent.{did}
 use Rattle.journal.specs.ExplainedAnswers.{IsAnswer}
-use Rattle.judge.specs.declared.sources.readable.Sources.{Sources}
+use Rattle.judge.specs.declared.sources.readable.ReadableSources.{ReadableSources}
 use Rattle.lrc_script.specs.Plan.{Plan}
 use Rattle.explore.specs.declared.allowed_beginning.AllowedBeginning.{AllowedBeginning}
-use Rattle.explore.specs.Allowed.{IsAllowedBeginning}
-use Rattle.explore.specs.AllowedBeginnings.{MayBeLengthened, MayFollowCall, allowed_events}
-use Rattle.explore.proofs.allowed_runs.Lengthened.{AreLoadsFollowed, lengthened_one, lengthened_start, load_event, loads_followed_all, loads_followed_next}
-use Rattle.explore.proofs.allowed_runs.NextCalls.{allowed_load_next}
+use Rattle.explore.specs.AllowedRuns.{IsAllowedRunBeginning}
+use Rattle.explore.specs.AllowedBeginnings.{AllowedBeginningMayGoOn, MayFollowAllowedBeginningCall, allowed_beginning_events}
+use Rattle.explore.proofs.allowed_runs.Lengthened.{AreLengthenedByLoads, lengthened_one, lengthened_start, lengthened_load_event, lengthened_by_loads_all, lengthened_by_loads_next}
+use Rattle.explore.proofs.allowed_runs.NextAllowed.{next_allowed_load}
 use Rattle.explore.proofs.allowed_beginning.AllowedBeginning.follow_load.Goals as goal
 
 -- by which replies the load may come next
-module _ (s : Plan) (b : AllowedBeginning) (sources : Sources) (p a : ℕ) (may : MayFollowCall s b sources p (Load a 0)) (events : List Event)
-    (same : events ≡ allowed_events b) (answers : List ℕ)
+module _ (s : Plan) (b : AllowedBeginning) (sources : ReadableSources) (p a : ℕ) (may : MayFollowAllowedBeginningCall s b sources p (Load a 0)) (events : List Event)
+    (same : events ≡ allowed_beginning_events b) (answers : List ℕ)
     (each : (x : ℕ) → Has answers x ↔ IsAnswer (did events p (Load a x)) (length events) a x) where
-  answer_next : (v : ℕ) → Has answers v ↔ IsAllowedBeginning s (did (allowed_events b) p (Load a v))
+  answer_next : (v : ℕ) → Has answers v ↔ IsAllowedRunBeginning s (did (allowed_beginning_events b) p (Load a v))
   answer_next v =
-      let next = allowed_load_next s (allowed_events b) p a v may.tells.beginning may.may in
+      let next = next_allowed_load s (allowed_beginning_events b) p a v may.tells.beginning may.may in
       let here = subst (λ h. Has answers v ↔ IsAnswer (did h p (Load a v)) (length h) a v) same (each v) in
       ((λ has. next.1 (here.0 has)), (λ allowed. here.1 (next.0 allowed)))
 
   -- the word that is read is one of them
-  word_next : (words : List ℕ) (n : ℕ) → words ≡ answers → n < length words → MayBeLengthened s b p (Load a (slice_index_or words n 0))
+  word_next : (words : List ℕ) (n : ℕ) → words ≡ answers → n < length words → AllowedBeginningMayGoOn s b p (Load a (slice_index_or words n 0))
   word_next words n are lt = record {
     lawful = may.lawful;
     tells = may.tells;
@@ -43,7 +43,7 @@ lengthened-requires c = (
 )
 
 pub loop-word-init : goal.loop-word-init
-loop-word-init c = λ s may. lengthened_start s (allowed_events c.args.self.now) c.args.pending.now.items
+loop-word-init c = λ s may. lengthened_start s (allowed_beginning_events c.args.self.now) c.args.pending.now.items
 
 pub loop-word-preserved : goal.loop-word-preserved
 loop-word-preserved c = λ s may.
@@ -54,9 +54,9 @@ loop-word-preserved c = λ s may.
     let v = slice_index_or words n 0 in
     let next = word_next s c.args.self.now c.args.sources.now p a may c.deref.result.now c.deref.ensures.value
     c.in_ok-answers.answers.items c.in_ok-answers.ensures.each words n c.deref-word-items.ensures.value c.loop-word-test.true in
-    loads_followed_next s (allowed_events c.args.self.now) p a words n v c.args.pending.now.items c.loop-word.pending.items c.push.new.self.items
+    lengthened_by_loads_next s (allowed_beginning_events c.args.self.now) p a words n v c.args.pending.now.items c.loop-word.pending.items c.push.new.self.items
     (slice_get-get_or words n 0 c.loop-word-test.true) (c.loop-word.invariant s may)
-    (lengthened_one s (allowed_events c.args.self.now) (load_event p a v) c.in_ok-lengthened.field-0 c.loop-word.pending.items c.push.new.self.items
+    (lengthened_one s (allowed_beginning_events c.args.self.now) (lengthened_load_event p a v) c.in_ok-lengthened.field-0 c.loop-word.pending.items c.push.new.self.items
     c.in_ok-push.ensures.items (c.in_ok-lengthened.ensures.told s next) c.in_ok-lengthened.ensures.events)
 
 pub returns : goal.returns
@@ -65,10 +65,10 @@ returns c = λ s may.
     let n = c.loop-word.word-index in
     let p = c.args.processor in
     let a = c.args.address in
-    let g = allowed_events c.args.self.now in
+    let g = allowed_beginning_events c.args.self.now in
     let over = c.loop-word-test.false in
     let all : take n words ≡ c.in_ok-answers.answers.items = take_all n words (omega arith) ∙ c.deref-word-items.ensures.value in
-    loads_followed_all s g p a c.in_ok-answers.answers.items c.args.pending.now.items c.loop-word.pending.items c.in_ok-answers.ensures.once
+    lengthened_by_loads_all s g p a c.in_ok-answers.answers.items c.args.pending.now.items c.loop-word.pending.items c.in_ok-answers.ensures.once
     (answer_next s c.args.self.now c.args.sources.now p a may c.deref.result.now c.deref.ensures.value c.in_ok-answers.answers.items
     c.in_ok-answers.ensures.each)
-    (subst (λ xs. AreLoadsFollowed s g p a xs c.args.pending.now.items c.loop-word.pending.items) all (c.loop-word.invariant s may))
+    (subst (λ xs. AreLengthenedByLoads s g p a xs c.args.pending.now.items c.loop-word.pending.items) all (c.loop-word.invariant s may))

@@ -7,16 +7,16 @@ use Rattle.explore.proofs.flat_state.FlatState.has_words.Goals as goal
 abbrev asked : List (ℕ × ℕ) → ℕ → ℕ × ℕ
 asked words place = slice_index_or words place (0, 0)
 
-pub returns-then-not-has_word : goal.returns-then-not-has_word
-returns-then-not-has_word c = (
+pub returns-then-not-flat_state_has_word : goal.returns-then-not-flat_state_has_word
+returns-then-not-flat_state_has_word c = (
   λ no. absurd (false≢true no),
   λ has.
       let words = c.args.words.now in
       let place = c.loop-address.address-index in
       let at = slice_get-get_or words place (0, 0) c.loop-address-test.true in
       let here = has (asked words place).0 (asked words place).1 (place, at) in
-      absurd (false≢true (sym c.if-not-has_word.true
-      ∙ c.has_word.ensures.1 (ap (λ memory. slice_get memory (asked words place).0) c.deref.ensures.value ∙ here))),
+      absurd (false≢true (sym c.if-not-flat_state_has_word.true
+      ∙ c.flat_state_has_word.ensures.1 (ap (λ memory. slice_get memory (asked words place).0) c.deref.ensures.value ∙ here))),
 )
 
 pub loop-address-preserved : goal.loop-address-preserved
@@ -26,7 +26,7 @@ loop-address-preserved c = λ k w lt at. elim (cases_eq k c.loop-address.address
       let place = c.loop-address.address-index in
       let there = slice_get-get_or words place (0, 0) c.loop-address-test.true in
       let same : asked words place ≡ w = same_Some (asked words place) w (sym there ∙ ap (slice_get words) (sym is) ∙ at) in
-      let here = c.has_word.ensures.0 c.if-not-has_word.false in
+      let here = c.flat_state_has_word.ensures.0 c.if-not-flat_state_has_word.false in
       subst (λ (v : ℕ × ℕ). slice_get c.args.self.now.memory.items v.0 ≡ Some v.1) same
       (ap (λ memory. slice_get memory (asked words place).0) (sym c.deref.ensures.value) ∙ here))
   | inr isnt ↦ c.loop-address.invariant k w (omega arith) at

@@ -2,11 +2,11 @@ use Rattle.std.proofs.Common.{ℕ, zero, suc, ◌≡◌, ◌<◌, [], List, Some
 use Rattle.std.proofs.lemmas.List.{length-replicate}
 use Rattle.base.proofs.SliceSets.{index-zeros}
 use Rattle.lrc_script.specs.Plan.{plan_of}
-use Rattle.explore.proofs.prefixes.Beginnings.{beginning_empty}
-use Rattle.explore.specs.Prefixes.Calling.{calling_shown_by}
-use Rattle.explore.specs.declared.told.OutcomeTelling.{OutcomeTelling}
-use Rattle.explore.specs.Told.{AreKeptReplies}
-use Rattle.explore.proofs.ToldReplies.{told_kept_first}
+use Rattle.explore.proofs.prefixes.Beginnings.{prefix_beginning_empty}
+use Rattle.explore.specs.Prefixes.ScriptCalls.{script_calls_shown_by}
+use Rattle.explore.specs.declared.outcome_telling.OutcomeTelling.{OutcomeTelling}
+use Rattle.explore.specs.OutcomeTelling.{AreOutcomeTellingKept}
+use Rattle.explore.proofs.ToldReplies.{told_reply_kept_first}
 use Rattle.explore.proofs.flat_state.FlatState.new.Goals as goal
 
 -- so many of one item have it at each place
@@ -19,15 +19,15 @@ pub returns-clause-knows : goal.returns-clause-knows
 returns-clause-knows c =
     let s = plan_of c.args.script.now in
     record {
-      beginning = beginning_empty s;
+      beginning = prefix_beginning_empty s;
       long = refl;
       done = λ p lt. index-zeros 16 p;
       shown = ap (λ (t : OutcomeTelling). t.shown) c.of_script.ensures;
-      replies = subst (AreKeptReplies s c.of_script.result []) (sym c.in_ok-no_replies.ensures) (record {
+      replies = subst (AreOutcomeTellingKept s c.of_script.result []) (sym c.in_ok-flat_state_no_replies.ensures) (record {
         long = length-replicate s.processors [];
         each = λ p lt.
             always_empty s.processors p lt
-            ∙ ap Some (sym (told_kept_first c.of_script.result p (slice_index_or s.sections p []) (calling_shown_by s p)));
+            ∙ ap Some (sym (told_reply_kept_first c.of_script.result p (slice_index_or s.sections p []) (script_calls_shown_by s p)));
       });
       memory = c.in_ok-vec.ensures.items_if_clones_equal (λ x is. is);
       waiting = c.new.ensures;

@@ -1,7 +1,7 @@
 use Rattle.std.proofs.Common.{◌<◌, ap, ◌∙◌, arith}
 use Rattle.explore.specs.Machines.{machine_last_or}
-use Rattle.explore.proofs.Machines.{machine_read_at}
-use Rattle.explore.proofs.Replies.{replies_last_told, length-machine_rows}
+use Rattle.explore.proofs.MachineSteps.{machine_step_read_at}
+use Rattle.explore.proofs.MachineReplies.{machine_reply_last_told, length-machine_rows}
 use Rattle.explore.proofs.flat_state.FlatState.reply_before.Goals as goal
 
 pub returns : goal.returns
@@ -12,5 +12,5 @@ returns c = λ s g knows sum.
     let many = length-machine_rows vs in
     let lt = c.requires in
     let within : p < s.processors = omega arith in
-    replies_last_told s c.args.self.now.telling g p vs c.index.result.now within (machine_read_at vs p c.index.result.now lt c.index.ensures) knows.replies
-    c.last_of.result (c.last_of.ensures ∙ ap (machine_last_or 0) c.deref.ensures.value) sum
+    machine_reply_last_told s c.args.self.now.telling g p vs c.index.result.now within (machine_step_read_at vs p c.index.result.now lt c.index.ensures) knows.replies
+    c.flat_state_last_of.result (c.flat_state_last_of.ensures ∙ ap (machine_last_or 0) c.deref.ensures.value) sum

@@ -4,7 +4,7 @@ use Rattle.std.proofs.lemmas.Bool.{cases_eq, cases_lt}
 use Rattle.std.proofs.lemmas.Option.{none-some}
 use Rattle.std.proofs.lemmas.List.{get_or_append_left, get_or_past, get_or_push}
 use Rattle.journal.specs.DidEvent.{event}
-use Rattle.judge.specs.Why.{AwaitsKind}
+use Rattle.judge.specs.Why.{WhyWaitsFor}
 use Rattle.explore.proofs.flat_state.FlatState.waits.Goals as goal
 
 pub loop-processor-preserved : goal.loop-processor-preserved
@@ -18,14 +18,14 @@ loop-processor-preserved c =
     record {
       long = (let was = old.long in omega arith);
       each = λ j tells p k lt.
-          subst (λ ys. (slice_index_or ys p None ≡ Some k) ↔ AwaitsKind j p k) (sym items)
+          subst (λ ys. (slice_index_or ys p None ≡ Some k) ↔ WhyWaitsFor j p k) (sym items)
           (elim (cases_eq p n) [
             | inl is ↦
-                subst (λ x. (x ≡ Some k) ↔ AwaitsKind j p k) (sym (get_or_push xs o None p (old.long ∙ sym is)))
-                (subst (λ q. (o ≡ Some k) ↔ AwaitsKind j q k) (sym is) (c.of.ensures j tells k))
+                subst (λ x. (x ≡ Some k) ↔ WhyWaitsFor j p k) (sym (get_or_push xs o None p (old.long ∙ sym is)))
+                (subst (λ q. (o ≡ Some k) ↔ WhyWaitsFor j q k) (sym is) (c.of.ensures j tells k))
             | inr isnt ↦
                 (let was = old.long in
-                subst (λ x. (x ≡ Some k) ↔ AwaitsKind j p k) (sym (get_or_append_left xs (o ∷ []) None p (omega arith)))
+                subst (λ x. (x ≡ Some k) ↔ WhyWaitsFor j p k) (sym (get_or_append_left xs (o ∷ []) None p (omega arith)))
                 (old.each j tells p k (omega arith)))
           ]);
     }

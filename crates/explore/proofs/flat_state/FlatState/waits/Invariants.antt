@@ -2,13 +2,13 @@ use Rattle.std.proofs.Common.{ℕ, ◌≡◌, ◌<◌, ◌↔◌, List, Some, le
 use Rattle.std.specs.Prelude.{None}
 use Rattle.journal.specs.declared.event.Event.{Event}
 use Rattle.journal.specs.declared.event.Kind.{Kind}
-use Rattle.judge.specs.Why.{AwaitsKind}
-use Rattle.explore.specs.Waiting.{TellsWaiting}
+use Rattle.judge.specs.Why.{WhyWaitsFor}
+use Rattle.explore.specs.KeptWaiting.{TellsKeptWaiting}
 use Rattle.explore.proofs.flat_state.FlatState.waits.Given as goal
 
 abbrev pub invariant-loop-processor : goal.invariant-loop-processor
 invariant-loop-processor l = record {
   long : length l.waits.items ≡ l.processor;
-  each : (j : List Event) → TellsWaiting j l.self.waiting → (p : ℕ) (k : Kind) → p < l.processor
-      → (slice_index_or l.waits.items p None ≡ Some k) ↔ AwaitsKind j p k;
+  each : (j : List Event) → TellsKeptWaiting j l.self.waiting → (p : ℕ) (k : Kind) → p < l.processor
+      → (slice_index_or l.waits.items p None ≡ Some k) ↔ WhyWaitsFor j p k;
 }

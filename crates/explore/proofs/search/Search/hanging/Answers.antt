@@ -1,9 +1,9 @@
 use Rattle.std.proofs.Common.{length, subst, refl}
 use Rattle.std.specs.Prelude.{MatchOption}
 use Rattle.lrc_script.specs.Plan.{plan_of}
-use Rattle.explore.specs.Found.{states_found}
-use Rattle.explore.specs.Searched.{StateHangs, NoStateHangs}
-use Rattle.explore.proofs.Searched.{searched_none_hangs}
+use Rattle.explore.specs.FoundStates.{found_states}
+use Rattle.explore.specs.FlatSearch.{FlatSearchHasHang, FlatSearchHasNoHang}
+use Rattle.explore.proofs.SearchedStates.{searched_states_none_hangs}
 use Rattle.explore.proofs.search.Search.hanging.Goals as goal
 
 pub hang_at-requires-clause-hangs : goal.hang_at-requires-clause-hangs
@@ -11,7 +11,7 @@ hang_at-requires-clause-hangs c =
     let s = plan_of c.args.script.now in
     let x = c.args.self.now in
     let some = c.requires.searched.2.some in
-    let noted = subst (λ o. MatchOption o (NoStateHangs s (states_found x.found) some.0) (StateHangs s (states_found x.found))) c.in-Some.is
+    let noted = subst (λ o. MatchOption o (FlatSearchHasNoHang s (found_states x.found) some.0) (FlatSearchHasHang s (found_states x.found))) c.in-Some.is
     some.1.noted.hang in
     (s, some.1.found, noted)
 
@@ -20,7 +20,7 @@ returns-in_ok-hang_at-in-Some-clause-hanging c =
     let s = plan_of c.args.script.now in
     let x = c.args.self.now in
     let some = c.requires.searched.2.some in
-    let noted = subst (λ o. MatchOption o (NoStateHangs s (states_found x.found) some.0) (StateHangs s (states_found x.found))) c.in-Some.is
+    let noted = subst (λ o. MatchOption o (FlatSearchHasNoHang s (found_states x.found) some.0) (FlatSearchHasHang s (found_states x.found))) c.in-Some.is
     some.1.noted.hang in
     c.in_ok-hang_at-in-Some.ensures s refl some.1.found noted
 
@@ -28,8 +28,8 @@ pub returns-in-None-clause-hanging : goal.returns-in-None-clause-hanging
 returns-in-None-clause-hanging c =
     let s = plan_of c.args.script.now in
     let x = c.args.self.now in
-    let n = length (states_found x.found) in
+    let n = length (found_states x.found) in
     let searched = c.requires.searched.2.all c.if-through.true in
-    searched_none_hangs s x c.requires.searched.0 c.requires.searched.1 searched
-    (subst (λ o. MatchOption o (NoStateHangs s (states_found x.found) n) (StateHangs s (states_found x.found))) c.in-None.is
+    searched_states_none_hangs s x c.requires.searched.0 c.requires.searched.1 searched
+    (subst (λ o. MatchOption o (FlatSearchHasNoHang s (found_states x.found) n) (FlatSearchHasHang s (found_states x.found))) c.in-None.is
     searched.noted.hang)

@@ -1,8 +1,8 @@
 use Rattle.std.proofs.Common.{ℕ, ◌≡◌, ◌<◌, ◌≤◌, ◌↔◌, inl, inr, Bool, false, IsTrue, length, refl, subst, sym, ◌∙◌, arith}
 use Rattle.std.proofs.lemmas.Bool.{cases_lt, false≢true}
-use Rattle.explore.specs.Found.{states_found}
-use Rattle.explore.specs.Searched.{IsSearchedAt, SearchedUpTo}
-use Rattle.explore.proofs.Machines.{machine_none_of}
+use Rattle.explore.specs.FoundStates.{found_states}
+use Rattle.explore.specs.FlatSearch.{IsFlatSearchedAt, FlatSearchedUpTo}
+use Rattle.explore.proofs.MachineSteps.{machine_step_none_of}
 use Rattle.explore.proofs.search.Search.look_at_all.Goals as goal
 
 -- the states are no more than these
@@ -12,17 +12,17 @@ not_past most states past tells isnt = elim (cases_lt most states) [
   | inr le ↦ omega (arith, le)
 ]
 
-pub returns-then-is_past-clause-looked : goal.returns-then-is_past-clause-looked
-returns-then-is_past-clause-looked g c = λ s lawful searched. record {
+pub returns-then-is_search_past-clause-looked : goal.returns-then-is_search_past-clause-looked
+returns-then-is_search_past-clause-looked g c = λ s lawful searched. record {
   some = (c.loop-place.place, c.loop-place.invariant.searched s lawful searched);
-  end = λ few. absurd (let over = c.is_past.ensures.0 c.if-is_past.true in let is = c.len-states.ensures.count in omega arith);
+  end = λ few. absurd (let over = c.is_search_past.ensures.0 c.if-is_search_past.true in let is = c.len-states.ensures.count in omega arith);
 }
 
 pub returns-then-place-states-clause-looked : goal.returns-then-place-states-clause-looked
 returns-then-place-states-clause-looked g c = λ s lawful searched. record {
   some = (c.loop-place.place, c.loop-place.invariant.searched s lawful searched);
   end = λ few.
-      subst (SearchedUpTo s c.loop-place.self c.args.steps.now) (c.if-place-states.true ∙ c.len-states.ensures.count)
+      subst (FlatSearchedUpTo s c.loop-place.self c.args.steps.now) (c.if-place-states.true ∙ c.len-states.ensures.count)
       (c.loop-place.invariant.searched s lawful searched);
 }
 
@@ -33,8 +33,8 @@ loop-place-init g c = record {
   telling = λ s lawful searched. refl;
 }
 
-pub returns-then-is_past-clause-few : goal.returns-then-is_past-clause-few
-returns-then-is_past-clause-few g c = c.loop-place.invariant.few
+pub returns-then-is_search_past-clause-few : goal.returns-then-is_search_past-clause-few
+returns-then-is_search_past-clause-few g c = c.loop-place.invariant.few
 
 pub returns-then-place-states-clause-few : goal.returns-then-place-states-clause-few
 returns-then-place-states-clause-few g c = c.loop-place.invariant.few
@@ -46,7 +46,7 @@ look_at-requires-clause-unvisited g c =
     let within = searched.within in
     let is = c.len-states.ensures.count in
     let isnt = c.if-place-states.false in
-    let lt : c.loop-place.place < length (states_found c.loop-place.self.found) = omega arith in
+    let lt : c.loop-place.place < length (found_states c.loop-place.self.found) = omega arith in
     (s, record { lawful = c.requires.searched.1; searched = searched; more = lt })
 
 pub loop-place-preserved : goal.loop-place-preserved
@@ -56,17 +56,17 @@ loop-place-preserved g c = record {
       let within = old.within in
       let is = c.len-states.ensures.count in
       let isnt = c.if-place-states.false in
-      let lt : c.loop-place.place < length (states_found c.loop-place.self.found) = omega (arith, within, is, isnt) in
-      subst (λ o. IsSearchedAt s c.look_at.new.self c.args.steps.now c.loop-place.place o)
-      (machine_none_of c.in_ok-neighbours.field-0 c.in_default.not-Some)
+      let lt : c.loop-place.place < length (found_states c.loop-place.self.found) = omega (arith, within, is, isnt) in
+      subst (λ o. IsFlatSearchedAt s c.look_at.new.self c.args.steps.now c.loop-place.place o)
+      (machine_step_none_of c.in_ok-neighbours.field-0 c.in_default.not-Some)
       (c.in_ok-neighbours.ensures.looked s (record { lawful = lawful; searched = old; more = lt }));
   few = λ s lawful searched one.
       let old = c.loop-place.invariant.searched s lawful searched in
       let within = old.within in
       let is = c.len-states.ensures.count in
       let isnt = c.if-place-states.false in
-      let lt : c.loop-place.place < length (states_found c.loop-place.self.found) = omega (arith, within, is, isnt) in
-      let under = not_past c.args.most c.len-states.result c.is_past.result c.is_past.ensures c.if-is_past.false in
+      let lt : c.loop-place.place < length (found_states c.loop-place.self.found) = omega (arith, within, is, isnt) in
+      let under = not_past c.args.most c.len-states.result c.is_search_past.result c.is_search_past.ensures c.if-is_search_past.false in
       let more = (c.in_ok-neighbours.ensures.found s (record { lawful = lawful; searched = old; more = lt })).1 in
       omega (arith, more, under, is);
   telling = λ s lawful searched.
@@ -74,7 +74,7 @@ loop-place-preserved g c = record {
       let within = old.within in
       let is = c.len-states.ensures.count in
       let isnt = c.if-place-states.false in
-      let lt : c.loop-place.place < length (states_found c.loop-place.self.found) = omega (arith, within, is, isnt) in
+      let lt : c.loop-place.place < length (found_states c.loop-place.self.found) = omega (arith, within, is, isnt) in
       (c.in_ok-neighbours.ensures.found s (record { lawful = lawful; searched = old; more = lt })).2
       ∙ c.loop-place.invariant.telling s lawful searched;
 }
@@ -85,9 +85,9 @@ returns-in-Some-clause-looked g c = λ s lawful searched.
     let within = old.within in
     let is = c.len-states.ensures.count in
     let isnt = c.if-place-states.false in
-    let lt : c.loop-place.place < length (states_found c.loop-place.self.found) = omega (arith, within, is, isnt) in
+    let lt : c.loop-place.place < length (found_states c.loop-place.self.found) = omega (arith, within, is, isnt) in
     let both =
-    subst (λ o. IsSearchedAt s c.look_at.new.self c.args.steps.now c.loop-place.place o) c.in-Some.is
+    subst (λ o. IsFlatSearchedAt s c.look_at.new.self c.args.steps.now c.loop-place.place o) c.in-Some.is
     (c.in_ok-neighbours.ensures.looked s (record { lawful = lawful; searched = old; more = lt })) in
     record { some = (c.loop-place.place, both.0); end = both.1 }
 
@@ -97,8 +97,8 @@ returns-in-Some-clause-few g c = λ s lawful searched one.
     let within = old.within in
     let is = c.len-states.ensures.count in
     let isnt = c.if-place-states.false in
-    let lt : c.loop-place.place < length (states_found c.loop-place.self.found) = omega (arith, within, is, isnt) in
-    let under = not_past c.args.most c.len-states.result c.is_past.result c.is_past.ensures c.if-is_past.false in
+    let lt : c.loop-place.place < length (found_states c.loop-place.self.found) = omega (arith, within, is, isnt) in
+    let under = not_past c.args.most c.len-states.result c.is_search_past.result c.is_search_past.ensures c.if-is_search_past.false in
     let more = (c.in_ok-neighbours.ensures.found s (record { lawful = lawful; searched = old; more = lt })).1 in
     omega (arith, more, under, is)
 
@@ -110,12 +110,12 @@ returns-clause-looked g c = λ s lawful searched.
       end = λ few.
           let within = old.within in
           let over = c.loop-place-test.false in
-          let end : c.loop-place.place ≡ length (states_found c.loop-place.self.found) = omega arith in
-          subst (SearchedUpTo s c.loop-place.self c.args.steps.now) end old;
+          let end : c.loop-place.place ≡ length (found_states c.loop-place.self.found) = omega arith in
+          subst (FlatSearchedUpTo s c.loop-place.self c.args.steps.now) end old;
     }
 
-pub returns-then-is_past-clause-telling : goal.returns-then-is_past-clause-telling
-returns-then-is_past-clause-telling g c = c.loop-place.invariant.telling
+pub returns-then-is_search_past-clause-telling : goal.returns-then-is_search_past-clause-telling
+returns-then-is_search_past-clause-telling g c = c.loop-place.invariant.telling
 
 pub returns-then-place-states-clause-telling : goal.returns-then-place-states-clause-telling
 returns-then-place-states-clause-telling g c = c.loop-place.invariant.telling
@@ -126,7 +126,7 @@ returns-in-Some-clause-telling g c = λ s lawful searched.
     let within = old.within in
     let is = c.len-states.ensures.count in
     let isnt = c.if-place-states.false in
-    let lt : c.loop-place.place < length (states_found c.loop-place.self.found) = omega (arith, within, is, isnt) in
+    let lt : c.loop-place.place < length (found_states c.loop-place.self.found) = omega (arith, within, is, isnt) in
     (c.in_ok-neighbours.ensures.found s (record { lawful = lawful; searched = old; more = lt })).2
     ∙ c.loop-place.invariant.telling s lawful searched
 

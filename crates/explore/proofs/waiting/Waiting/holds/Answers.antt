@@ -1,7 +1,7 @@
 use Rattle.std.proofs.Common.{ap, sym, Some, ◌∙◌}
 use Rattle.std.proofs.lemmas.Bool.{eq-eqb, eqb-true, false≢true}
 use Rattle.std.proofs.lemmas.Option.{none-some, same_Some}
-use Rattle.explore.specs.Waits.{wait_code_seated}
+use Rattle.explore.specs.WaitCodes.{wait_code_seated}
 use Rattle.explore.proofs.waiting.Waiting.holds.Goals as goal
 
 pub returns-in-Some : goal.returns-in-Some

@@ -3,16 +3,16 @@ use Rattle.std.specs.Prelude.{None}
 use Rattle.std.proofs.lemmas.Bool.{false≢true}
 use Rattle.journal.specs.declared.event.Event.{Event}
 use Rattle.journal.specs.declared.event.Kind.TheVariants.{Depart}
-use Rattle.journal.specs.Events.{count_of, is_depart}
-use Rattle.judge.specs.Why.{AwaitsKind}
+use Rattle.journal.specs.Events.{event_count, event_departs}
+use Rattle.judge.specs.Why.{WhyWaitsFor}
 use Rattle.explore.specs.declared.waiting.Waiting.{Waiting}
-use Rattle.explore.specs.Waiting.{TellsWaiting}
-use Rattle.explore.proofs.Waits.{wait_code_open_barrier}
+use Rattle.explore.specs.KeptWaiting.{TellsKeptWaiting}
+use Rattle.explore.proofs.WaitCodes.{wait_code_open_barrier}
 use Rattle.explore.proofs.waiting.Waiting.may_depart.Goals as goal
 
 -- who waits at the barrier has arrived once more than it has departed
-arrived : (j : List Event) (x : Waiting) (p : ℕ) → TellsWaiting j x → AwaitsKind j p Depart
-    → slice_index x.arrivals p ≡ count_of is_depart j p + 1
+arrived : (j : List Event) (x : Waiting) (p : ℕ) → TellsKeptWaiting j x → WhyWaitsFor j p Depart
+    → slice_index x.arrivals p ≡ event_count event_departs j p + 1
 arrived j x p tells waits =
     let one = wait_code_open_barrier (slice_index_or x.waits p None) ((tells.waits p Depart).1 waits) in
     let departed = tells.departures p in

@@ -3,11 +3,11 @@ use Rattle.std.specs.Prelude.{None}
 use Rattle.std.proofs.lemmas.Bool.{false≢true}
 use Rattle.std.proofs.lemmas.Option.{none-some}
 use Rattle.journal.specs.WellFormed.{Holds}
-use Rattle.judge.specs.FrontTells.{TellsFlagSet}
-use Rattle.base.proofs.Joined.{has-nil, in_order-nil}
+use Rattle.judge.specs.FrontTells.{FrontTellsFlagSet}
+use Rattle.base.proofs.JoinedLists.{joined_list_has-nil, joined_list_in_order-nil}
 use Rattle.base.proofs.SliceSets.{index-zeros}
-use Rattle.explore.specs.Waiting.{AreAskedWaiting}
-use Rattle.explore.specs.Waits.{WaitsAreKept, wait_code_arrivals_open, wait_code_ending, wait_code_seated}
+use Rattle.explore.specs.KeptWaiting.{AreKeptWaitingAsks}
+use Rattle.explore.specs.WaitCodes.{WaitCodesAreKept, wait_code_arrivals_open, wait_code_ending, wait_code_seated}
 use Rattle.explore.proofs.waiting.Waiting.new.Goals as goal
 
 -- a list of one item over and over, with that past its end
@@ -16,7 +16,7 @@ always zero p d = refl
 always (suc n) zero d = refl
 always (suc n) (suc p) d = always n p d
 
-no_wait : WaitsAreKept [] (replicate 16 None)
+no_wait : WaitCodesAreKept [] (replicate 16 None)
 no_wait p k = (
   λ is. absurd (none-some k (sym (ap wait_code_ending (always 16 p None)) ∙ is)),
   λ waits. absurd (none-some _ waits.last.does),
@@ -28,14 +28,14 @@ no_holder l q = (
   λ holds. absurd (none-some _ holds.acquires),
 )
 
-no_flag : (f : ℕ) → IsTrue (slice_index_or (replicate 32 false) f false) ↔ TellsFlagSet [] f
+no_flag : (f : ℕ) → IsTrue (slice_index_or (replicate 32 false) f false) ↔ FrontTellsFlagSet [] f
 no_flag f = ((λ is. absurd (false≢true (sym (always 32 f false) ∙ is))), (λ set. absurd (none-some _ set.2)))
 
-none_asked : AreAskedWaiting [] []
+none_asked : AreKeptWaitingAsks [] []
 none_asked = record {
-  each = λ p. ((λ has. absurd (has-nil p has)), (λ asks. absurd (none-some _ asks.1.1.does)));
-  order = in_order-nil _;
-  small = λ p has. absurd (has-nil p has);
+  each = λ p. ((λ has. absurd (joined_list_has-nil p has)), (λ asks. absurd (none-some _ asks.1.1.does)));
+  order = joined_list_in_order-nil _;
+  small = λ p has. absurd (joined_list_has-nil p has);
 }
 
 pub returns : goal.returns
@@ -49,5 +49,5 @@ returns c = record {
   departures = λ p. ap (λ o. 0 + wait_code_arrivals_open o) (always 16 p None);
   holders = no_holder;
   flags = no_flag;
-  asked = subst (AreAskedWaiting []) (sym c.new.ensures.items) none_asked;
+  asked = subst (AreKeptWaitingAsks []) (sym c.new.ensures.items) none_asked;
 }

@@ -1,6 +1,6 @@
 use Rattle.std.proofs.Common.{◌≡◌, ap, ◌∙◌, arith, replicate, refl, ℕ}
-use Rattle.interval.specs.Queues.{queue_by_place}
-use Rattle.interval.proofs.Queues.Empty.{one_more_empty, are_none_queued}
+use Rattle.interval.specs.IntervalQueues.{interval_queue_by_place}
+use Rattle.interval.proofs.Queues.Empty.{one_more_empty, are_empty_queues}
 use Rattle.interval.proofs.closed.Closed.new.Goals as goal
 
 pub loop-init : goal.loop-init
@@ -15,10 +15,10 @@ all : (c : goal.After-loop) → c.loop.counter ≡ c.args.owners
 all c = omega arith
 
 pub invariant_of-result : goal.invariant_of-result
-invariant_of-result c = are_none_queued c.loop.queues.items c.loop.invariant.none
+invariant_of-result c = are_empty_queues c.loop.queues.items c.loop.invariant.none
 
 pub returns-clause-kept : goal.returns-clause-kept
-returns-clause-kept c = ap queue_by_place c.loop.invariant.none
+returns-clause-kept c = ap interval_queue_by_place c.loop.invariant.none
 
 pub returns-clause-first : goal.returns-clause-first
 returns-clause-first c = c.loop.invariant.first ∙ ap (λ (n : ℕ). replicate n 0) (all c)

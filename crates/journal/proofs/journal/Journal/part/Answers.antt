@@ -1,12 +1,12 @@
 use Rattle.std.proofs.Common.{ℕ, ◌≤◌, List, Option, Some, None, MatchOption, IfSome, length, drop, length-drop, arith}
 use Rattle.base.specs.Limits.{most_held}
 use Rattle.journal.specs.declared.event.Event.{Event}
-use Rattle.journal.specs.EpisodeBases.{IsEpisodeCut, NoEpisodeCut}
+use Rattle.journal.specs.EpisodeBases.{IsEpisodeBaseFront, NoEpisodeBaseFront}
 use Rattle.journal.proofs.journal.Journal.part.Goals as goal
 
 -- a cut takes no more than there is
 few_taken : (processors : ℕ) (j : List Event) → length j ≤ most_held → (o : Option ℕ)
-    → MatchOption o (NoEpisodeCut processors j) (λ n. IsEpisodeCut processors j n) → IfSome o (λ n. n ≤ most_held)
+    → MatchOption o (NoEpisodeBaseFront processors j) (λ n. IsEpisodeBaseFront processors j n) → IfSome o (λ n. n ≤ most_held)
 few_taken processors j few None h = tt
 few_taken processors j few (Some n) h = let within = h.within in omega arith
 

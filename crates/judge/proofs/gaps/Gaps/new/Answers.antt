@@ -3,19 +3,19 @@ use Rattle.base.proofs.SliceSets.{index-zeros}
 use Rattle.std.proofs.lemmas.Option.{none-some}
 use Rattle.journal.specs.declared.event.Kind.TheVariants.{Store}
 use Rattle.journal.specs.DidEvent.{event}
-use Rattle.judge.specs.Sizes.{sizes_of}
-use Rattle.judge.specs.Gaps.{GapStoresAt, GapStoresInPage, GapStoresWord, gap_fetch_clock, gap_fetch_time}
-use Rattle.judge.specs.GapTally.{gap_tally_row_index}
-use Rattle.judge.proofs.InGaps.{fetched_none_in_gap}
-use Rattle.judge.proofs.GapTallyRows.{tally_none}
+use Rattle.judge.specs.JudgedSizes.{judged_sizes_of}
+use Rattle.judge.specs.FetchGaps.{FetchGapStoreAt, FetchGapStoreInPage, FetchGapStoreOfWord, fetch_gap_clock, fetch_gap_time}
+use Rattle.judge.specs.GapTally.{gap_tally_place_of}
+use Rattle.judge.proofs.GapEvents.{gap_event_fetched_start}
+use Rattle.judge.proofs.TallyRows.{tally_rows_and_marks_none}
 use Rattle.judge.proofs.gaps.Gaps.new.Goals as goal
 
-nothing : (a q k : ℕ) → ¬ GapStoresAt [] a q k
+nothing : (a q k : ℕ) → ¬ FetchGapStoreAt [] a q k
 nothing a q k x = none-some (event q (Store a x.1)) x.2
 
 pub returns-clause-tells : goal.returns-clause-tells
 returns-clause-tells c =
-    let s = sizes_of c.args.sizes in
+    let s = judged_sizes_of c.args.sizes in
     let fetched = c.in_ok-new-2.field-0 in
     let sparse = c.in_ok-new-2.ensures.sparse in
     record {
@@ -30,16 +30,16 @@ returns-clause-tells c =
         words = c.in_ok-new-4.ensures.room;
       };
       are = record {
-        fetched = λ n p lt. fetched_none_in_gap s p n (gap_fetch_time fetched (gap_tally_row_index n p))
-            (λ q. ap (λ (o : Option (List ℕ)). slice_index (gap_fetch_clock o) q) (c.in_ok-new-2.ensures.none (gap_tally_row_index n p))
+        fetched = λ n p lt. gap_event_fetched_start s p n (fetch_gap_time fetched (gap_tally_place_of n p))
+            (λ q. ap (λ (o : Option (List ℕ)). slice_index (fetch_gap_clock o) q) (c.in_ok-new-2.ensures.none (gap_tally_place_of n p))
             ∙ index-zeros 16 q);
         intervals =
-            tally_none (GapStoresInPage s []) (λ z. z) (GapStoresInPage s []) c.in_ok-new-3.field-0
+            tally_rows_and_marks_none (FetchGapStoreInPage s []) (λ z. z) (FetchGapStoreInPage s []) c.in_ok-new-3.field-0
             (c.in_ok-new-3.ensures.few_rows, c.in_ok-new-3.ensures.few_marks)
             c.in_ok-new-3.ensures.empty c.in_ok-new-3.ensures.unmarked (λ m r z h. nothing h.0 r z h.1.0)
             (λ m r z h. nothing h.0 r z h.1.0);
         words =
-            tally_none (GapStoresWord s []) (λ z. z.0) (GapStoresAt []) c.in_ok-new-4.field-0
+            tally_rows_and_marks_none (FetchGapStoreOfWord s []) (λ z. z.0) (FetchGapStoreAt []) c.in_ok-new-4.field-0
             (c.in_ok-new-4.ensures.few_rows, c.in_ok-new-4.ensures.few_marks)
             c.in_ok-new-4.ensures.empty c.in_ok-new-4.ensures.unmarked (λ m r z h. nothing z.1 r z.0 h.0)
             nothing;

@@ -5,52 +5,52 @@ use Rattle.journal.specs.declared.event.Event.{Event}
 use Rattle.journal.specs.declared.event.Kind.TheVariants.{Store, Fetch}
 use Rattle.journal.specs.Sizes.{Sizes}
 use Rattle.journal.specs.DidEvent.{did, event}
-use Rattle.journal.specs.Events.{count_of, is_closing}
+use Rattle.journal.specs.Events.{event_count, event_closes}
 use Rattle.journal.specs.ClockEntry.{entry}
-use Rattle.journal.proofs.Times.PushesCovered.{own_time_entry}
+use Rattle.journal.proofs.Times.PushedTimes.{pushed_time_own_entry}
 use Rattle.judge.specs.declared.gaps.Gaps.{Gaps}
-use Rattle.judge.specs.declared.tally.Tally.{Tally}
-use Rattle.judge.specs.Sizes.{sizes_of}
-use Rattle.judge.specs.Gaps.{AreGapsOf, TellsGaps, GapStoresAt, GapStoresInPage, GapStoresWord, gap_fetch_time}
-use Rattle.judge.specs.GapTally.{AddsToGapTally, IsGapTallyOfValues, gap_tally_row_index}
-use Rattle.judge.proofs.GapTallyRows.{tally_next}
-use Rattle.judge.proofs.InGaps.{fetched_others_in_gap, pages_next_in_gap, stores_bound_in_gap, stores_next_in_gap, words_next_in_gap}
+use Rattle.judge.specs.declared.gap_tally.GapTally.{GapTally}
+use Rattle.judge.specs.JudgedSizes.{judged_sizes_of}
+use Rattle.judge.specs.FetchGaps.{AreFetchGapsOf, TellsFetchGaps, FetchGapStoreAt, FetchGapStoreInPage, FetchGapStoreOfWord, fetch_gap_time}
+use Rattle.judge.specs.GapTally.{GapTallyAdds, IsGapTallyOfValues, gap_tally_place_of}
+use Rattle.judge.proofs.TallyRows.{tally_rows_and_marks_next}
+use Rattle.judge.proofs.GapEvents.{gap_event_fetched_others, gap_event_page_next, gap_event_store_bound, gap_event_store_next, gap_event_word_next}
 use Rattle.judge.proofs.gaps.Gaps.tally.Goals as goal
 
 not_fetch : (q a v p n w r d : ℕ) → event q (Store a v) ≡ event p (Fetch w n r d) → ⊥
 not_fetch q a v p n w r d is = let kind = ap (λ (e : Event). e.kind) is in let kinds : Store a v ≡ Fetch w n r d = kind in cc
 
 -- the open interval is few
-own_few : (j : List Event) (p : ℕ) → count_of is_closing j p ≤ length j
-own_few j p = count_by-le-length (λ (e : Event). (e.processor == p) && is_closing e.kind) j
+own_few : (j : List Event) (p : ℕ) → event_count event_closes j p ≤ length j
+own_few j p = count_by-le-length (λ (e : Event). (e.processor == p) && event_closes e.kind) j
 
 -- what both tallies add is what is kept after the store
-stored : (g : Gaps) (j : List Event) (q a v k n : ℕ) (intervals words : Tally) → TellsGaps j g → q < 16
-    → k ≡ count_of is_closing j q → n ≡ a / g.sizes.words
-    → AddsToGapTally g.intervals intervals (gap_tally_row_index n q) (gap_tally_row_index n q) k → AddsToGapTally g.words words (gap_tally_row_index n q) (gap_tally_row_index a q) k
-    → AreGapsOf (did j q (Store a v)) (record g { intervals = intervals; words = words })
+stored : (g : Gaps) (j : List Event) (q a v k n : ℕ) (intervals words : GapTally) → TellsFetchGaps j g → q < 16
+    → k ≡ event_count event_closes j q → n ≡ a / g.sizes.words
+    → GapTallyAdds g.intervals intervals (gap_tally_place_of n q) (gap_tally_place_of n q) k → GapTallyAdds g.words words (gap_tally_place_of n q) (gap_tally_place_of a q) k
+    → AreFetchGapsOf (did j q (Store a v)) (record g { intervals = intervals; words = words })
 stored g j q a v k n intervals words tells lt is page first second = record {
-  fetched = λ m p within. fetched_others_in_gap s j (event q (Store a v)) p m (gap_fetch_time g.fetched (gap_tally_row_index m p))
+  fetched = λ m p within. gap_event_fetched_others s j (event q (Store a v)) p m (fetch_gap_time g.fetched (gap_tally_place_of m p))
       (λ w r d. not_fetch q a v p m w r d) (tells.are.fetched m p within);
   intervals =
-      subst (λ x. IsGapTallyOfValues (GapStoresInPage s after) (λ z. z) (GapStoresInPage s after) x intervals) (sym long)
-      (tally_next lt (pages_next_in_gap s j q a v)
-      (pages_next_in_gap s j q a v) (λ h. h, λ h. h) (λ z h. stores_bound_in_gap j h.0 q z h.1.0)
-      (λ z h. stores_bound_in_gap j h.0 q z h.1.0)
-      (subst (λ x. AddsToGapTally g.intervals intervals (gap_tally_row_index x q) (gap_tally_row_index x q) (count_of is_closing j q)) page
-      (subst (AddsToGapTally g.intervals intervals (gap_tally_row_index n q) (gap_tally_row_index n q)) is first)) tells.are.intervals);
+      subst (λ x. IsGapTallyOfValues (FetchGapStoreInPage s after) (λ z. z) (FetchGapStoreInPage s after) x intervals) (sym long)
+      (tally_rows_and_marks_next lt (gap_event_page_next s j q a v)
+      (gap_event_page_next s j q a v) (λ h. h, λ h. h) (λ z h. gap_event_store_bound j h.0 q z h.1.0)
+      (λ z h. gap_event_store_bound j h.0 q z h.1.0)
+      (subst (λ x. GapTallyAdds g.intervals intervals (gap_tally_place_of x q) (gap_tally_place_of x q) (event_count event_closes j q)) page
+      (subst (GapTallyAdds g.intervals intervals (gap_tally_place_of n q) (gap_tally_place_of n q)) is first)) tells.are.intervals);
   words =
-      subst (λ x. IsGapTallyOfValues (GapStoresWord s after) (λ z. z.0) (GapStoresAt after) x words) (sym long)
-      (tally_next lt (words_next_in_gap s j q a v)
-      (stores_next_in_gap j q a v) (λ h. h.0, λ h. (h, refl)) (λ z h. stores_bound_in_gap j z.1 q z.0 h.0)
-      (λ z h. stores_bound_in_gap j a q z h)
-      (subst (λ x. AddsToGapTally g.words words (gap_tally_row_index x q) (gap_tally_row_index a q) (count_of is_closing j q)) page
-      (subst (AddsToGapTally g.words words (gap_tally_row_index n q) (gap_tally_row_index a q)) is second)) tells.are.words);
+      subst (λ x. IsGapTallyOfValues (FetchGapStoreOfWord s after) (λ z. z.0) (FetchGapStoreAt after) x words) (sym long)
+      (tally_rows_and_marks_next lt (gap_event_word_next s j q a v)
+      (gap_event_store_next j q a v) (λ h. h.0, λ h. (h, refl)) (λ z h. gap_event_store_bound j z.1 q z.0 h.0)
+      (λ z h. gap_event_store_bound j a q z h)
+      (subst (λ x. GapTallyAdds g.words words (gap_tally_place_of x q) (gap_tally_place_of a q) (event_count event_closes j q)) page
+      (subst (GapTallyAdds g.words words (gap_tally_place_of n q) (gap_tally_place_of a q)) is second)) tells.are.words);
   few = (let few = tells.are.few in omega (arith, long, few));
 }
   where
     s : Sizes
-    s = sizes_of g.sizes
+    s = judged_sizes_of g.sizes
 
     after : List Event
     after = did j q (Store a v)
@@ -59,15 +59,15 @@ stored g j q a v k n intervals words tells lt is page first second = record {
     long = let sum = length-append j (event q (Store a v) ∷ []) in omega arith
 
 -- the interval that is read is the open one
-own : (j : List Event) (g : Gaps) (p : ℕ) (time : List ℕ) → TellsGaps j g → p < 16
+own : (j : List Event) (g : Gaps) (p : ℕ) (time : List ℕ) → TellsFetchGaps j g → p < 16
     → ((q : ℕ) → slice_index time q ≡ entry g.clocks.processors.items p q)
-    → slice_index time p ≡ count_of is_closing j p
-own j g p time tells lt is = is p ∙ own_time_entry j p (entry g.clocks.processors.items p) (tells.clocks.times p lt)
+    → slice_index time p ≡ event_count event_closes j p
+own j g p time tells lt is = is p ∙ pushed_time_own_entry j p (entry g.clocks.processors.items p) (tells.clocks.times p lt)
 
-sixteen : (j : List Event) (g : Gaps) (p : ℕ) → TellsGaps j g → p < g.sizes.processors → p < 16
+sixteen : (j : List Event) (g : Gaps) (p : ℕ) → TellsFetchGaps j g → p < g.sizes.processors → p < 16
 sixteen j g p tells lt = let small = tells.long.sizes.processors in omega arith
 
-room : (j : List Event) (g : Gaps) (p : ℕ) (time : List ℕ) → TellsGaps j g → length j < 2 ^ 22 → p < g.sizes.processors
+room : (j : List Event) (g : Gaps) (p : ℕ) (time : List ℕ) → TellsFetchGaps j g → length j < 2 ^ 22 → p < g.sizes.processors
     → ((q : ℕ) → slice_index time q ≡ entry g.clocks.processors.items p q) → slice_index time p < 2 ^ 22
 room j g p time tells few lt is =
     let open_is = own j g p time tells (sixteen j g p tells lt) is in let le = own_few j p in omega arith
@@ -97,9 +97,9 @@ returns-clause-kept c =
     then c.add-2.result c.add-2.ensures.adds
     (λ second j tells v.
     let lt = sixteen j g q tells c.requires.processor in
-    let first = subst (λ r. AddsToGapTally g.intervals c.add.new.self r r interval) c.row_at-row.ensures c.in_ok-add.ensures.adds in
-    let both = subst (λ r. AddsToGapTally g.words c.add-2.new.self r (gap_tally_row_index a q) interval) c.row_at-row.ensures
-    (subst (λ r. AddsToGapTally g.words c.add-2.new.self c.row_at-row.result r interval) c.row_at.ensures second) in
+    let first = subst (λ r. GapTallyAdds g.intervals c.add.new.self r r interval) c.gap_row_at-row.ensures c.in_ok-add.ensures.adds in
+    let both = subst (λ r. GapTallyAdds g.words c.add-2.new.self r (gap_tally_place_of a q) interval) c.gap_row_at-row.ensures
+    (subst (λ r. GapTallyAdds g.words c.add-2.new.self c.gap_row_at-row.result r interval) c.gap_row_at.ensures second) in
     stored g j q a v interval n c.add.new.self c.add-2.new.self tells lt (own j g q c.of.result.now tells lt c.of.ensures)
     refl first both)
 

@@ -6,9 +6,9 @@ use Rattle.journal.specs.declared.event.Kind.TheVariants.{Load}
 use Rattle.journal.specs.DidEvent.{event}
 use Rattle.journal.specs.Sizes.{addresses}
 use Rattle.journal.specs.Races.{RaceFree}
-use Rattle.journal.specs.FlatMemory.{memory_after}
-use Rattle.judge.specs.Models.{IsOwed}
-use Rattle.judge.specs.Owed.{AreOwedBy, IsRacyWithNext}
+use Rattle.journal.specs.ReplayMemory.{memory_after}
+use Rattle.judge.specs.Models.{IsModelAnswer}
+use Rattle.judge.specs.Owed.{AreOwedBy, IsOwedRacy}
 use Rattle.judge.proofs.owed.Owed.may_answer.Goals as goal
 
 -- all events up to and with the last one
@@ -25,8 +25,8 @@ returns-then-is_racy c = λ m s owed few within racy.
     let v = c.args.value in
     let e = event c.args.processor (Load a v) in
     let o = subst (AreOwedBy m s j) c.in-RaceFree.is owed in
-    let none = subst (IsRacyWithNext j e) c.if-is_racy.true racy in (
-      λ yes_is. subst (λ x. IsOwed x s (j ++ e ∷ []) (length j) a v) (sym o.0)
+    let none = subst (IsOwedRacy j e) c.if-is_racy.true racy in (
+      λ yes_is. subst (λ x. IsModelAnswer x s (j ++ e ∷ []) (length j) a v) (sym o.0)
           (λ free. absurd (none (subst RaceFree (whole j e) free))),
       λ answer. c.if-is_racy.true,
     )
@@ -38,10 +38,10 @@ returns-else-is_racy c = λ m s owed few within racy.
     let v = c.args.value in
     let e = event c.args.processor (Load a v) in
     let o = subst (AreOwedBy m s j) c.in-RaceFree.is owed in
-    let free = subst (IsRacyWithNext j e) c.if-is_racy.false racy in (
-      λ yes_is. subst (λ x. IsOwed x s (j ++ e ∷ []) (length j) a v) (sym o.0) (λ so. c.may_answer.ensures.0 yes_is),
+    let free = subst (IsOwedRacy j e) c.if-is_racy.false racy in (
+      λ yes_is. subst (λ x. IsModelAnswer x s (j ++ e ∷ []) (length j) a v) (sym o.0) (λ so. c.may_answer.ensures.0 yes_is),
       λ answer. c.may_answer.ensures.1
-          (subst (λ x. IsOwed x s (j ++ e ∷ []) (length j) a v) o.0 answer (subst RaceFree (sym (whole j e)) free)),
+          (subst (λ x. IsModelAnswer x s (j ++ e ∷ []) (length j) a v) o.0 answer (subst RaceFree (sym (whole j e)) free)),
     )
 
 pub returns-in-Sequential : goal.returns-in-Sequential
@@ -54,6 +54,6 @@ returns-in-Sequential c = λ m s owed few within racy.
     let tells = c.has.ensures j (addresses s) o.1 within in
     let P : List Event → Type 0 = λ xs. slice_get (memory_after (replicate (addresses s) 0) xs) a ≡ Some v in
     let front = take-append_seam j (e ∷ []) in (
-      λ yes_is. subst (λ x. IsOwed x s (j ++ e ∷ []) (length j) a v) (sym o.0) (subst P (sym front) (tells.0 yes_is)),
-      λ answer. tells.1 (subst P front (subst (λ x. IsOwed x s (j ++ e ∷ []) (length j) a v) o.0 answer)),
+      λ yes_is. subst (λ x. IsModelAnswer x s (j ++ e ∷ []) (length j) a v) (sym o.0) (subst P (sym front) (tells.0 yes_is)),
+      λ answer. tells.1 (subst P front (subst (λ x. IsModelAnswer x s (j ++ e ∷ []) (length j) a v) o.0 answer)),
     )

@@ -6,12 +6,12 @@ use Rattle.journal.specs.declared.event.Event.{Event}
 use Rattle.journal.specs.declared.event.Kind.TheVariants.{Load}
 use Rattle.journal.specs.DidEvent.{event}
 use Rattle.journal.specs.Sizes.{Sizes, addresses}
-use Rattle.journal.proofs.Passes.NextClocks.{front_next}
-use Rattle.judge.specs.declared.sources.readable.Sources.{Sources}
-use Rattle.judge.specs.FlatMemory.{IsMemoryAfter}
+use Rattle.journal.proofs.Passes.NextClocks.{next_clocks_front}
+use Rattle.judge.specs.declared.sources.readable.ReadableSources.{ReadableSources}
+use Rattle.judge.specs.LastFlatStores.{HasLastFlatStores}
 use Rattle.judge.specs.Owed.{AreOwedBy, AreSourcesOfOwed}
-use Rattle.judge.specs.Sources.Tells.{AreSourceStoresOf}
-use Rattle.judge.proofs.InRange.{address_in_range}
+use Rattle.judge.specs.Sources.KeptSources.{AreKeptSourcesOf}
+use Rattle.judge.proofs.HistoryRanges.{history_range_address}
 use Rattle.judge.proofs.owed.Owed.note.Goals as goal
 
 -- what success gives gives more
@@ -20,7 +20,7 @@ given (Ok x) f p = f p
 given (Err e) f p = tt
 
 -- the sources after the event
-sources_next : (s : Sizes) (j now : List Event) (x y : Sources) → AreSourcesOfOwed s j x → AreSourceStoresOf now y
+sources_next : (s : Sizes) (j now : List Event) (x y : ReadableSources) → AreSourcesOfOwed s j x → AreKeptSourcesOf now y
     → y.processors ≡ x.processors → y.addresses ≡ x.addresses → AreSourcesOfOwed s now y
 sources_next s j now x y old tells processors places = record {
   tells = tells;
@@ -66,5 +66,5 @@ returns-in-Sequential c = λ m s owed range.
     let at = slice_get-get_or events place (event 0 (Load 0 0)) c.requires.place in
     let o = subst (AreOwedBy m s (take place events)) c.in-Sequential.is owed in
     let long = length-take-le place events (omega (arith, c.requires.place)) in
-    let next = c.note-in-Sequential.ensures (take place events) (addresses s) o.1 (address_in_range s e.kind (range place e at).kind) long in
-    (o.0, subst (λ xs. IsMemoryAfter xs (addresses s) c.note-in-Sequential.new.self) (sym (front_next events place e at)) next)
+    let next = c.note-in-Sequential.ensures (take place events) (addresses s) o.1 (history_range_address s e.kind (range place e at).kind) long in
+    (o.0, subst (λ xs. HasLastFlatStores xs (addresses s) c.note-in-Sequential.new.self) (sym (next_clocks_front events place e at)) next)

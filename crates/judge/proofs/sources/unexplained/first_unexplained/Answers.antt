@@ -5,13 +5,13 @@ use Rattle.journal.specs.declared.event.Event.{Event}
 use Rattle.journal.specs.declared.event.Kind.{Kind}
 use Rattle.journal.specs.declared.event.Kind.TheVariants.{Load}
 use Rattle.journal.specs.DidEvent.{event}
-use Rattle.journal.specs.Events.{At}
+use Rattle.journal.specs.Events.{EventAt}
 use Rattle.journal.specs.WellFormed.{Does}
-use Rattle.journal.specs.InRange.{AddressInRange, AddressesInRange, ProcessorsInRange}
+use Rattle.journal.specs.EventsInRange.{EventAddressInRange, EventAddressesInRange, EventProcessorsInRange}
 use Rattle.journal.specs.ExplainedAnswers.{Explained, IsAnswer}
-use Rattle.journal.proofs.Order.CountedAndNumbered.{numbered_at_same, numbered_at_within}
-use Rattle.judge.specs.Sources.Answers.{IsFirstUnexplained}
-use Rattle.judge.proofs.sources.Answering.{answer_in}
+use Rattle.journal.proofs.Order.EventPlacesAndCounts.{event_place_same, event_place_inside}
+use Rattle.judge.specs.Sources.LatestAnswers.{IsFirstNotLatestAnswer}
+use Rattle.judge.proofs.sources.Answering.{answering_in_front}
 use Rattle.judge.proofs.sources.unexplained.first_unexplained.Goals as goal
 
 -- the event at this place
@@ -24,7 +24,7 @@ AreExplained j k = (m p a v : ℕ) → m < k → Does j m p (Load a v) → IsAns
 
 -- an event that isn't explained is a load that answers what it may not
 first_wrong : (j : List Event) (k p : ℕ) (kind : Kind) → Does j k p kind → AreExplained j k
-    → ¬ ((a v : ℕ) → kind ≡ Load a v → IsAnswer j k a v) → IsFirstUnexplained j k
+    → ¬ ((a v : ℕ) → kind ≡ Load a v → IsAnswer j k a v) → IsFirstNotLatestAnswer j k
 first_wrong j k p (Load a v) does before wrong = record {
   by = p;
   address = a;
@@ -42,11 +42,11 @@ first_wrong j k p (Load a v) does before wrong = record {
 first_wrong j k p _ does before wrong = absurd (wrong (λ a v is. absurd cc))
 
 -- one event more
-explained_next : (j : List Event) (k : ℕ) (e : Event) → At j k e → AreExplained j k
+explained_next : (j : List Event) (k : ℕ) (e : Event) → EventAt j k e → AreExplained j k
     → ((a v : ℕ) → e.kind ≡ Load a v → IsAnswer j k a v) → AreExplained j (k + 1)
 explained_next j k e at before now m p a v lt does = elim (cases_eq m k) [
   | inl is ↦
-      (let same = numbered_at_same j k e (event p (Load a v)) at (subst (λ n. Does j n p (Load a v)) is does) in
+      (let same = event_place_same j k e (event p (Load a v)) at (subst (λ n. Does j n p (Load a v)) is does) in
       subst (λ n. IsAnswer j n a v) (sym is) (now a v (ap (λ (x : Event). x.kind) same)))
   | inr isnt ↦ before m p a v (omega arith) does
 ]
@@ -63,12 +63,12 @@ pub is_explained-requires-clause-address : goal.is_explained-requires-clause-add
 is_explained-requires-clause-address c =
     let e = here c.events-events.result.now c.loop-place.place in
     let at = slice_get-get_or c.events-events.result.now c.loop-place.place (event 0 (Load 0 0)) c.loop-place-test.true in
-    subst (λ n. AddressInRange n e.kind) (sym c.loop-place.invariant.addresses)
+    subst (λ n. EventAddressInRange n e.kind) (sym c.loop-place.invariant.addresses)
     (c.events-events.ensures.addresses c.loop-place.place e at)
 
 pub note-requires-clause-addresses : goal.note-requires-clause-addresses
 note-requires-clause-addresses c =
-    subst (λ n. AddressesInRange n c.events-events.result.now) (sym c.loop-place.invariant.addresses) c.events-events.ensures.addresses
+    subst (λ n. EventAddressesInRange n c.events-events.result.now) (sym c.loop-place.invariant.addresses) c.events-events.ensures.addresses
 
 pub returns-then-not-is_explained : goal.returns-then-not-is_explained
 returns-then-not-is_explained c =
@@ -76,10 +76,10 @@ returns-then-not-is_explained c =
     let place = c.loop-place.place in
     let e = here events place in
     let at = slice_get-get_or events place (event 0 (Load 0 0)) c.loop-place-test.true in
-    subst (λ j. IsFirstUnexplained j place) c.events-events.ensures.value
+    subst (λ j. IsFirstNotLatestAnswer j place) c.events-events.ensures.value
     (first_wrong events place e.processor e.kind at c.loop-place.invariant.explained
     (λ all. false≢true
-    (c.if-not-is_explained.ensures.1 (λ a v is. (answer_in events place a v e at).1 (all a v is)))))
+    (c.if-not-is_explained.ensures.1 (λ a v is. (answering_in_front events place a v e at).1 (all a v is)))))
 
 pub loop-place-preserved : goal.loop-place-preserved
 loop-place-preserved c =
@@ -93,17 +93,17 @@ loop-place-preserved c =
       processors = c.note.ensures.processors ∙ old.processors;
       addresses = c.note.ensures.addresses ∙ old.addresses;
       explained = explained_next events place e at old.explained
-          (λ a v is. (answer_in events place a v e at).0 (c.if-not-is_explained.ensures.0 refl a v is));
+          (λ a v is. (answering_in_front events place a v e at).0 (c.if-not-is_explained.ensures.0 refl a v is));
     }
 
 pub returns : goal.returns
 returns c =
     subst Explained c.events-events.ensures.value
     (λ k p a v does.
-    (let within = numbered_at_within c.events-events.result.now k (event p (Load a v)) does in
+    (let within = event_place_inside c.events-events.result.now k (event p (Load a v)) does in
     let over = c.loop-place-test.false in
     c.loop-place.invariant.explained k p a v (omega arith) does))
 
 pub note-requires-clause-processors : goal.note-requires-clause-processors
 note-requires-clause-processors c =
-    subst (λ n. ProcessorsInRange n c.events-events.result.now) (sym c.loop-place.invariant.processors) c.events-events.ensures.processors
+    subst (λ n. EventProcessorsInRange n c.events-events.result.now) (sym c.loop-place.invariant.processors) c.events-events.ensures.processors

@@ -1,5 +1,5 @@
 use Rattle.std.proofs.Common.{◌<◌, ◌∙◌, length, sym, arith}
-use Rattle.lrc_run.proofs.CatchingUp.{catching_up_alone, caught_up_to_first}
+use Rattle.lrc_run.proofs.CaughtUp.{caught_up_alone, caught_up_to_first}
 use Rattle.lrc_run.proofs.steps.catching_up.catch_first_up.Goals as goal
 
 pub returns-then-p-gt0 : goal.returns-then-p-gt0
@@ -18,4 +18,4 @@ returns-else-p-gt0 g c =
     let ms = c.args.processors.now.items in
     let p = c.args.p in
     let within : p < length ms = omega (arith, c.requires.within, c.args.processors.now.ok) in
-    (catching_up_alone ms p within (omega (arith, c.if-p-gt0.false))).1
+    (caught_up_alone ms p within (omega (arith, c.if-p-gt0.false))).1

@@ -1,13 +1,13 @@
 use Rattle.std.proofs.Common.{◌≡◌, ◌∙◌, false, true, List, refl, rules, slice_index_or, subst}
 use Rattle.lrc_script.specs.Plan.{plan_of}
 use Rattle.conformance.specs.declared.progress.TurnProgress.{TurnProgress}
-use Rattle.lrc_run.specs.Turns.{IsTurnOfRun}
-use Rattle.lrc_run.proofs.Turning.{one_turn_taken, turning_seen_same, turning_seen_then}
+use Rattle.lrc_run.specs.RunTurns.{IsTurnOfRun}
+use Rattle.lrc_run.proofs.TurnWays.{turn_way_one_taken, turn_way_seen_same, turn_way_seen_then}
 use Rattle.lrc_run.proofs.steps.drawn.first_on.Goals as goal
 
 pub loop-place-init : goal.loop-place-init
 loop-place-init g c =
-    record { way = c.requires.way; on = turning_seen_same c.args.processors.now.items; all_is = refl }
+    record { way = c.requires.way; on = turn_way_seen_same c.args.processors.now.items; all_is = refl }
 
 pub loop-place-preserved : goal.loop-place-preserved
 loop-place-preserved g c =
@@ -16,7 +16,7 @@ loop-place-preserved g c =
     let vain = c.in_ok-tried_at.ensures.vain stays in
     record {
       way = c.in_ok-tried_at.ensures.way;
-      on = turning_seen_then c.args.processors.now.items c.loop-place.processors.items c.tried_at.new.processors.items was.on vain.0;
+      on = turn_way_seen_then c.args.processors.now.items c.loop-place.processors.items c.tried_at.new.processors.items was.on vain.0;
       all_is = vain.1 ∙ was.all_is;
     }
 
@@ -30,7 +30,7 @@ returns-then-branch-clause-taken g c =
     let end = c.tried_at.new.all.items in
     let moved : c.in_ok-tried_at.field-0 ≡ true = search rules in
     let P : List TurnProgress → Type 0 = λ xs. IsTurnOfRun sections p cur new xs end in
-    one_turn_taken sections p c.args.processors.now.items cur new c.args.all.now.items end was.on
+    turn_way_one_taken sections p c.args.processors.now.items cur new c.args.all.now.items end was.on
     (subst P was.all_is (c.in_ok-tried_at.ensures.turn moved))
 
 pub returns-clause-taken : goal.returns-clause-taken

@@ -1,16 +1,16 @@
 use Rattle.std.proofs.Common.{◌≡◌, List, length, subst, arith}
 use Rattle.lrc_script.specs.Plan.{plan_of}
 use Rattle.conformance.specs.declared.progress.TurnProgress.{TurnProgress}
-use Rattle.lrc_run.specs.FollowedReports.{IsEndFollowedAfter}
-use Rattle.lrc_run.proofs.ByTurns.{by_turns_of_schedule, by_turns_taken, end_by_turns}
-use Rattle.lrc_run.proofs.Stepping.{stepping_begin}
+use Rattle.lrc_run.specs.FollowedEnds.{IsFollowedEndAfter}
+use Rattle.lrc_run.proofs.EndsByTurns.{ends_by_turns_of_schedule, ends_by_turns_taken, ends_by_turns}
+use Rattle.lrc_run.proofs.StepsAfterTurns.{step_after_turn_begin}
 use Rattle.lrc_run.proofs.steps.drawn.step_drawn_with.Goals as goal
 
 pub wander-requires-clause-way : goal.wander-requires-clause-way
 wander-requires-clause-way g c κs within =
     let ms = c.in_ok-cluster.processors.items in
     let many : c.len.result ≡ length ms = omega (arith, c.len.ensures, c.in_ok-cluster.processors.ok) in
-    stepping_begin c.in_ok-cluster.cluster (plan_of c.args.script.now).sections ms c.in_ok-all.all.items c.len.result
+    step_after_turn_begin c.in_ok-cluster.cluster (plan_of c.args.script.now).sections ms c.in_ok-all.all.items c.len.result
     c.in_ok-cluster.ensures.new many c.in_ok-all.ensures.ok
 
 pub returns-clause-end : goal.returns-clause-end
@@ -28,9 +28,9 @@ returns-clause-end g c =
     let many : c.len.result ≡ length ms = omega (arith, c.len.ensures, c.in_ok-cluster.processors.ok) in
     let gone = c.in_ok-passed.ensures.gone in
     let turns = c.in_ok-turns.turns.items in
-    let Q : List TurnProgress → Type 0 = λ xs. IsEndFollowedAfter s ns xs c.in_ok-ended.ended in
+    let Q : List TurnProgress → Type 0 = λ xs. IsFollowedEndAfter s ns xs c.in_ok-ended.ended in
     let after = subst Q c.deref.ensures.value c.in_ok-ended.ensures.end in
-    let told = by_turns_of_schedule s cluster turns ms ns all sizes new
-    (by_turns_taken start c.len.result sizes new many c.in_ok-all.ensures.ok
+    let told = ends_by_turns_of_schedule s cluster turns ms ns all sizes new
+    (ends_by_turns_taken start c.len.result sizes new many c.in_ok-all.ensures.ok
     c.in_ok-turns.ensures.taken gone) in
-    end_by_turns c.in_ok-ended.ended c.requires.lawful sizes gone.way told after
+    ends_by_turns c.in_ok-ended.ended c.requires.lawful sizes gone.way told after

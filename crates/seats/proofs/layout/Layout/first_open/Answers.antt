@@ -2,8 +2,8 @@ use Rattle.std.proofs.Common.{◌≡◌, ◌≢◌, ◌<◌, ◌∙◌, Some, in
 use Rattle.std.proofs.lemmas.Bool.{cases_lt}
 use Rattle.std.specs.Vec.{vec_items}
 use Rattle.seats.specs.declared.guard.Guard.TheVariants.{Open}
-use Rattle.seats.specs.Tables.{GuardTables, guard_in}
-use Rattle.seats.proofs.Layouts.{found_in}
+use Rattle.seats.specs.Tables.{GuardTables, table_guard}
+use Rattle.seats.proofs.LayoutTables.{layout_table_found_in}
 use Rattle.seats.proofs.layout.Layout.first_open.Goals as goal
 
 pub loop-table-preserved : goal.loop-table-preserved
@@ -13,8 +13,8 @@ loop-table-preserved c = λ t a less. elim (cases_lt t c.loop-table.table) [
       let tables = c.self.inside.tables.items in
       let within : c.loop-table.table < length tables = omega (arith, c.loop-table-test.true, c.len-table-end.ensures) in
       let here = c.as_slice.ensures.value
-      ∙ found_in vec_items tables c.loop-table.table c.index.result.now within c.index.ensures in
-      subst (λ (now : GuardTables). guard_in now t a ≢ Some Open) c.self.view_is
+      ∙ layout_table_found_in vec_items tables c.loop-table.table c.index.result.now within c.index.ensures in
+      subst (λ (now : GuardTables). table_guard now t a ≢ Some Open) c.self.view_is
       (subst (λ k. slice_get (get_or (map vec_items tables) k []) a ≢ Some Open) same
       (λ is. c.in-None.ensures a (ap (λ xs. slice_get xs a) here ∙ is))))
 ]

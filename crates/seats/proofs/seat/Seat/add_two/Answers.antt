@@ -1,77 +1,82 @@
 use Rattle.std.proofs.Common.{List, ◌++◌}
 use Rattle.journal.specs.declared.event.Kind.{Kind}
 use Rattle.seats.specs.Acting.{HasActed}
-use Rattle.seats.specs.Tenures.{whole_tenure}
-use Rattle.seats.specs.Totals.{adding}
+use Rattle.seats.specs.Tenures.{tenure_of_lock}
+use Rattle.seats.specs.WordTallies.{word_tally_adding}
 use Rattle.seats.proofs.seat.Seat.add_two.Given.{Over}
-use Rattle.seats.proofs.Acting.{acted_tenure, acted_then, faulted, in_part_asked, in_part_front, in_part_held, in_part_then, in_part_unreleased}
-use Rattle.seats.proofs.Balances.{two_added, two_balanced}
+use Rattle.seats.proofs.SeatActing.{seat_acted_tenure, seat_acted_then, seat_acting_faulted, seat_acted_in_part_asked, seat_acted_in_part_front, seat_acted_in_part_held, seat_acted_in_part_then, seat_acted_in_part_unreleased}
+use Rattle.seats.proofs.BalancedTenures.{balanced_tenure_adds_two_in_all, balanced_tenure_of_two}
 use Rattle.seats.proofs.seat.Seat.add_two.Goals as goal
 
 pub returns-in_err-lock-clause-err : goal.returns-in_err-lock-clause-err
 returns-in_err-lock-clause-err g c =
-    faulted c.from_residual.result (
+    seat_acting_faulted c.from_residual.result (
       0,
       0,
-      in_part_asked c.args.lock (adding c.args.first.0 0 c.args.first.1
-          ++ adding c.args.second.0 0 c.args.second.1) c.in_err-lock.ensures.err,
+      seat_acted_in_part_asked c.args.lock (word_tally_adding c.args.first.0 0 c.args.first.1
+          ++ word_tally_adding c.args.second.0 0 c.args.second.1) c.in_err-lock.ensures.err,
     )
 
 pub returns-in_err-increase-clause-err : goal.returns-in_err-increase-clause-err
 returns-in_err-increase-clause-err g c =
     let part = c.in_err-increase.ensures.err in
-    let rest = adding c.args.second.0 0 c.args.second.1 in
-    faulted c.from_residual-in_err-increase.result (
+    let rest = word_tally_adding c.args.second.0 0 c.args.second.1 in
+    seat_acting_faulted c.from_residual-in_err-increase.result (
       part.0,
       0,
-      in_part_held c.args.lock
-          (adding c.args.first.0 part.0 c.args.first.1 ++ rest) c.in_ok-lock.ensures.ok (in_part_front rest part.1),
+      seat_acted_in_part_held c.args.lock
+          (word_tally_adding c.args.first.0 part.0 c.args.first.1 ++ rest) c.in_ok-lock.ensures.ok (seat_acted_in_part_front rest part.1),
     )
 
 pub returns-in_err-increase-2-clause-err : goal.returns-in_err-increase-2-clause-err
 returns-in_err-increase-2-clause-err g c =
     let word = c.in_ok-increase.field-0 in
-    let first = adding c.args.first.0 word c.args.first.1 in
+    let first = word_tally_adding c.args.first.0 word c.args.first.1 in
     let part = c.in_err-increase-2.ensures.err in
-    faulted c.from_residual-in_err-increase-2.result (
+    seat_acting_faulted c.from_residual-in_err-increase-2.result (
       word,
       part.0,
-      in_part_held c.args.lock
-          (first ++ adding c.args.second.0 part.0 c.args.second.1) c.in_ok-lock.ensures.ok
-          (in_part_then first c.in_ok-increase.ensures.ok part.1),
+      seat_acted_in_part_held c.args.lock
+          (first ++ word_tally_adding c.args.second.0 part.0 c.args.second.1) c.in_ok-lock.ensures.ok
+          (seat_acted_in_part_then first c.in_ok-increase.ensures.ok part.1),
     )
 
 pub returns-in_err-unlock-clause-err : goal.returns-in_err-unlock-clause-err
 returns-in_err-unlock-clause-err g c =
     let v = c.in_ok-increase.field-0 in
     let w = c.in_ok-increase-2.field-0 in
-    let first = adding c.args.first.0 v c.args.first.1 in
-    let second = adding c.args.second.0 w c.args.second.1 in
-    faulted c.from_residual-in_err-unlock.result (
+    let first = word_tally_adding c.args.first.0 v c.args.first.1 in
+    let second = word_tally_adding c.args.second.0 w c.args.second.1 in
+    seat_acting_faulted c.from_residual-in_err-unlock.result (
       v,
       w,
-      in_part_unreleased c.args.lock (first ++ second) c.in_ok-lock.ensures.ok
-          (acted_then first second c.in_ok-increase.ensures.ok c.in_ok-increase-2.ensures.ok) c.in_err-unlock.ensures.err,
+      seat_acted_in_part_unreleased c.args.lock (first ++ second) c.in_ok-lock.ensures.ok
+          (seat_acted_then first second c.in_ok-increase.ensures.ok c.in_ok-increase-2.ensures.ok) c.in_err-unlock.ensures.err,
     )
 
 -- all of it
-whole : (g : Over) (c : goal.In_ok-unlock g) → HasActed c.args.self.now c.unlock.new.self (whole_tenure c.args.lock
-    (adding c.args.first.0 c.in_ok-increase.field-0 c.args.first.1 ++ adding c.args.second.0 c.in_ok-increase-2.field-0 c.args.second.1))
+whole : (g : Over) (c : goal.In_ok-unlock g) → HasActed c.args.self.now c.unlock.new.self (tenure_of_lock c.args.lock
+    (word_tally_adding c.args.first.0 c.in_ok-increase.field-0 c.args.first.1 ++ word_tally_adding c.args.second.0 c.in_ok-increase-2.field-0 c.args.second.1))
 whole g c =
-    let first = adding c.args.first.0 c.in_ok-increase.field-0 c.args.first.1 in
-    let second = adding c.args.second.0 c.in_ok-increase-2.field-0 c.args.second.1 in
-    acted_tenure c.args.lock (first ++ second) c.in_ok-lock.ensures.ok
-    (acted_then first second c.in_ok-increase.ensures.ok c.in_ok-increase-2.ensures.ok) c.in_ok-unlock.ensures.ok
+    let first = word_tally_adding c.args.first.0 c.in_ok-increase.field-0 c.args.first.1 in
+    let second = word_tally_adding c.args.second.0 c.in_ok-increase-2.field-0 c.args.second.1 in
+    seat_acted_tenure c.args.lock (first ++ second) c.in_ok-lock.ensures.ok
+    (seat_acted_then first second c.in_ok-increase.ensures.ok c.in_ok-increase-2.ensures.ok) c.in_ok-unlock.ensures.ok
 
 pub returns-clause-ok : goal.returns-clause-ok
 returns-clause-ok g c = (c.in_ok-increase.field-0, c.in_ok-increase-2.field-0, whole g c)
 
 pub returns-clause-sum : goal.returns-clause-sum
 returns-clause-sum g c l a n was =
-    two_added c.args.first.0 c.in_ok-increase.field-0 c.args.first.1 c.args.second.0 c.in_ok-increase-2.field-0 c.args.second.1 a
+    balanced_tenure_adds_two_in_all c.args.first.0 c.in_ok-increase.field-0 c.args.first.1 c.args.second.0 c.in_ok-increase-2.field-0 c.args.second.1 a
     c.args.lock (whole g c) was
 
 pub returns-clause-balance : goal.returns-clause-balance
 returns-clause-balance g c left right keeps was =
-    two_balanced c.args.first.0 c.in_ok-increase.field-0 c.args.first.1 c.args.second.0 c.in_ok-increase-2.field-0 c.args.second.1
+    balanced_tenure_of_two c.args.first.0 c.in_ok-increase.field-0 c.args.first.1 c.args.second.0 c.in_ok-increase-2.field-0 c.args.second.1
     c.args.lock (whole g c) keeps was
+
+pub returns-clause-outside : goal.returns-clause-outside
+returns-clause-outside g c e due =
+    let refused = (c.in_ok-lock.ensures.outside e due).0 in
+    absurd (cc)

@@ -1,16 +1,16 @@
 use Rattle.std.proofs.Common.{[], length, ap, ◌∙◌, arith}
 use Rattle.std.proofs.lemmas.List.{length_push}
-use Rattle.seats.proofs.Acting.{acted_nothing, faulted, loaded_more, loaded_none}
+use Rattle.seats.proofs.SeatActing.{seat_acted_nothing, seat_acting_faulted, seat_acted_loads_more, seat_acted_loads_none}
 use Rattle.seats.proofs.seat.Seat.words.Goals as goal
 
 pub returns-in_err-words-clause-err : goal.returns-in_err-words-clause-err
-returns-in_err-words-clause-err g c = faulted c.from_residual.result ([], acted_nothing c.args.self.now)
+returns-in_err-words-clause-err g c = seat_acting_faulted c.from_residual.result ([], seat_acted_nothing c.args.self.now)
 
 pub returns-in_err-word-clause-err : goal.returns-in_err-word-clause-err
 returns-in_err-word-clause-err g c =
     let words = c.loop-address.words.items in
-    faulted c.from_residual-in_err-word.result
-    (words, loaded_none c.args.from words c.loop-address.invariant.acted c.in_err-word.ensures.err)
+    seat_acting_faulted c.from_residual-in_err-word.result
+    (words, seat_acted_loads_none c.args.from words c.loop-address.invariant.acted c.in_err-word.ensures.err)
 
 pub loop-address-preserved : goal.loop-address-preserved
 loop-address-preserved g c =
@@ -23,7 +23,7 @@ loop-address-preserved g c =
     let more = length_push words.items c.in_ok-word.word in
     let both = ap length pushed.items in
     record {
-      acted = rw pushed.items (loaded_more c.args.from c.loop-address.address c.in_ok-word.word words.items (omega arith) inv.acted
+      acted = rw pushed.items (seat_acted_loads_more c.args.from c.loop-address.address c.in_ok-word.word words.items (omega arith) inv.acted
           c.in_ok-word.ensures.ok);
       long = omega arith;
       room = let room = inv.room in let same = pushed.capacity in omega arith;

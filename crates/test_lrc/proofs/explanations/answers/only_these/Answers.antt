@@ -3,7 +3,7 @@ use Rattle.std.proofs.lemmas.Option.{slice_get-get_or}
 use Rattle.journal.specs.declared.event.Event.{Event}
 use Rattle.journal.specs.declared.event.Kind.TheVariants.{Load}
 use Rattle.journal.specs.DidEvent.{event}
-use Rattle.journal.specs.InRange.{AddressInRange, AddressesInRange, ProcessorsInRange}
+use Rattle.journal.specs.EventsInRange.{EventAddressInRange, EventAddressesInRange, EventProcessorsInRange}
 use Rattle.test_lrc.proofs.explanations.answers.only_these.Goals as goal
 
 -- the event at this place
@@ -22,13 +22,13 @@ pub answers_only-requires-clause-address : goal.answers_only-requires-clause-add
 answers_only-requires-clause-address c =
     let e = here c.events-events.result.now c.loop-place.place in
     let at = slice_get-get_or c.events-events.result.now c.loop-place.place (event 0 (Load 0 0)) c.loop-place-test.true in
-    subst (λ n. AddressInRange n e.kind) (sym c.loop-place.invariant.addresses)
+    subst (λ n. EventAddressInRange n e.kind) (sym c.loop-place.invariant.addresses)
     (c.events-events.ensures.addresses c.loop-place.place e at)
 
 pub note-requires-clause-processors : goal.note-requires-clause-processors
 note-requires-clause-processors c =
-    subst (λ n. ProcessorsInRange n c.events-events.result.now) (sym c.loop-place.invariant.processors) c.events-events.ensures.processors
+    subst (λ n. EventProcessorsInRange n c.events-events.result.now) (sym c.loop-place.invariant.processors) c.events-events.ensures.processors
 
 pub note-requires-clause-addresses : goal.note-requires-clause-addresses
 note-requires-clause-addresses c =
-    subst (λ n. AddressesInRange n c.events-events.result.now) (sym c.loop-place.invariant.addresses) c.events-events.ensures.addresses
+    subst (λ n. EventAddressesInRange n c.events-events.result.now) (sym c.loop-place.invariant.addresses) c.events-events.ensures.addresses

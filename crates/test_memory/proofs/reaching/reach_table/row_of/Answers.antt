@@ -2,7 +2,7 @@ use Rattle.std.proofs.Common.{◌≡◌, ◌↔◌, ◌+◌, ◌<◌, false, IsT
 use Rattle.std.proofs.lemmas.List.{with_items_is}
 use Rattle.std.proofs.lemmas.Option.{slice_get-get_or}
 use Rattle.journal.specs.HappensBeforeEdges.{HappensBefore}
-use Rattle.journal.proofs.Order.HappensBefore.{before_begins_within}
+use Rattle.journal.proofs.Order.HappensBefore.{happens_before_begins_within}
 use Rattle.test_memory.proofs.reaching.Reaching.{Reaches, reaches_past, reaches_next, reaches_all, marked_within}
 use Rattle.test_memory.proofs.reaching.reach_table.row_of.Goals as goal
 use Rattle.test_memory.proofs.reaching.reach_table.row_of.Goals.{then-is_edge, else-is_edge}
@@ -70,7 +70,7 @@ returns c =
             let lt : i < length events = omega (arith, row.ok.0) in
             (reaches_all events place i).0
             (subst (λ n. Reaches events place n i) all ((c.loop-source.invariant.marks i lt).0 t)),
-        λ h. (c.loop-source.invariant.marks i (before_begins_within events h)).1
+        λ h. (c.loop-source.invariant.marks i (happens_before_begins_within events h)).1
             (subst (λ n. Reaches events place n i) (sym all) ((reaches_all events place i).1 h)),
       );
     }

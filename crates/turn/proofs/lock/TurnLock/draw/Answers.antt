@@ -1,5 +1,5 @@
 use Rattle.std.proofs.Common.{◌<◌, ℕ, subst, sym, arith}
-use Rattle.turn.proofs.AllowedLooks.{draws_allowed}
+use Rattle.turn.proofs.AllowedSteps.{allowed_step_draws}
 use Rattle.turn.specs.Boards.{IsBoard}
 use Rattle.turn.proofs.lock.TurnLock.draw.Goals as goal
 
@@ -19,7 +19,7 @@ fetch_add-requires g c =
     let within = here.within 0 in (
       c.requires.own,
       omega arith,
-      draws_allowed _ _ g.K.Keeper.fact (g.W.Board.width n) (g.W.Board.shows n)
+      allowed_step_draws _ _ g.K.Keeper.fact (g.W.Board.width n) (g.W.Board.shows n)
           (g.W.Board.at n) g.W.Board.passed board n lock.table.shared.key.entries _ _ c.args.seat.now.me
           c.requires.outside (omega arith),
     )

@@ -1,5 +1,5 @@
 use Rattle.std.proofs.Common.{◌≡◌, ℕ, ◌<◌, ◌+◌, ap, subst, sym, arith}
-use Rattle.turn.proofs.AllowedLooks.{leaving_allowed_after}
+use Rattle.turn.proofs.AllowedSteps.{allowed_step_leaves_after}
 use Rattle.turn.specs.Boards.{IsBoard}
 use Rattle.turn.proofs.lock.TurnLock.hand_in.Goals as goal
 
@@ -18,7 +18,7 @@ pass-requires-clause-rule g c =
     ap (λ (k : ℕ). g.W.Board.at k next) sized.0 in
     let inside = c.requires.inside in
     let put = c.exchange-taken.ensures in
-    let P = leaving_allowed_after g.row.B.Denot g.row.K-View.Denot g.K.Keeper.fact (g.W.Board.width n) (g.W.Board.shows n)
+    let P = allowed_step_leaves_after g.row.B.Denot g.row.K-View.Denot g.K.Keeper.fact (g.W.Board.width n) (g.W.Board.shows n)
     (g.W.Board.at n) g.W.Board.passed board n lock.table.shared.key.entries lock.table.shared.table_id.slots
     c.exchange-taken.new.seat.id
     g.M.Outcome.then c.args.number inside.0 c.args.book c.args.seat.now.me c.exchange-taken.new.seat.me inside.1

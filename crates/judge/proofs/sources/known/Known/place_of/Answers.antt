@@ -1,7 +1,7 @@
 use Rattle.std.proofs.Common.{◌≡◌, ◌+◌, ◌<◌, length, slice_index, slice_set, subst, sym, arith}
 use Rattle.journal.specs.Prelude.{IsTimeOf, entry}
-use Rattle.judge.specs.Sources.Stored.{IsStoredRecent}
-use Rattle.judge.proofs.sources.Keeping.{keeping_stored_recent_pushed, keeping_stored_time_pushed}
+use Rattle.judge.specs.Sources.KnownStores.{IsKnownStoreTime}
+use Rattle.judge.proofs.sources.KeepingStored.{keeping_stored_recent_pushed, keeping_stored_time_pushed}
 use Rattle.judge.proofs.sources.known.Known.place_of.Goals as goal
 
 pub returns-clause-placed : goal.returns-clause-placed
@@ -13,9 +13,9 @@ returns-clause-placed c = λ j known time.
     let inside : c.args.processor < length c.args.self.now.recent = omega arith in (
       record {
         recent = λ q lt.
-            subst (λ n. IsStoredRecent j c.push.new.self.items q
+            subst (λ n. IsKnownStoreTime j c.push.new.self.items q
             (slice_index (slice_set c.args.self.now.recent c.args.processor (n + 1)) q)) (sym place)
-            (subst (λ xs. IsStoredRecent j xs q
+            (subst (λ xs. IsKnownStoreTime j xs q
             (slice_index (slice_set c.args.self.now.recent c.args.processor (length old.items + 1)) q)) (sym items)
             (keeping_stored_recent_pushed j old.items c.args.self.now.recent c.args.time.now c.args.processor q inside
             (known.recent q lt) time));

@@ -1,5 +1,5 @@
 use Rattle.std.proofs.Common.{◌∙◌, ap, subst, ◌++◌}
-use Rattle.journal.specs.ContentsSince.{since}
+use Rattle.journal.specs.IntervalContents.{open_interval_contents}
 use Rattle.test_memory.specs.Histories.Telling.{Telling, IsTelling}
 use Rattle.test_memory.proofs.histories.Calls.{may_close}
 use Rattle.test_memory.proofs.histories.told.Told.closing.Goals as goal
@@ -11,5 +11,5 @@ returns c =
     (subst (λ t. IsTelling t) c.self.view_is c.self.invariant.telling)
     c.in_ok-may_hand_in.ensures.0 c.in_ok-may_hand_in.ensures.1
     (c.deref-2.ensures.value ∙ c.in_ok-extend_from_slice.ensures.items
-    ∙ ap (λ es. es ++ c.args.block.now) (c.in_ok-events.ensures ∙ ap (λ h. since h c.args.p) history))
+    ∙ ap (λ es. es ++ c.args.block.now) (c.in_ok-events.ensures ∙ ap (λ h. open_interval_contents h c.args.p) history))
     c.in_ok-records_of.ensures

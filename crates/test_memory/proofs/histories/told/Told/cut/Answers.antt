@@ -1,5 +1,5 @@
 use Rattle.std.proofs.Common.{IfErr, subst}
-use Rattle.journal.specs.CutFaults.{IsCutFault}
+use Rattle.journal.specs.JournalCuts.{IsJournalCutRefusal}
 use Rattle.test_memory.specs.Histories.Telling.{Telling}
 use Rattle.test_memory.proofs.histories.Calls.{kept_cut}
 use Rattle.test_memory.proofs.histories.told.Told.cut.Goals as goal
@@ -10,4 +10,4 @@ invariant_of-self c =
 
 pub returns-clause-fault : goal.returns-clause-fault
 returns-clause-fault c =
-    subst (λ (t : Telling). IfErr c.cut.result (IsCutFault t.book.journal)) c.self.view_is c.cut.ensures.fault
+    subst (λ (t : Telling). IfErr c.cut.result (IsJournalCutRefusal t.book.journal)) c.self.view_is c.cut.ensures.fault

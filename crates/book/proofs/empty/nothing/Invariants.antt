@@ -1,5 +1,0 @@
-use Rattle.std.proofs.Common.{◌≡◌, None, replicate}
-use Rattle.book.proofs.empty.nothing.Given as goal
-
-abbrev pub invariant-loop : goal.invariant-loop
-invariant-loop _ l = l.all.items ≡ replicate l.counter None

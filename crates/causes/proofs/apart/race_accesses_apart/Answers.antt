@@ -1,0 +1,26 @@
+use Rattle.std.proofs.Common.{slice_index_or, refl, subst}
+use Rattle.journal.specs.declared.event.Event.{Event}
+use Rattle.journal.specs.declared.event.Kind.TheVariants.{Load}
+use Rattle.journal.specs.DidEvent.{event}
+use Rattle.std.proofs.lemmas.Option.{slice_get-get_or}
+use Rattle.journal.proofs.Order.EventPlacesAndCounts.{event_place_same, event_place_inside}
+use Rattle.causes.specs.Heard.{IsHeard}
+use Rattle.causes.proofs.apart.race_accesses_apart.Goals as goal
+
+pub returns : goal.returns
+returns c =
+    let events = c.args.events.now in
+    let first = c.args.race.0 in
+    let race = c.requires.race in
+    let here = slice_index_or events first (event 0 (Load 0 0)) in
+    let within = event_place_inside events first race.first race.first_at in
+    let there = slice_get-get_or events first (event 0 (Load 0 0)) within in
+    record {
+      first = refl;
+      second = refl;
+      heard = λ e at.
+          let same = event_place_same events first here e there at in
+          subst (λ (x : Event). IsHeard events x.processor c.args.race.1 c.in_ok-heard.heard) same c.in_ok-heard.ensures;
+      first_locks = c.in_ok-first_locks.ensures;
+      second_locks = c.in_ok-second_locks.ensures;
+    }

@@ -1,5 +1,0 @@
-use Rattle.conformance.proofs.TurnCalls.{turn_calls_law}
-use Rattle.conformance.proofs.laws.turn_calls_law.Goals as goal
-
-pub returns : goal.returns
-returns c = turn_calls_law

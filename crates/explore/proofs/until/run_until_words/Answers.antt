@@ -1,0 +1,47 @@
+use Rattle.std.proofs.Common.{◌≢◌, Option, Some, None, refl, sym, subst, ◌∙◌}
+use Rattle.std.specs.Prelude.{MatchOption}
+use Rattle.causes.specs.Prelude.{IsHeardAtRace}
+use Rattle.journal.specs.Races.{RaceFree}
+use Rattle.lrc_script.specs.Plan.{plan_of}
+use Rattle.explore.specs.FoundStates.{found_states}
+use Rattle.explore.specs.Machines.{machine_rows}
+use Rattle.explore.specs.Prefixes.FlatBeginnings.{IsFlatBeginning}
+use Rattle.explore.specs.OutcomeTelling.{AreOutcomeTellingReplies, outcome_telling_of_script}
+use Rattle.explore.proofs.MachineSteps.{machine_step_some_at}
+use Rattle.explore.proofs.SearchedStates.{searched_state_kept_told}
+use Rattle.explore.proofs.until.run_until_words.Goals as goal
+
+-- where there is no race, none is told
+told_none : {A : Type 0} (o : Option A) (P : Type 0) (Q : A → Type 0) → ((x : A) → o ≢ Some x) → MatchOption o P Q → P
+told_none None P Q isnt h = h
+told_none (Some x) P Q isnt h = absurd (isnt x refl)
+
+pub racing_history_race-requires-clause-begins : goal.racing_history_race-requires-clause-begins
+racing_history_race-requires-clause-begins c =
+    let s = plan_of c.args.script.now in
+    let m = machine_step_some_at (found_states c.args.found.now) c.args.place c.requires.ends.1.within in
+    subst (IsFlatBeginning s) (sym c.deref.ensures.value) (c.in_ok-events.ensures s c.requires.found m.0 m.1).beginning
+
+pub returns-in-Some-clause-showing : goal.returns-in-Some-clause-showing
+returns-in-Some-clause-showing c = λ words d ends telling.
+    let s = plan_of c.args.script.now in
+    let m = machine_step_some_at (found_states c.args.found.now) c.args.place ends.within in
+    c.cut_racing_history.ensures s (c.in_ok-events.ensures s c.requires.found m.0 m.1).beginning
+
+pub returns-clause-showing : goal.returns-clause-showing
+returns-clause-showing c = λ words d ends telling.
+    let s = plan_of c.args.script.now in
+    let m = c.at.result.now in
+    let events = c.in_ok-events.events.items in
+    let knows = c.in_ok-events.ensures s c.requires.found m c.at.ensures in
+    record {
+      is = ends.ends m events c.at.ensures knows;
+      race_free = subst RaceFree c.deref.ensures.value (told_none c.in_ok-race.field-0 (RaceFree c.deref.result.now) (IsHeardAtRace c.deref.result.now) c.in_default.not-Some
+          c.in_ok-race.ensures);
+      outcome =
+          subst (AreOutcomeTellingReplies s (outcome_telling_of_script s d) events) (sym c.in_ok-replies.ensures)
+          (subst (λ t. AreOutcomeTellingReplies s t events (machine_rows m.replies.items))
+          (c.requires.found.told c.args.place m c.at.ensures ∙ telling)
+          (searched_state_kept_told s events m c.requires.lawful.but_uneven.one_each (ends.ends m events c.at.ensures knows).whole.follows
+          knows));
+    }

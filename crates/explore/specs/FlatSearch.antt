@@ -1,0 +1,148 @@
+-- What a search knows after it has looked at some of the states that it has found.
+use Rattle.std.specs.Prelude.{ℕ, ◌≡◌, ◌≢◌, ◌+◌, ◌<◌, ◌≤◌, ◌↔◌, ◌⊎◌, ⊤, Bool, false, IsTrue, MatchOption, Option, Some, None, List, [], ◌∷◌, ◌++◌, length, map, slice_get}
+use Rattle.std.specs.Global.{Vec}
+use Rattle.base.specs.InOrderOnce.{Has, IsOnce}
+use Rattle.journal.specs.declared.event.Event.{Event}
+use Rattle.journal.specs.declared.event.Kind.{Kind}
+use Rattle.journal.specs.declared.event.Kind.TheVariants.{Ask}
+use Rattle.journal.specs.DidEvent.{did, event}
+use Rattle.journal.specs.Races.{Conflict}
+use Rattle.lrc_script.specs.Plan.{Plan}
+use Rattle.conformance.specs.Follows.{Follows}
+use Rattle.explore.specs.declared.prefixes.script_call.ScriptCall.{ScriptCall}
+use Rattle.explore.specs.Prefixes.FlatBeginnings.{IsFlatBeginning, IsFlatBeginningHanging}
+use Rattle.explore.specs.declared.flat_state.FlatState.{FlatState}
+use Rattle.explore.specs.declared.neighbours.Neighbours.{Neighbours}
+use Rattle.explore.specs.declared.search.Search.{Search}
+use Rattle.explore.specs.declared.explored.Hanging.{Hanging}
+use Rattle.explore.specs.declared.explored.Hanging.TheVariants as hanging
+use Rattle.explore.specs.declared.explored.Verdict.{Verdict}
+use Rattle.explore.specs.declared.explored.Verdict.TheVariants as verdict
+use Rattle.explore.specs.Explored.{explored_outcome}
+use Rattle.explore.specs.FreeChoice.{IsFreeForChoice}
+use Rattle.explore.specs.FoundStates.{AreFoundStates, FoundStateMayDo, found_states}
+use Rattle.explore.specs.FreeRun.{IsFoundByFreeRun}
+use Rattle.explore.specs.Machines.{AreLawfulMachineSteps, MachineKnows}
+use Rattle.explore.specs.Nexts.{NextsAreOver}
+use Rattle.explore.specs.Racing.{AreRacing}
+use Rattle.explore.specs.OutcomeTelling.{AreOutcomeTellingReplies}
+
+-- all that may come next after the state m is found soon
+abbrev pub FlatSearchFollowsWhole : Plan → List (Vec ScriptCall) → List FlatState → FlatState → Type 0
+FlatSearchFollowsWhole s rows states m = (g : List Event) (p : ℕ) (k : Kind) → MachineKnows s g m → IsFlatBeginning s (did g p k)
+    → IsFoundByFreeRun s rows states (did g p k)
+
+-- or what one free event makes of it
+pub record FlatSearchFollowsFree (s : Plan) (rows : List (Vec ScriptCall)) (states : List FlatState) (m : FlatState) : Type 0 where
+  pub processor : ℕ
+  pub kind : Kind
+  pub free : IsFreeForChoice rows kind
+  pub next : FoundStateMayDo s m processor kind
+  pub known : (g : List Event) → MachineKnows s g m → IsFoundByFreeRun s rows states (did g processor kind)
+
+-- or what the asks for one lock make of it, if nobody else will ask for it
+pub record FlatSearchFollowsAsks (s : Plan) (rows : List (Vec ScriptCall)) (states : List FlatState) (m : FlatState) : Type 0 where
+  pub lock : ℕ
+  pub processor : ℕ
+  pub next : FoundStateMayDo s m processor (Ask lock)
+  pub known : (g : List Event) (p : ℕ) → MachineKnows s g m → IsFlatBeginning s (did g p (Ask lock))
+      → IsFoundByFreeRun s rows states (did g p (Ask lock))
+  pub others : (g more : List Event) (p : ℕ) → MachineKnows s g m → IsFlatBeginning s (did (g ++ more) p (Ask lock))
+      → IsFlatBeginning s (did g p (Ask lock))
+
+-- of each of the first n states
+abbrev pub IsFlatSearchReduced : Plan → List (Vec ScriptCall) → List FlatState → ℕ → Type 0
+IsFlatSearchReduced s rows states n = (place : ℕ) (m : FlatState) → place < n → slice_get states place ≡ Some m
+    → FlatSearchFollowsWhole s rows states m ⊎ (FlatSearchFollowsFree s rows states m ⊎ FlatSearchFollowsAsks s rows states m)
+
+-- and no two next events conflict
+abbrev pub IsFlatSearchQuiet : Plan → List FlatState → ℕ → Type 0
+IsFlatSearchQuiet s states n = (place : ℕ) (m : FlatState) (g : List Event) (p q : ℕ) (a b : Kind) → place < n
+    → slice_get states place ≡ Some m → MachineKnows s g m → IsFlatBeginning s (did g p a) → IsFlatBeginning s (did g q b)
+    → p ≢ q → ¬ Conflict (event p a) (event q b)
+
+-- one of the first n states is whole, and shows this
+pub record IsShownByFlatSearch (s : Plan) (states : List FlatState) (n : ℕ) (replies : List (List ℕ)) : Type 0 where
+  pub place : ℕ
+  pub within : place < n
+  pub state : FlatState
+  pub at : slice_get states place ≡ Some state
+  pub events : List Event
+  pub knows : MachineKnows s events state
+  pub follows : Follows s events
+  pub are : AreOutcomeTellingReplies s state.telling events replies
+
+-- these are what the first n states show, each once
+pub record AreFlatSearchOutcomes (s : Plan) (states : List FlatState) (n : ℕ) (outcomes : List (List (List ℕ))) : Type 0 where
+  pub each : (replies : List (List ℕ)) → Has outcomes replies ↔ IsShownByFlatSearch s states n replies
+  pub once : IsOnce outcomes
+
+-- none of the first n states is a hang
+abbrev pub FlatSearchHasNoHang : Plan → List FlatState → ℕ → Type 0
+FlatSearchHasNoHang s states n = (place : ℕ) (m : FlatState) (g : List Event) → place < n → slice_get states place ≡ Some m
+    → MachineKnows s g m → ¬ IsFlatBeginningHanging s g
+
+-- the state at this place is
+pub record FlatSearchHasHang (s : Plan) (states : List FlatState) (place : ℕ) : Type 0 where
+  pub within : place < length states
+  pub hangs : (m : FlatState) (g : List Event) → slice_get states place ≡ Some m → MachineKnows s g m → IsFlatBeginningHanging s g
+
+-- what is noted of the first n states: the outcomes, and a hang, if there is one
+pub record AreFlatSearchNotes (s : Plan) (x : Search) (n : ℕ) : Type 0 where
+  pub shown : AreFlatSearchOutcomes s (found_states x.found) n (map explored_outcome x.outcomes.keys)
+  pub hang : MatchOption x.hang (FlatSearchHasNoHang s (found_states x.found) n) (FlatSearchHasHang s (found_states x.found))
+
+-- the state at this place, after which nothing may come next, may be noted
+pub record MayNoteInFlatSearch (s : Plan) (x : Search) (steps : List (Vec ScriptCall)) (place : ℕ) : Type 0 where
+  pub lawful : AreLawfulMachineSteps s steps
+  pub found : AreFoundStates s x.found
+  pub within : place < length (found_states x.found)
+  pub over : (m : FlatState) → slice_get (found_states x.found) place ≡ Some m → NextsAreOver s m
+  pub noted : AreFlatSearchNotes s x place
+
+-- the first n states have been looked at, and no two next events of them conflict
+pub record FlatSearchedUpTo (s : Plan) (x : Search) (rows : List (Vec ScriptCall)) (n : ℕ) : Type 0 where
+  pub found : AreFoundStates s x.found
+  pub within : n ≤ length (found_states x.found)
+  pub closed : IsFlatSearchReduced s rows (found_states x.found) n
+  pub quiet : IsFlatSearchQuiet s (found_states x.found) n
+  pub noted : AreFlatSearchNotes s x n
+
+-- the first n states have been looked at, and there is one more
+pub record HasMoreToFlatSearch (s : Plan) (x : Search) (steps : List (Vec ScriptCall)) (n : ℕ) : Type 0 where
+  pub lawful : AreLawfulMachineSteps s steps
+  pub searched : FlatSearchedUpTo s x steps n
+  pub more : n < length (found_states x.found)
+
+-- the first n states and one more have been looked at; or two next events of that one conflict
+abbrev pub IsFlatSearchedAt : Plan → Search → List (Vec ScriptCall) → ℕ → Option Neighbours → Type 0
+IsFlatSearchedAt s x steps n o =
+    MatchOption o (FlatSearchedUpTo s x steps (n + 1)) (λ ns. FlatSearchedUpTo s x steps n × AreRacing s x.found steps ns)
+
+-- some states have been looked at, and all if they are no more than this; or of one two next events conflict
+pub record IsFlatSearchedThrough (s : Plan) (x : Search) (steps : List (Vec ScriptCall)) (most : ℕ) (o : Option Neighbours)
+    : Type 0 where
+  pub some : (n : ℕ) × FlatSearchedUpTo s x steps n
+  pub end :
+      MatchOption o (length (found_states x.found) ≤ most → FlatSearchedUpTo s x steps (length (found_states x.found)))
+      (AreRacing s x.found steps)
+
+-- some states have been looked at, or all
+pub record IsFlatSearched (s : Plan) (x : Search) (steps : List (Vec ScriptCall)) (through : Bool) : Type 0 where
+  pub some : (n : ℕ) × FlatSearchedUpTo s x steps n
+  pub all : IsTrue through → FlatSearchedUpTo s x steps (length (found_states x.found))
+
+-- the verdict is open only if no two events conflict and not all states were looked at
+abbrev pub IsFlatSearchVerdictOpen : Option Neighbours → Bool → Verdict → Type 0
+IsFlatSearchVerdictOpen o through verdict.RaceFree = o ≡ None
+IsFlatSearchVerdictOpen o through (verdict.Racy racy) = ⊤
+IsFlatSearchVerdictOpen o through verdict.Undecided = (o ≡ None) × (through ≡ false)
+
+-- whether it hangs is open only if not all states were looked at
+abbrev pub IsFlatSearchHangingOpen : Bool → Hanging → Type 0
+IsFlatSearchHangingOpen through hanging.Undecided = through ≡ false
+IsFlatSearchHangingOpen through _ = ⊤
+
+-- this is one of these, or put at their end
+abbrev pub IsAmongFlatSearched : List (List (List ℕ)) → List (List (List ℕ)) → List (List ℕ) → Type 0
+IsAmongFlatSearched old new x = (Has old x × (new ≡ old)) ⊎ ((¬ Has old x) × (new ≡ old ++ x ∷ []))

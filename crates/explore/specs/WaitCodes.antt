@@ -1,0 +1,34 @@
+-- What a processor waits for, and who holds a lock, as they are kept.
+use Rattle.std.specs.Prelude.{ℕ, ◌≡◌, ◌↔◌, Option, Some, None, List, slice_index_or}
+use Rattle.journal.specs.declared.event.Event.{Event}
+use Rattle.journal.specs.declared.event.Kind.{Kind}
+use Rattle.journal.specs.declared.event.Kind.TheVariants as kind
+use Rattle.judge.specs.Why.{WhyWaitsFor}
+use Rattle.explore.specs.declared.wait_code.WaitCode.{WaitCode}
+use Rattle.explore.specs.declared.wait_code.WaitCode.TheVariants.{Lock, Barrier, Flag}
+use Rattle.explore.specs.declared.wait_code.Seat.{Seat}
+
+-- the event that ends a wait
+abbrev pub wait_code_end_of : WaitCode → Kind
+wait_code_end_of (Lock l) = kind.Acquire l
+wait_code_end_of Barrier = kind.Depart
+wait_code_end_of (Flag f) = kind.Await f
+
+-- and if there may be none
+abbrev pub wait_code_ending : Option WaitCode → Option Kind
+wait_code_ending None = None
+wait_code_ending (Some w) = Some (wait_code_end_of w)
+
+-- of each processor what it waits for, if it waits
+abbrev pub WaitCodesAreKept : List Event → List (Option WaitCode) → Type 0
+WaitCodesAreKept j waits = (p : ℕ) (k : Kind) → (wait_code_ending (slice_index_or waits p None) ≡ Some k) ↔ WhyWaitsFor j p k
+
+-- how many arrivals a wait has that no departure has ended: one at the barrier
+abbrev pub wait_code_arrivals_open : Option WaitCode → ℕ
+wait_code_arrivals_open (Some Barrier) = 1
+wait_code_arrivals_open _ = 0
+
+-- the processor that has a seat
+abbrev pub wait_code_seated : Option Seat → Option ℕ
+wait_code_seated None = None
+wait_code_seated (Some s) = Some s.0

@@ -1,0 +1,102 @@
+use Rattle.std.proofs.Common.{◌≡◌, ℕ, ◌<◌, ◌^◌, [], ◌∷◌, ◌++◌, List, Option, Some, Bool, IsTrue, false, ◌↔◌, slice_index, slice_index_or, subst, sym, ap, ◌∙◌, length-append, arith}
+use Rattle.std.specs.Prelude.{None}
+use Rattle.std.proofs.Math.ListN.{length-set}
+use Rattle.base.specs.Limits.{most_held}
+use Rattle.journal.specs.declared.event.Event.{Event}
+use Rattle.journal.specs.Events.{event_arrives, event_departs}
+use Rattle.journal.specs.WellFormed.{Holds}
+use Rattle.judge.specs.declared.frontier.Frontier.{Frontier}
+use Rattle.judge.specs.LaxWellFormed.{LaxMayFollow}
+use Rattle.judge.specs.JudgedSizes.{judged_sizes_of}
+use Rattle.judge.specs.FrontTells.{FrontTellsFlagSet, FrontTellsHistory, front_tells_flag_set_after, front_tells_holder_after}
+use Rattle.judge.proofs.FrontNoting.{front_noting_count_small, front_noting_counts_next, front_noting_holders_next, front_noting_lasts_next, front_noting_sets_next}
+use Rattle.judge.proofs.VecItems.{vec_items_written}
+use Rattle.judge.proofs.frontier.Frontier.note.Goals as goal
+
+-- its processor is one of sixteen
+processor_small : (j : List Event) (x : Frontier) (e : Event) → FrontTellsHistory j x → LaxMayFollow (judged_sizes_of x.sizes) j e
+    → e.processor < 16
+processor_small j x e tells may = let few = tells.sizes.processors in let lt = may.processor in omega arith
+
+-- counts are below the number of events
+arrivals_small : (j : List Event) (x : Frontier) (q : ℕ) → FrontTellsHistory j x → x.place < most_held
+    → slice_index x.arrivals q < 2 ^ 22
+arrivals_small j x q tells few =
+    let is = tells.arrivals q in
+    let le = front_noting_count_small event_arrives j q in
+    let long = tells.place in
+    omega arith
+
+departures_small : (j : List Event) (x : Frontier) (q : ℕ) → FrontTellsHistory j x → x.place < most_held
+    → slice_index x.departures q < 2 ^ 22
+departures_small j x q tells few =
+    let is = tells.departures q in
+    let le = front_noting_count_small event_departs j q in
+    let long = tells.place in
+    omega arith
+
+-- what is read is what the lemmas speak of
+holder_is : (j : List Event) (e : Event) (l q : ℕ) (new : List (Option ℕ)) (o : Option ℕ)
+    → slice_index_or new l None ≡ o → (o ≡ Some q) ↔ Holds (j ++ e ∷ []) q l
+    → (slice_index_or new l None ≡ Some q) ↔ Holds (j ++ e ∷ []) q l
+holder_is j e l q new o is tells = subst (λ x. (x ≡ Some q) ↔ Holds (j ++ e ∷ []) q l) (sym is) tells
+
+flag_is : (j : List Event) (e : Event) (f : ℕ) (new : List Bool) (b : Bool) → slice_index_or new f false ≡ b
+    → IsTrue b ↔ FrontTellsFlagSet (j ++ e ∷ []) f → IsTrue (slice_index_or new f false) ↔ FrontTellsFlagSet (j ++ e ∷ []) f
+flag_is j e f new b is tells = subst (λ x. IsTrue x ↔ FrontTellsFlagSet (j ++ e ∷ []) f) (sym is) tells
+
+pub update_frontier_episodes-requires : goal.update_frontier_episodes-requires
+update_frontier_episodes-requires c =
+    let given = c.requires.may_follow in
+    record {
+      processor = processor_small given.0 c.args.self.now c.args.event given.1 given.2;
+      arrivals_room = arrivals_small given.0 c.args.self.now c.args.event.processor given.1 c.requires.few;
+      departures_room = departures_small given.0 c.args.self.now c.args.event.processor given.1 c.requires.few;
+    }
+
+pub update_frontier_holders-requires : goal.update_frontier_holders-requires
+update_frontier_holders-requires c =
+    let given = c.requires.may_follow in
+    let long = given.1.long_holders in
+    let len = c.deref_mut.ensures.len in
+    (judged_sizes_of c.args.self.now.sizes, omega arith, given.2.in_range)
+
+pub set-requires : goal.set-requires
+set-requires c =
+    let given = c.requires.may_follow in
+    let long = given.1.long_flags in
+    let len = c.deref_mut-2.ensures.len in
+    (judged_sizes_of c.args.self.now.sizes, omega arith, given.2.in_range)
+
+pub bounds-self-event : goal.bounds-self-event
+bounds-self-event c =
+    let given = c.requires.may_follow in
+    processor_small given.0 c.args.self.now c.args.event given.1 given.2
+
+pub returns-clause-tells : goal.returns-clause-tells
+returns-clause-tells c = λ j tells may.
+    let x = c.args.self.now in
+    let e = c.args.event in
+    let few = processor_small j x e tells may in
+    let long = tells.long in
+    record {
+      sizes = tells.sizes;
+      place = (let was = tells.place in let now = length-append j (e ∷ []) in omega arith);
+      long = length-set x.last e.processor (Some (record { place = x.place; kind = e.kind })) ∙ long;
+      lasts = front_noting_lasts_next j e x.last x.place (omega arith) tells.place tells.lasts;
+      arrivals = front_noting_counts_next event_arrives j e x.arrivals c.update_frontier_episodes.new.arrivals c.update_frontier_episodes.ensures.arrivals tells.arrivals;
+      departures =
+          front_noting_counts_next event_departs j e x.departures c.update_frontier_episodes.new.departures c.update_frontier_episodes.ensures.departures tells.departures;
+      long_holders = tells.long_holders;
+      holders = λ l q. subst (λ xs. (slice_index_or xs l None ≡ Some q) ↔ Holds (j ++ e ∷ []) q l)
+          (sym (vec_items_written c.update_frontier_holders.new.holders _ x.holders.len
+          (c.update_frontier_holders.ensures.long ∙ c.deref_mut.ensures.len))) (
+          holder_is j e l q c.update_frontier_holders.new.holders _ (c.update_frontier_holders.ensures.holders l
+          ∙ ap (λ xs. front_tells_holder_after (slice_index_or xs l None) l e.processor e.kind) c.deref_mut.ensures.value)
+          (front_noting_holders_next (judged_sizes_of x.sizes) j e.processor e.kind l _ may.allowed (tells.holders l) q));
+      long_flags = tells.long_flags;
+      flags = λ f. subst (λ xs. IsTrue (slice_index_or xs f false) ↔ FrontTellsFlagSet (j ++ e ∷ []) f)
+          (sym (vec_items_written c.set.new.flags _ x.flags.len (c.set.ensures.long ∙ c.deref_mut-2.ensures.len))) (
+          flag_is j e f c.set.new.flags _ (c.set.ensures.flags f
+          ∙ ap (λ xs. front_tells_flag_set_after (slice_index_or xs f false) f e.kind) c.deref_mut-2.ensures.value) (front_noting_sets_next j e.processor e.kind f _ (tells.flags f)));
+    }

@@ -1,5 +1,0 @@
-use Rattle.std.proofs.Common.{◌≡◌}
-use Rattle.judge.proofs.locksets.word.keep.Given as goal
-
-abbrev pub invariant-loop-index : goal.invariant-loop-index
-invariant-loop-index l = l.accesses.items ≡ l.fn.accesses.items

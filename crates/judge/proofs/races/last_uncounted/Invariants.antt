@@ -1,7 +1,0 @@
-use Rattle.std.proofs.Common.{slice_index}
-use Rattle.judge.specs.SparseTables.{sparse_at}
-use Rattle.judge.specs.NearestRaces.{IsLastUncountedByRaces}
-use Rattle.judge.proofs.races.last_uncounted.Given as goal
-
-abbrev pub invariant-loop-by : goal.invariant-loop-by
-invariant-loop-by l = IsLastUncountedByRaces (sparse_at l.rows) l.row (slice_index l.time) l.processor l.by l.nearest

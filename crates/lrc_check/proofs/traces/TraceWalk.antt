@@ -1,0 +1,219 @@
+-- Reading from line to line through the bytes of a trace.
+use Rattle.std.proofs.Common.{◌≡◌, ◌≢◌, ℕ, ◌+◌, ◌<◌, List, [], ◌∷◌, ◌++◌, Option, Some, None, length, refl, sym, ap, subst, ◌∙◌, append_assoc, append-nil, arith, inl, inr}
+use Rattle.std.proofs.lemmas.List.{length-append}
+use Rattle.std.proofs.lemmas.List.Elements.{All-nil, All-push}
+use Rattle.journal.specs.declared.event.Event.{Event}
+use Rattle.journal.specs.Sizes.{Sizes}
+use Rattle.lrc_script.specs.ScriptFaults.{HasLine}
+use Rattle.lrc_script.specs.LineReading.{IsLineReadOff}
+use Rattle.lrc_script.proofs.Reading.Separators.{HasNoSeparator}
+use Rattle.lrc_report.specs.ReportText.{report_event_text, report_events_text}
+use Rattle.lrc_report.proofs.ReportLines.{report_lines_append}
+use Rattle.lrc_check.specs.declared.traces.fault.TraceFault.{TraceFault}
+use Rattle.lrc_check.specs.declared.traces.fault.TraceFault.TheVariants.{Truncated, NoMemory}
+use Rattle.lrc_check.specs.declared.traces.trace.Trace.{Trace}
+use Rattle.lrc_check.specs.Traces.Sizes.{AreTraceSizes, trace_sizes_of}
+use Rattle.lrc_check.specs.Traces.TraceText.{trace_text_first_line, trace_text}
+use Rattle.lrc_check.specs.Traces.LawfulTraces.{IsNoLawfulTrace, IsLawfulTrace, IsWithinLawfulTrace}
+use Rattle.lrc_check.specs.Traces.Begun.{IsTraceBegun, trace_begun_text, trace_begun_line_number}
+use Rattle.lrc_check.specs.Traces.TraceLines.{TraceLineRead}
+use Rattle.lrc_check.specs.Traces.TraceFaults.{BeginsTraceText, TraceFaultSaysNoSizes, TraceLineHasSizes, TraceFaultSaysOfHead, IsFaultyTraceLine, IsTraceFault, IsTraceFaultBehind, IsTraceFaultInHead, IsTraceFaultLasting, TraceFaultSaysOfLine, TraceFaultRefuses}
+use Rattle.lrc_check.proofs.traces.Never.{never_begins}
+use Rattle.lrc_check.proofs.traces.TextParts.{text_parts_first_due, text_parts_end_in_line_feed, text_parts_have_line_feed}
+
+-- the sizes alone
+pub trace_walk_start : (s : Sizes) → AreTraceSizes s → IsLawfulTrace s []
+trace_walk_start s h = record { sizes = h; few = omega arith; events = All-nil (IsWithinLawfulTrace s) }
+
+-- one event more
+pub trace_walk_added : (s : Sizes) (es fs : List Event) (line : List ℕ) → IsLawfulTrace s es → TraceLineRead s es line fs
+    → IsLawfulTrace s fs
+trace_walk_added s es fs line h a =
+    subst (IsLawfulTrace s) (sym a.after_is) (record {
+      sizes = h.sizes;
+      few = omega (arith, a.room, length-append es (a.event ∷ []));
+      events = All-push (IsWithinLawfulTrace s) es a.event h.events a.within;
+    })
+
+pub trace_walk_added_text : (s : Sizes) (es fs : List Event) (line : List ℕ) → TraceLineRead s es line fs
+    → trace_text s fs ≡ trace_text s es ++ (line ++ 10 ∷ [])
+trace_walk_added_text s es fs line a =
+    let lines : report_events_text 0 fs ≡ report_events_text 0 es ++ (line ++ 10 ∷ []) =
+    ap (report_events_text 0) a.after_is ∙ report_lines_append 0 es (a.event ∷ [])
+    ∙ ap (λ (x : List ℕ). report_events_text 0 es ++ x)
+    (append-nil (report_event_text (0 + length es) a.event)
+    ∙ (let place : 0 + length es ≡ length es = omega arith in ap (λ (n : ℕ). report_event_text n a.event) place)
+    ∙ sym a.line_is.line_is) in
+    ap (λ (x : List ℕ). trace_text_first_line s ++ x) lines
+    ∙ sym (append_assoc (trace_text_first_line s) (report_events_text 0 es) (line ++ 10 ∷ []))
+
+-- a line among the bytes, and what stands behind it
+pub trace_walk_line_among : (before bytes line after : List ℕ) → IsLineReadOff bytes line after
+    → before ++ bytes ≡ (before ++ (line ++ 10 ∷ [])) ++ after
+trace_walk_line_among before bytes line after cut =
+    ap (λ (x : List ℕ). before ++ x) (cut.bytes_are ∙ sym (append_assoc line (10 ∷ []) after))
+    ∙ sym (append_assoc before (line ++ 10 ∷ []) after)
+
+-- a line that begins before these bytes
+pub trace_walk_line_joined : (before kept piece line after : List ℕ) → IsLineReadOff piece line after
+    → (before ++ kept) ++ piece ≡ (before ++ ((kept ++ line) ++ 10 ∷ [])) ++ after
+trace_walk_line_joined before kept piece line after cut =
+    trace_walk_line_among (before ++ kept) piece line after cut
+    ∙ ap (λ (x : List ℕ). x ++ after)
+    (append_assoc before kept (line ++ 10 ∷ [])
+    ∙ ap (λ (x : List ℕ). before ++ x) (sym (append_assoc kept line (10 ∷ []))))
+
+-- nothing stands behind a line feed at the end
+trace_walk_line_feed_there : (xs : List ℕ) → HasNoSeparator 10 (xs ++ 10 ∷ []) → ⊥
+trace_walk_line_feed_there [] clean = clean.0 refl
+trace_walk_line_feed_there (x ∷ xs) clean = trace_walk_line_feed_there xs clean.1
+
+pub trace_walk_nothing_behind : (xs ys rest : List ℕ) → HasNoSeparator 10 rest → xs ++ rest ≡ ys ++ 10 ∷ [] → rest ≡ []
+trace_walk_nothing_behind [] ys rest clean same = absurd (trace_walk_line_feed_there ys (subst (HasNoSeparator 10) same clean))
+trace_walk_nothing_behind (x ∷ xs) [] [] clean same = refl
+trace_walk_nothing_behind (x ∷ xs) [] (r ∷ rest) clean same =
+    absurd (omega (arith, ap (λ (t : List ℕ). length t) same, length-append xs (r ∷ rest)))
+trace_walk_nothing_behind (x ∷ xs) (y ∷ ys) rest clean same =
+    trace_walk_nothing_behind xs ys rest clean (let others : xs ++ rest ≡ ys ++ 10 ∷ [] = cc in others)
+
+-- where that line was read, what is read and what stands behind it are all the bytes
+pub trace_walk_joined_line_read : (before kept piece line after now left : List ℕ) → IsLineReadOff piece line after → HasNoSeparator 10 left
+    → now ++ left ≡ before ++ ((kept ++ line) ++ 10 ∷ []) → now ++ after ≡ (before ++ kept) ++ piece
+trace_walk_joined_line_read before kept piece line after now left cut clean same =
+    let none : left ≡ [] =
+    trace_walk_nothing_behind now (before ++ (kept ++ line)) left clean
+    (same ∙ sym (append_assoc before (kept ++ line) (10 ∷ []))) in
+    let whole : now ≡ before ++ ((kept ++ line) ++ 10 ∷ []) =
+    sym (append-nil now) ∙ ap (λ (x : List ℕ). now ++ x) (sym none) ∙ same in
+    ap (λ (x : List ℕ). x ++ after) whole ∙ sym (trace_walk_line_joined before kept piece line after cut)
+
+-- ---- a line that adds no event
+
+trace_walk_bad_line : (f : TraceFault) (s : Sizes) (es : List Event) (rest line more : List ℕ) → IsLawfulTrace s es
+    → IsLineReadOff rest line more → TraceFaultSaysOfLine f s es line → IsFaultyTraceLine (trace_text s es) rest (TraceFaultSaysOfLine f s es)
+trace_walk_bad_line f s es rest line more h cut says = record {
+  line = line;
+  more = more;
+  cut = cut;
+  holds = says;
+  never = never_begins f s es line h cut.one_line says;
+}
+
+trace_walk_has_line : (rest line more : List ℕ) → IsLineReadOff rest line more → HasLine rest
+trace_walk_has_line rest line more cut =
+    record { line = line; more = more; rest_is = cut.bytes_are; one_line = cut.one_line }
+
+pub trace_walk_line_refused : (f : TraceFault) (s : Sizes) (es : List Event) (rest line more : List ℕ) → IsLawfulTrace s es
+    → IsLineReadOff rest line more → TraceFaultRefuses f s es line → IsTraceFaultBehind f s es rest
+trace_walk_line_refused NoMemory s es rest line more h cut says = trace_walk_has_line rest line more cut
+trace_walk_line_refused Truncated s es rest line more h cut says = absurd says.3
+trace_walk_line_refused f s es rest line more h cut says = trace_walk_bad_line f s es rest line more h cut says
+
+-- ---- the first line
+
+trace_walk_sizeless_line : (line : List ℕ) → HasNoSeparator 10 line → ((s : Sizes) → ¬ TraceLineHasSizes line s) → BeginsTraceText (line ++ 10 ∷ []) → ⊥
+trace_walk_sizeless_line line clean none begins =
+    let due = text_parts_first_due line clean begins in
+    none due.0 (record { sizes = due.1; line_is = ap (λ (x : List ℕ). x ++ 10 ∷ []) due.2 })
+
+trace_walk_bad_head : (f : TraceFault) (bytes line more : List ℕ) → IsLineReadOff bytes line more
+    → TraceFaultSaysOfHead f line × ((s : Sizes) → ¬ TraceLineHasSizes line s) → IsFaultyTraceLine [] bytes (TraceFaultSaysOfHead f)
+trace_walk_bad_head f bytes line more cut h =
+    record { line = line; more = more; cut = cut; holds = h.0; never = trace_walk_sizeless_line line cut.one_line h.1 }
+
+pub trace_walk_head_fault : (f : TraceFault) (bytes line more : List ℕ) → IsLineReadOff bytes line more → TraceFaultSaysNoSizes f line
+    → IsTraceFaultInHead f bytes
+trace_walk_head_fault NoMemory bytes line more cut h = trace_walk_has_line bytes line more cut
+trace_walk_head_fault Truncated bytes line more cut h = absurd h.0
+trace_walk_head_fault f bytes line more cut h = trace_walk_bad_head f bytes line more cut h
+
+-- ---- a fault is answered only where the bytes are no trace's text
+
+trace_walk_bad_line_only : (before rest bytes : List ℕ) (Holds : List ℕ → Type 0) → bytes ≡ before ++ rest
+    → IsFaultyTraceLine before rest Holds → IsNoLawfulTrace bytes
+trace_walk_bad_line_only before rest bytes Holds whole bad s es h same =
+    bad.never (
+      s,
+      es,
+      h,
+      bad.more,
+      sym same ∙ whole
+          ∙ ap (λ (x : List ℕ). before ++ x)
+          (bad.cut.bytes_are ∙ sym (append_assoc bad.line (10 ∷ []) bad.more))
+          ∙ sym (append_assoc before (bad.line ++ 10 ∷ []) bad.more),
+    )
+
+trace_walk_head_fault_only : (f : TraceFault) (bytes : List ℕ) → f ≢ NoMemory → IsTraceFaultInHead f bytes → IsNoLawfulTrace bytes
+trace_walk_head_fault_only NoMemory bytes ne h = absurd (ne refl)
+trace_walk_head_fault_only Truncated bytes ne h = λ s es trace same. text_parts_have_line_feed s es trace (subst (HasNoSeparator 10) same h)
+trace_walk_head_fault_only f bytes ne h = trace_walk_bad_line_only [] bytes bytes (TraceFaultSaysOfHead f) refl h
+
+trace_walk_fault_behind_only : (f : TraceFault) (s : Sizes) (es : List Event) (rest bytes : List ℕ) → f ≢ NoMemory → IsLawfulTrace s es
+    → bytes ≡ trace_text s es ++ rest → IsTraceFaultBehind f s es rest → IsNoLawfulTrace bytes
+trace_walk_fault_behind_only NoMemory s es rest bytes ne begun whole h = absurd (ne refl)
+trace_walk_fault_behind_only Truncated s es rest bytes ne begun whole h =
+    λ t fs trace same.
+    let none = text_parts_end_in_line_feed s t es fs rest begun trace h.0 (sym same ∙ whole) in
+    omega (arith, ap (λ (x : List ℕ). length x) none, h.1)
+trace_walk_fault_behind_only f s es rest bytes ne begun whole h = trace_walk_bad_line_only (trace_text s es) rest bytes (TraceFaultSaysOfLine f s es) whole h
+
+pub trace_walk_fault_only : (f : TraceFault) (bytes : List ℕ) (n : ℕ) → IsTraceFault bytes n f → f ≢ NoMemory → IsNoLawfulTrace bytes
+trace_walk_fault_only f bytes n (inl h) ne = trace_walk_head_fault_only f bytes ne h.1
+trace_walk_fault_only f bytes n (inr h) ne = trace_walk_fault_behind_only f h.0 h.1.events h.1.rest bytes ne h.1.begun h.1.whole h.1.behind
+
+-- ---- a fault that lasts, however the bytes go on
+
+trace_walk_line_read_off : (line more : List ℕ) → HasNoSeparator 10 line → IsLineReadOff ((line ++ 10 ∷ []) ++ more) line more
+trace_walk_line_read_off line more clean = record { bytes_are = append_assoc line (10 ∷ []) more; one_line = clean }
+
+pub trace_walk_first_fault : (f : TraceFault) (line : List ℕ) → HasNoSeparator 10 line → TraceFaultSaysNoSizes f line
+    → IsTraceFaultLasting (line ++ 10 ∷ []) 1 f
+trace_walk_first_fault f line clean h more =
+    inl (refl, trace_walk_head_fault f ((line ++ 10 ∷ []) ++ more) line more (trace_walk_line_read_off line more clean) h)
+
+pub trace_walk_next_fault : (f : TraceFault) (s : Sizes) (es : List Event) (line : List ℕ) → IsLawfulTrace s es → HasNoSeparator 10 line
+    → TraceFaultRefuses f s es line → IsTraceFaultLasting (trace_text s es ++ (line ++ 10 ∷ [])) (length es + 2) f
+trace_walk_next_fault f s es line h clean says more =
+    let rest = (line ++ 10 ∷ []) ++ more in
+    inr (
+      s,
+      record {
+        events = es;
+        rest = rest;
+        begun = h;
+        whole = append_assoc (trace_text s es) (line ++ 10 ∷ []) more;
+        number = refl;
+        behind = trace_walk_line_refused f s es rest line more h (trace_walk_line_read_off line more clean) says;
+      },
+    )
+
+pub trace_walk_fault_longer : (f : TraceFault) (n : ℕ) (front more bytes : List ℕ) → bytes ≡ front ++ more
+    → IsTraceFaultLasting front n f → IsTraceFaultLasting bytes n f
+trace_walk_fault_longer f n front more bytes whole h after =
+    subst (λ (x : List ℕ). IsTraceFault x n f)
+    (sym (append_assoc front more after) ∙ ap (λ (x : List ℕ). x ++ after) (sym whole)) (h (more ++ after))
+
+-- the last line has no line feed
+pub trace_walk_rest_fault : (begun : Option Trace) (rest : List ℕ) → IsTraceBegun begun → HasNoSeparator 10 rest → 0 < length rest
+    → IsTraceFault (trace_begun_text begun ++ rest) (trace_begun_line_number begun) Truncated
+trace_walk_rest_fault None rest h clean some = inl (refl, clean)
+trace_walk_rest_fault (Some t) rest h clean some =
+    inr (
+      trace_sizes_of t.sizes,
+      record {
+        events = t.events.items;
+        rest = rest;
+        begun = h;
+        whole = refl;
+        number = refl;
+        behind = (clean, some);
+      },
+    )
+
+-- no trace has a text that begins with such bytes
+pub trace_walk_fault_never_begun : (f : TraceFault) (bytes : List ℕ) (n : ℕ) → f ≢ NoMemory → IsTraceFaultLasting bytes n f
+    → ¬ BeginsTraceText bytes
+trace_walk_fault_never_begun f bytes n ne h b = trace_walk_fault_only f (bytes ++ b.3) n (h b.3) ne b.0 b.1 b.2 (sym b.4)
+
+pub trace_walk_whole_fault : (f : TraceFault) (bytes : List ℕ) (n : ℕ) → IsTraceFaultLasting bytes n f → IsTraceFault bytes n f
+trace_walk_whole_fault f bytes n h = subst (λ (x : List ℕ). IsTraceFault x n f) (append-nil bytes) (h [])

@@ -1,0 +1,79 @@
+//! What of a trace is told: how far, and what is said of it.
+ghost use Rattle.std.specs.Prelude.{◌≡◌, IfOk, is_some};
+ghost use Rattle.judge.specs.Prelude.{AreJudgedSizesSmall};
+ghost use Rattle.lrc_check.specs.Traces.Prelude.{IsLawfulTrace, trace_sizes_of};
+ghost use Rattle.lrc_check.specs.Prelude.{IsTraceTold, is_told_trace_a_lie};
+
+use crate::checked::{Rules, TraceVerdict};
+use crate::checking_traces::judge_trace;
+use crate::trace_history::trace_history_of;
+use crate::traces::trace::LabelledTrace;
+use crate::verdict_text::{Told, verdict_lie_text, verdict_text_of};
+use journal::Event;
+use judge::{History, MemoryModel};
+use std::alloc::{AllocError, Global};
+
+/// What of a trace is told: its events up to the first lie and with it, or all if there is none.
+#[derive(Drop)]
+pub struct ToldTrace<'a> {
+    pub history: History<'a>,
+    /// Their labels, as they are shown among other words: a byte that is no printable sign of ASCII as `?`.
+    pub labels: Vec<Vec<u8>>,
+    /// Why the last of them is a lie, as the verdict says it; None if it is none.
+    pub lie: Option<String>,
+    /// The places of the two accesses of the first race, the nearest one; None if no race was found.
+    pub race: Option<(usize, usize)>,
+    /// The text that `check` writes of the trace.
+    pub verdict: Vec<u8>,
+}
+
+/// Why the event that ended the judging is a lie; None if it ended otherwise.
+fn lie_to_tell_of_trace(
+    alloc: Global,
+    events: &[Event],
+    verdict: &TraceVerdict,
+) -> Result<Option<String>, AllocError>
+    ensures { IfOk result (λ lie. is_some lie ≡ is_told_trace_a_lie verdict.now) }
+{
+    match verdict {
+        TraceVerdict::Lie(lie) => Ok(Some(verdict_lie_text(alloc, events, lie)?)),
+        _ => Ok(None),
+    }
+}
+
+/// What is told of the trace, which is judged by the model, lax or not. Whether it `can_trace_history_be_told` is to be asked before. The only
+/// error is running out of memory.
+pub fn tell_trace(
+    alloc: Global,
+    labelled: &LabelledTrace,
+    model: MemoryModel,
+    lax: bool,
+) -> Result<ToldTrace<'_>, AllocError>
+    requires trace { IsLawfulTrace (trace_sizes_of labelled.now.trace.sizes) labelled.now.trace.events.items }
+    requires small { AreJudgedSizesSmall (trace_sizes_of labelled.now.trace.sizes) }
+    ensures { IfOk result
+        (IsTraceTold model lax (trace_sizes_of labelled.now.trace.sizes) labelled.now.trace.events.items labelled.now.labels) }
+{
+    let rules = Rules {
+        model,
+        lax,
+        ends_at_race: false,
+    };
+    let judged = judge_trace(alloc, &labelled.trace, rules, false)?;
+    let events: &[Event] = &labelled.trace.events;
+    let told = Told {
+        events,
+        labels: &labelled.labels,
+    };
+    let verdict = verdict_text_of(alloc, told, &judged, rules)?;
+    let lie = lie_to_tell_of_trace(alloc, events, &judged.found.verdict)?;
+    let count = judged.found.count;
+    let labels = labelled.labels.shown(alloc, count)?;
+    Ok(ToldTrace {
+        history: trace_history_of(labelled.trace.sizes, &events[..count]),
+        labels,
+        lie,
+        race: judged.found.race,
+        verdict,
+    })
+}

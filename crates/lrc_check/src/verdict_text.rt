@@ -1,0 +1,418 @@
+//! The text of what was found of a trace.
+ghost use Rattle.std.specs.Prelude.{◌≡◌, ◌++◌, OnOk};
+ghost use Rattle.lrc_check.specs.Prelude.{told_line_label_mark, told_line};
+
+use crate::checked::{Lie, Rules, TraceVerdict, Unexplained};
+use crate::checking_traces::JudgedTrace;
+use crate::traces::labels::TraceLabels;
+use crate::unprotected::put_unprotected_text;
+use causes::RaceApart;
+use journal::{Event, Kind, MOST_PROCESSORS, Traffic};
+use judge::{MemoryModel, Miscounted, Permitted, Why};
+use lrc_prose::numbers::ProseNumbers;
+use lrc_prose::racing::RaceProse;
+use lrc_prose::text::ProseText;
+use lrc_report::{ReportLine, render};
+use std::alloc::{AllocError, Global};
+
+/// How many stores are told that a load may answer, at most.
+const MOST_TOLD: usize = 64;
+
+/// How far the sentences on a race are indented.
+const INDENT: usize = 2;
+
+/// What is told of a trace: its events, with their labels.
+#[derive(Clone, Copy)]
+pub(crate) struct Told<'a> {
+    pub(crate) events: &'a [Event],
+    pub(crate) labels: &'a TraceLabels,
+}
+
+/// Adds a label behind two spaces, if there is one.
+fn put_verdict_label_text(text: &mut Vec<u8>, label: &[u8]) -> Result<(), AllocError>
+    ensures { OnOk result (text.new.items ≡ text.old.items ++ told_line_label_mark label.now) }
+{
+    if label.is_empty() {
+        return Ok(());
+    }
+    text.extend_from_slice(b"  ")?;
+    text.extend_from_slice(label)?;
+    Ok(())
+}
+
+/// Adds the line of the event at this place, as the trace has it, with its label.
+fn put_verdict_event_text(
+    text: &mut Vec<u8>,
+    told: Told<'_>,
+    place: usize,
+) -> Result<(), AllocError>
+    ensures { OnOk result (text.new.items ≡ text.old.items
+        ++ told_line told.entry.events.now told.entry.labels.now place) }
+{
+    let Some(event) = told.events.get(place) else {
+        return Ok(());
+    };
+    let mut line = ReportLine::new();
+    render::render_report_event(&mut line, place as u64, event);
+    let bytes = line.bytes();
+    text.extend_from_slice(&bytes[..bytes.len() - 1])?;
+    put_verdict_label_text(text, told.labels.of(place))?;
+    text.push(b'\n')?;
+    Ok(())
+}
+
+/// Adds the lines of the events at these places.
+fn put_verdict_events_text(
+    text: &mut Vec<u8>,
+    told: Told<'_>,
+    places: &[usize],
+) -> Result<(), AllocError> {
+    for place in places {
+        put_verdict_event_text(text, told, *place)?;
+    }
+    Ok(())
+}
+
+/// What its processor waits for.
+fn verdict_awaited_text(alloc: Global, kind: Kind) -> Result<String, AllocError> {
+    match kind {
+        Kind::Acquire(lock) => format!(in alloc; "its processor waits for lock {lock}"),
+        Kind::Await(flag) => format!(in alloc; "its processor waits for flag {flag}"),
+        _ => String::from_str(alloc, "its processor waits at the barrier"),
+    }
+}
+
+/// A reason that names nobody.
+fn verdict_plain_reason_text(why: Why) -> &'static str {
+    match why {
+        Why::NoSuchProcessor => "there is no such processor",
+        Why::OutOfRange => "a number of it is out of range",
+        Why::AsksWhatItHolds => "its processor holds the lock",
+        Why::NotAsked => "its processor has not just asked, arrived or watched for it",
+        Why::NotHeld => "its processor does not hold the lock",
+        Why::NotSet => "nobody has set the flag",
+        _ => "it may not stand there",
+    }
+}
+
+/// Why an event may not follow what stands before it. The only error is running out of memory.
+pub fn verdict_reason_text(alloc: Global, why: Why) -> Result<String, AllocError> {
+    match why {
+        Why::Waits(kind) => verdict_awaited_text(alloc, kind),
+        Why::HeldBy(holder) => format!(in alloc; "processor {holder} holds the lock"),
+        Why::AskedEarlier(asker, place) => format!(in alloc;
+            "processor {asker} asked for the lock earlier, by event {place}"
+        ),
+        Why::NotArrived(other) => format!(in alloc; "processor {other} has not arrived"),
+        _ => String::from_str(alloc, verdict_plain_reason_text(why)),
+    }
+}
+
+/// The places that there are, by processor.
+fn verdict_text_places(
+    alloc: Global,
+    latest: &[Option<usize>; MOST_PROCESSORS],
+) -> Result<Vec<usize>, AllocError> {
+    let mut places = Vec::new(alloc);
+    for place in latest {
+        if let Some(place) = *place {
+            places.push(place)?;
+        }
+    }
+    Ok(places)
+}
+
+/// Whether the events at the two places are stores of one value by one processor.
+fn are_alike(events: &[Event], one: usize, other: usize) -> bool {
+    match (events.get(one), events.get(other)) {
+        (Some(one), Some(other)) => match (one.kind, other.kind) {
+            (Kind::Store(_, value), Kind::Store(_, same)) => {
+                one.processor == other.processor && value == same
+            }
+            _ => false,
+        },
+        _ => false,
+    }
+}
+
+/// Whether a store like the one at this place is among those at the others.
+fn is_told(events: &[Event], places: &[usize], place: usize) -> bool {
+    for told in places {
+        if are_alike(events, *told, place) {
+            return true;
+        }
+    }
+    false
+}
+
+/// Adds the places of the stores that aren't told yet, as long as there are few.
+fn add_untold(
+    places: &mut Vec<usize>,
+    events: &[Event],
+    unordered: &[usize],
+) -> Result<(), AllocError> {
+    for place in unordered {
+        if places.len() < MOST_TOLD && !is_told(events, places, *place) {
+            places.push(*place)?;
+        }
+    }
+    Ok(())
+}
+
+/// What a load may answer, as it is told: 0, if it may, and the values of some stores.
+#[derive(Drop)]
+pub struct AnswersTold {
+    pub zero: bool,
+    /// The places of the stores: of those of one value by one processor the first, and `MOST_TOLD` in all at most.
+    pub stores: Vec<usize>,
+}
+
+/// What a load of these events may answer, as it is told. The only error is running out of memory.
+pub fn verdict_text_answers(
+    alloc: Global,
+    events: &[Event],
+    permitted: &Permitted,
+) -> Result<AnswersTold, AllocError> {
+    let mut stores = match permitted {
+        Permitted::Latest(latest) | Permitted::Heard(latest, _) => verdict_text_places(
+            alloc, latest,
+        )?,
+        Permitted::Last(Some(place)) => vec![in alloc; *place]?,
+        Permitted::Last(None) => Vec::new(alloc),
+    };
+    let zero = stores.is_empty();
+    if let Permitted::Heard(_, unordered) = permitted {
+        add_untold(&mut stores, events, unordered)?;
+    }
+    Ok(AnswersTold { zero, stores })
+}
+
+/// What the load may answer; if `are_told` says so, the stores follow that it may answer.
+fn verdict_permitted_text(zero: bool, are_told: bool) -> &'static str {
+    match (zero, are_told) {
+        (_, false) => "it may answer 0 alone",
+        (true, true) => "it may answer 0, or only what was stored by",
+        (false, true) => "it may answer only what was stored by",
+    }
+}
+
+/// What the load may answer, with the numbers of the stores.
+fn verdict_unexplained_text(
+    alloc: Global,
+    events: &[Event],
+    load: &Unexplained,
+) -> Result<String, AllocError> {
+    let AnswersTold { zero, stores } = verdict_text_answers(alloc, events, &load.permitted)?;
+    let mut text = String::from_str(alloc, verdict_permitted_text(zero, !stores.is_empty()))?;
+    for (index, place) in stores.iter().enumerate() {
+        let front = if index == 0 { " " } else { ", " };
+        let store = format!(in alloc; "{front}event {place}")?;
+        text.push_str(&store)?;
+    }
+    Ok(text)
+}
+
+/// What the fetch has to count.
+fn verdict_miscounted_text(alloc: Global, fetch: Miscounted) -> Result<String, AllocError> {
+    let Miscounted {
+        writers,
+        records,
+        words,
+        ..
+    } = fetch;
+    format!(in alloc;
+        "the fetch has to count {writers} writers, {records} records and {words} words"
+    )
+}
+
+/// Why the event is a lie, in a line. The only error is running out of memory.
+pub(crate) fn verdict_lie_text(
+    alloc: Global,
+    events: &[Event],
+    lie: &Lie,
+) -> Result<String, AllocError> {
+    match lie {
+        Lie::IllFormed(fault) => verdict_reason_text(alloc, fault.why),
+        Lie::Unexplained(load) => verdict_unexplained_text(alloc, events, load),
+        Lie::Miscounted(fetch) => verdict_miscounted_text(alloc, *fetch),
+    }
+}
+
+/// Adds a line that says why an event is a lie.
+fn put_verdict_reason_text(text: &mut Vec<u8>, reason: &str) -> Result<(), AllocError> {
+    text.extend_from_slice(b"because ")?;
+    text.extend_from_slice(reason.as_bytes())?;
+    text.push(b'\n')?;
+    Ok(())
+}
+
+/// Adds what the load may answer: the stores have a line each.
+fn put_verdict_unexplained_text(
+    text: &mut Vec<u8>,
+    alloc: Global,
+    told: Told<'_>,
+    load: &Unexplained,
+) -> Result<(), AllocError> {
+    let AnswersTold { zero, stores } = verdict_text_answers(alloc, told.events, &load.permitted)?;
+    put_verdict_reason_text(text, verdict_permitted_text(zero, !stores.is_empty()))?;
+    put_verdict_events_text(text, told, &stores)
+}
+
+/// The sentences on the race: what keeps its accesses apart, and what would have ordered them.
+fn verdict_reasons_text(
+    alloc: Global,
+    events: &[Event],
+    apart: &RaceApart,
+) -> Result<Vec<u8>, AllocError> {
+    let race = RaceProse {
+        numbers: ProseNumbers::whole(),
+        events,
+        apart,
+    };
+    let mut reasons = ProseText::new(alloc);
+    race.put_reasons(&mut reasons, INDENT);
+    reasons.finish()
+}
+
+/// Adds the race, if one was found: its two events, and the sentences on it.
+fn put_verdict_race_text(
+    text: &mut Vec<u8>,
+    alloc: Global,
+    told: Told<'_>,
+    race: Option<&RaceApart>,
+) -> Result<(), AllocError> {
+    let Some(apart) = race else {
+        return Ok(());
+    };
+    text.extend_from_slice(b"verdict racy\n")?;
+    put_verdict_event_text(text, told, apart.first)?;
+    put_verdict_event_text(text, told, apart.second)?;
+    let reasons = verdict_reasons_text(alloc, told.events, apart)?;
+    text.extend_from_slice(&reasons)?;
+    Ok(())
+}
+
+/// The place of the lie.
+fn verdict_text_place(lie: &Lie) -> usize {
+    match lie {
+        Lie::IllFormed(fault) => fault.place,
+        Lie::Unexplained(load) => load.place,
+        Lie::Miscounted(fetch) => fetch.place,
+    }
+}
+
+/// Adds the lie: its place, its line, and why it is one.
+fn put_verdict_lie_text(
+    text: &mut Vec<u8>,
+    alloc: Global,
+    told: Told<'_>,
+    lie: &Lie,
+) -> Result<(), AllocError> {
+    let place = verdict_text_place(lie);
+    let line = format!(in alloc; "unfaithful {place}\n")?;
+    text.extend_from_slice(line.as_bytes())?;
+    put_verdict_event_text(text, told, place)?;
+    match lie {
+        Lie::Unexplained(load) => put_verdict_unexplained_text(text, alloc, told, load),
+        _ => put_verdict_reason_text(text, &verdict_lie_text(alloc, told.events, lie)?),
+    }
+}
+
+/// Adds the traffic.
+fn put_verdict_traffic_text(
+    text: &mut Vec<u8>,
+    alloc: Global,
+    traffic: Traffic,
+) -> Result<(), AllocError> {
+    let Traffic {
+        messages,
+        records,
+        words,
+    } = traffic;
+    let line = format!(in alloc; "traffic {messages} {records} {words}\n")?;
+    text.extend_from_slice(line.as_bytes())?;
+    Ok(())
+}
+
+/// Adds how many loads weren't judged, if that is told: under the race-free model after a race.
+fn put_verdict_unjudged_loads_text(
+    text: &mut Vec<u8>,
+    alloc: Global,
+    rules: Rules,
+    is_racy: bool,
+    unjudged: usize,
+) -> Result<(), AllocError> {
+    match rules.model {
+        MemoryModel::RaceFree if is_racy => {
+            let line = format!(in alloc; "unjudged {unjudged} loads\n")?;
+            text.extend_from_slice(line.as_bytes())?;
+        }
+        _ => {}
+    }
+    Ok(())
+}
+
+/// Adds what isn't judged under lax rules.
+fn put_verdict_unjudged_text(text: &mut Vec<u8>, rules: Rules) -> Result<(), AllocError> {
+    if rules.lax {
+        text.extend_from_slice(b"unjudged counts order\n")?;
+    }
+    Ok(())
+}
+
+/// The name of a model other than the memory's own, which isn't told.
+fn verdict_text_model_name(model: MemoryModel) -> Option<&'static str> {
+    match model {
+        MemoryModel::RaceFree => Some("race-free"),
+        MemoryModel::HappensBefore => Some("happens-before"),
+        MemoryModel::LazyRelease => None,
+        MemoryModel::Sequential => Some("sequential"),
+    }
+}
+
+/// The lines that say how many events were judged and under which model.
+fn verdict_text_opening(
+    alloc: Global,
+    count: usize,
+    model: MemoryModel,
+) -> Result<Vec<u8>, AllocError> {
+    let mut text = Vec::new(alloc);
+    let line = format!(in alloc; "events {count}\n")?;
+    text.extend_from_slice(line.as_bytes())?;
+    if let Some(name) = verdict_text_model_name(model) {
+        text.extend_from_slice(b"model ")?;
+        text.extend_from_slice(name.as_bytes())?;
+        text.push(b'\n')?;
+    }
+    Ok(text)
+}
+
+/// The text of what was found of this trace. The only error is running out of memory.
+pub(crate) fn verdict_text_of(
+    alloc: Global,
+    told: Told<'_>,
+    judged: &JudgedTrace,
+    rules: Rules,
+) -> Result<Vec<u8>, AllocError> {
+    let race = judged.race.as_ref();
+    let mut text = verdict_text_opening(alloc, judged.found.count, rules.model)?;
+    match &judged.found.verdict {
+        TraceVerdict::Faithful { traffic, unjudged } => {
+            text.extend_from_slice(b"faithful\n")?;
+            put_verdict_unjudged_text(&mut text, rules)?;
+            put_verdict_unjudged_loads_text(&mut text, alloc, rules, race.is_some(), *unjudged)?;
+            if race.is_none() {
+                text.extend_from_slice(b"verdict race-free\n")?;
+            }
+            put_verdict_race_text(&mut text, alloc, told, race)?;
+            put_unprotected_text(&mut text, alloc, told, &judged.unprotected)?;
+            put_verdict_traffic_text(&mut text, alloc, *traffic)?;
+        }
+        TraceVerdict::Lie(lie) => {
+            put_verdict_race_text(&mut text, alloc, told, race)?;
+            put_verdict_lie_text(&mut text, alloc, told, lie)?;
+        }
+        TraceVerdict::Racy => put_verdict_race_text(&mut text, alloc, told, race)?,
+    }
+    Ok(text)
+}

@@ -1,0 +1,159 @@
+-- A trace that was read and judged.
+use Rattle.std.proofs.Common.{◌≡◌, ◌≢◌, ◌∙◌, ℕ, suc, Bool, true, false, List, [], ◌++◌, ◌≤◌, Option, Some, None, Result, Ok, Err, IfOk, length, take, drop, refl, sym, ap, subst, append_assoc, append-nil, take-append-drop, arith}
+use Rattle.std.proofs.lemmas.List.{take_all}
+use Rattle.std.specs.Prelude.{IfErr, IfSome}
+use Rattle.std.specs.Io.KnownBytes.{Consumes, IsAtEnd}
+use Rattle.journal.specs.declared.event.Event.{Event}
+use Rattle.journal.specs.Sizes.{Sizes}
+use Rattle.judge.specs.declared.models.MemoryModel.{MemoryModel}
+use Rattle.lrc_check.specs.declared.checked.Lie.{Lie}
+use Rattle.lrc_check.specs.declared.checked.Rules.{Rules}
+use Rattle.lrc_check.specs.declared.checked.TraceVerdict.{TraceVerdict}
+use Rattle.lrc_check.specs.declared.checked.TraceVerdict.TheVariants as verdict
+use Rattle.lrc_check.specs.Faithful.{IsFaithfulAndCounted}
+use Rattle.lrc_check.specs.ToldTraces.{IsToldTraceUpToLie}
+use Rattle.lrc_check.specs.CheckVerdicts.{IsCheckVerdictLie, IsCheckVerdictOf, IsCheckVerdictWhole, check_verdict_lie_place}
+use Rattle.lrc_check.specs.declared.traces.fault.TraceFault.{TraceFault}
+use Rattle.lrc_check.specs.declared.traces.fault.TraceFault.TheVariants.{NoMemory}
+use Rattle.lrc_check.proofs.FoundRaces.{found_race_of_front}
+use Rattle.lrc_check.specs.Traces.FedText.{FedTextBeginsTrace, IsFedTextOf, FedText}
+use Rattle.lrc_check.specs.Traces.Labels.{without_trace_labels}
+use Rattle.lrc_check.specs.Traces.LawfulTraces.{IsNoLawfulTrace, IsLawfulTrace}
+use Rattle.lrc_check.specs.Traces.TraceText.{trace_text}
+use Rattle.lrc_commands.specs.declared.checking.Judgement.{Judgement}
+use Rattle.lrc_commands.specs.TraceCommand.{HasTraceCommandText, IsTraceCommandJudgedAs, IsTraceCommandOnNone, IsTraceCommandToldAs, IsTraceCommandReadSoFar, trace_command_judgement}
+
+-- nothing was read yet
+pub judged_source_fed_none : (source : Option (List ℕ)) (x : FedText) → IsFedTextOf [] x → IsTraceCommandReadSoFar source source (Ok x)
+judged_source_fed_none None x h = ([], tt, h)
+judged_source_fed_none (Some xs) x h = ([], refl, h)
+
+judged_source_consumed_no_more : (source left after : Option (List ℕ)) (fed piece : List ℕ) (n : ℕ) → n ≡ 0 → Consumes source left fed
+    → Consumes left after (take n piece) → Consumes source after fed
+judged_source_consumed_no_more None left after fed piece n none had more = tt
+judged_source_consumed_no_more (Some xs) None after fed piece n none had more = absurd had
+judged_source_consumed_no_more (Some xs) (Some ys) None fed piece n none had more = absurd more
+judged_source_consumed_no_more (Some xs) (Some ys) (Some zs) fed piece n none had more =
+    had ∙ ap (λ (x : List ℕ). fed ++ x) (more ∙ ap (λ (m : ℕ). take m piece ++ zs) none)
+
+-- nothing more was read
+pub judged_source_fed_no_more : (source left after : Option (List ℕ)) (piece : List ℕ) (n : ℕ)
+    (r : Result FedText (ℕ × TraceFault)) → n ≡ 0 → IsTraceCommandReadSoFar source left r → Consumes left after (take n piece)
+    → IsTraceCommandReadSoFar source after r
+judged_source_fed_no_more source left after piece n (Err e) none had more = had
+judged_source_fed_no_more source left after piece n (Ok x) none had more =
+    (had.0, judged_source_consumed_no_more source left after had.0 piece n none had.1 more, had.2)
+
+judged_source_consumed_on : (source left after : Option (List ℕ)) (fed piece : List ℕ) → Consumes source left fed
+    → Consumes left after piece → Consumes source after (fed ++ piece)
+judged_source_consumed_on None left after fed piece had more = tt
+judged_source_consumed_on (Some xs) None after fed piece had more = absurd had
+judged_source_consumed_on (Some xs) (Some ys) None fed piece had more = absurd more
+judged_source_consumed_on (Some xs) (Some ys) (Some zs) fed piece had more =
+    had ∙ ap (λ (x : List ℕ). fed ++ x) more ∙ sym (append_assoc fed piece zs)
+
+-- no trace begins with what the source had
+judged_source_no_trace : (source left : Option (List ℕ)) (fed : List ℕ) → Consumes source left fed → ¬ FedTextBeginsTrace fed → IsTraceCommandOnNone source
+judged_source_no_trace None left fed had none = tt
+judged_source_no_trace (Some xs) None fed had none = absurd had
+judged_source_no_trace (Some xs) (Some zs) fed had none = λ s es h text. none (s, es, h, zs, sym text ∙ ap without_trace_labels had)
+
+-- what was read and the next piece
+pub judged_source_fed_on : (source left after : Option (List ℕ)) (x : FedText) (piece : List ℕ) (r : Result FedText (ℕ × TraceFault))
+    → IfOk r (λ y. (bytes : List ℕ) → IsFedTextOf bytes x → IsFedTextOf (bytes ++ piece) y)
+    → IfErr r (λ e. e.1 ≢ NoMemory → (bytes : List ℕ) → IsFedTextOf bytes x → ¬ FedTextBeginsTrace (bytes ++ piece))
+    → IsTraceCommandReadSoFar source left (Ok x) → Consumes left after piece → IsTraceCommandReadSoFar source after r
+judged_source_fed_on source left after x piece (Ok y) fed none had more =
+    (had.0 ++ piece, judged_source_consumed_on source left after had.0 piece had.1 more, fed had.0 had.2)
+judged_source_fed_on source left after x piece (Err e) fed none had more =
+    λ ne. judged_source_no_trace source after (had.0 ++ piece) (judged_source_consumed_on source left after had.0 piece had.1 more) (none ne had.0 had.2)
+
+-- all was read
+pub judged_source_consumed_fully : (source left : Option (List ℕ)) (fed : List ℕ) → Consumes source left fed → IsAtEnd left
+    → IfSome source (λ xs. xs ≡ fed)
+judged_source_consumed_fully None left fed had end = tt
+judged_source_consumed_fully (Some xs) None fed had end = absurd had
+judged_source_consumed_fully (Some xs) (Some ys) fed had end = had ∙ ap (λ (x : List ℕ). fed ++ x) end ∙ append-nil fed
+
+pub judged_source_full_text : (source : Option (List ℕ)) (fed : List ℕ) (s : Sizes) (es : List Event) → IfSome source (λ xs. xs ≡ fed)
+    → without_trace_labels fed ≡ trace_text s es → HasTraceCommandText source s es
+judged_source_full_text None fed s es same text = tt
+judged_source_full_text (Some xs) fed s es same text = ap without_trace_labels same ∙ text
+
+pub judged_source_full_refused : (source : Option (List ℕ)) (fed : List ℕ) → IfSome source (λ xs. xs ≡ fed) → IsNoLawfulTrace (without_trace_labels fed)
+    → IsTraceCommandOnNone source
+judged_source_full_refused None fed same none = tt
+judged_source_full_refused (Some xs) fed same none = subst (λ (x : List ℕ). IsNoLawfulTrace (without_trace_labels x)) (sym same) none
+
+-- a history that begins with a lie isn't faithful
+no_judged_source_faithful : (m : MemoryModel) (lax : Bool) (s : Sizes) (j : List Event) (n : ℕ) (x : Lie)
+    → IsCheckVerdictLie m lax s (take n j) x → ¬ IsFaithfulAndCounted m lax s j
+no_judged_source_faithful m lax s j n x lie faithful =
+    let last = lie.last in
+    let le : length (take n j) ≤ suc (check_verdict_lie_place x) = omega arith in
+    let whole = take_all (suc (check_verdict_lie_place x)) (take n j) le in
+    let split = ap (λ (xs : List Event). xs ++ drop n j) whole ∙ take-append-drop n j in
+    lie.first.never (drop n j) (subst (IsFaithfulAndCounted m lax s) (sym split) faithful)
+
+-- what was found of the trace that the source had is said of the source
+pub judged_source_as : (r : Rules) (source : Option (List ℕ)) (s : Sizes) (es : List Event) (n : ℕ)
+    (race : Option (ℕ × ℕ)) (v : TraceVerdict) → IsLawfulTrace s es → HasTraceCommandText source s es
+    → IsCheckVerdictOf r.model r.lax s (take n es) race v → IsCheckVerdictWhole es n v
+    → IsTraceCommandJudgedAs r.model r.lax source (trace_command_judgement v)
+judged_source_as r source s es n race (verdict.Faithful traffic unjudged) trace text is whole = record {
+  sizes = s;
+  events = es;
+  trace = trace;
+  text_is = text;
+  faithful =
+      (let le : length es ≤ n = omega arith in
+      subst (IsFaithfulAndCounted r.model r.lax s) (take_all n es le) is.0);
+}
+judged_source_as r source s es n race (verdict.Lie x) trace text is whole = record {
+  sizes = s;
+  events = es;
+  trace = trace;
+  text_is = text;
+  unfaithful = no_judged_source_faithful r.model r.lax s es n x is.0;
+}
+judged_source_as r source s es n race verdict.Racy trace text is whole = record {
+  sizes = s;
+  events = es;
+  trace = trace;
+  text_is = text;
+  first = is.first;
+  second = is.second;
+  race = found_race_of_front es n is.first is.second is.nearest.race;
+}
+
+-- and so by the rules that were asked for
+pub judged_source_by : (r : Rules) (m : MemoryModel) (lax : Bool) (source : Option (List ℕ)) (a b : Judgement) → r.model ≡ m
+    → r.lax ≡ lax → b ≡ a → IsTraceCommandJudgedAs r.model r.lax source a → IsTraceCommandJudgedAs m lax source b
+judged_source_by r m lax source a b model same is judged =
+    subst (IsTraceCommandJudgedAs m lax source) (sym is)
+    (subst (λ x. IsTraceCommandJudgedAs x lax source a) model (subst (λ y. IsTraceCommandJudgedAs r.model y source a) same judged))
+
+-- what was told of the trace that the source had is said of the source
+pub judged_source_told_as : (lies : Bool) (m : MemoryModel) (lax : Bool) (source : Option (List ℕ)) {s : Sizes} {es : List Event} (told : List Event)
+    → IsLawfulTrace s es → HasTraceCommandText source s es → IsToldTraceUpToLie lies m lax s es told → IsTraceCommandToldAs lies m lax source
+judged_source_told_as true m lax source {s} {es} told trace text is = record {
+  sizes = s;
+  events = es;
+  trace = trace;
+  text_is = text;
+  unfaithful = λ faithful. is.1.never (drop (suc is.0) es)
+      (subst (IsFaithfulAndCounted m lax s) (sym (take-append-drop (suc is.0) es)) faithful);
+}
+judged_source_told_as false m lax source {s} {es} told trace text is = record {
+  sizes = s;
+  events = es;
+  trace = trace;
+  text_is = text;
+  faithful = is.0;
+}
+
+-- and so by the model that was asked for
+pub judged_source_told_by : (a b : Bool) (m asked : MemoryModel) (lax : Bool) (source : Option (List ℕ)) → b ≡ a → m ≡ asked
+    → IsTraceCommandToldAs a m lax source → IsTraceCommandToldAs b asked lax source
+judged_source_told_by a b m asked lax source is model told =
+    subst (λ lies. IsTraceCommandToldAs lies asked lax source) (sym is) (subst (λ x. IsTraceCommandToldAs a x lax source) model told)

@@ -1,0 +1,94 @@
+-- What the program does with a trace.
+use Rattle.std.specs.Prelude.{◌≡◌, ◌≢◌, ℕ, Bool, true, false, List, Option, Result, Ok, Err, IfSome}
+use Rattle.std.specs.Io.KnownBytes.{Consumes}
+use Rattle.journal.specs.declared.event.Event.{Event}
+use Rattle.journal.specs.Sizes.{Sizes}
+use Rattle.lrc_check.specs.declared.traces.fault.TraceFault.{TraceFault}
+use Rattle.lrc_check.specs.declared.traces.fault.TraceFault.TheVariants.{NoMemory}
+use Rattle.lrc_check.specs.Traces.FedText.{IsFedTextOf, FedText}
+use Rattle.lrc_check.specs.Traces.Labels.{without_trace_labels}
+use Rattle.lrc_check.specs.Traces.LawfulTraces.{IsNoLawfulTrace, IsLawfulTrace}
+use Rattle.lrc_check.specs.Traces.TraceText.{trace_text}
+use Rattle.journal.specs.Races.{Race}
+use Rattle.judge.specs.JudgedSizes.{AreJudgedSizesSmall}
+use Rattle.judge.specs.declared.models.MemoryModel.{MemoryModel}
+use Rattle.judge.specs.declared.models.MemoryModel.TheVariants as model
+use Rattle.lrc_check.specs.declared.checked.TraceVerdict.{TraceVerdict}
+use Rattle.lrc_check.specs.declared.checked.TraceVerdict.TheVariants as verdict
+use Rattle.lrc_check.specs.Faithful.{IsFaithfulAndCounted}
+use Rattle.lrc_options.specs.declared.options.TraceModel.{TraceModel}
+use Rattle.lrc_options.specs.declared.options.TraceModel.TheVariants as asked
+use Rattle.lrc_commands.specs.declared.checking.Judgement.{Judgement}
+use Rattle.lrc_commands.specs.declared.checking.Judgement.TheVariants as judgement
+
+-- the model of this name
+abbrev pub trace_command_model : TraceModel → MemoryModel
+trace_command_model asked.RaceFree = model.RaceFree
+trace_command_model asked.HappensBefore = model.HappensBefore
+trace_command_model asked.LazyRelease = model.LazyRelease
+trace_command_model asked.Sequential = model.Sequential
+
+-- how judging ended that found this
+abbrev pub trace_command_judgement : TraceVerdict → Judgement
+trace_command_judgement (verdict.Faithful traffic unjudged) = judgement.Faithful
+trace_command_judgement (verdict.Lie x) = judgement.Unfaithful
+trace_command_judgement verdict.Racy = judgement.Racy
+
+-- what the source had is, without labels, the text of this trace
+abbrev pub HasTraceCommandText : Option (List ℕ) → Sizes → List Event → Type 0
+HasTraceCommandText source s es = IfSome source (λ xs. without_trace_labels xs ≡ trace_text s es)
+
+-- the source had the text of a trace, whose history is faithful under the model, lax or not
+pub record IsTraceCommandOnFaithful (m : MemoryModel) (lax : Bool) (source : Option (List ℕ)) : Type 0 where
+  pub sizes : Sizes
+  pub events : List Event
+  pub trace : IsLawfulTrace sizes events
+  pub text_is : HasTraceCommandText source sizes events
+  pub faithful : IsFaithfulAndCounted m lax sizes events
+
+-- the source had the text of a trace, whose history isn't
+pub record IsTraceCommandOnUnfaithful (m : MemoryModel) (lax : Bool) (source : Option (List ℕ)) : Type 0 where
+  pub sizes : Sizes
+  pub events : List Event
+  pub trace : IsLawfulTrace sizes events
+  pub text_is : HasTraceCommandText source sizes events
+  pub unfaithful : ¬ IsFaithfulAndCounted m lax sizes events
+
+-- the one or the other, by whether it lies
+abbrev pub IsTraceCommandToldAs : Bool → MemoryModel → Bool → Option (List ℕ) → Type 0
+IsTraceCommandToldAs true m lax source = IsTraceCommandOnUnfaithful m lax source
+IsTraceCommandToldAs false m lax source = IsTraceCommandOnFaithful m lax source
+
+-- the source had the text of a trace that can be told: its sizes are a script's at most
+pub record IsTraceCommandOnSmall (source : Option (List ℕ)) : Type 0 where
+  pub sizes : Sizes
+  pub events : List Event
+  pub trace : IsLawfulTrace sizes events
+  pub text_is : HasTraceCommandText source sizes events
+  pub small : AreJudgedSizesSmall sizes
+
+-- the source had the text of a trace that races
+pub record IsTraceCommandOnRacy (source : Option (List ℕ)) : Type 0 where
+  pub sizes : Sizes
+  pub events : List Event
+  pub trace : IsLawfulTrace sizes events
+  pub text_is : HasTraceCommandText source sizes events
+  pub first : ℕ
+  pub second : ℕ
+  pub race : Race events first second
+
+-- which of these
+abbrev pub IsTraceCommandJudgedAs : MemoryModel → Bool → Option (List ℕ) → Judgement → Type 0
+IsTraceCommandJudgedAs m lax source judgement.Faithful = IsTraceCommandOnFaithful m lax source
+IsTraceCommandJudgedAs m lax source judgement.Unfaithful = IsTraceCommandOnUnfaithful m lax source
+IsTraceCommandJudgedAs m lax source judgement.Racy = IsTraceCommandOnRacy source
+
+-- what the source had is no trace
+abbrev pub IsTraceCommandOnNone : Option (List ℕ) → Type 0
+IsTraceCommandOnNone source = IfSome source (λ xs. IsNoLawfulTrace (without_trace_labels xs))
+
+-- of a source that has this left: a reader has what came before it, or a fault, unless it is of memory, says that what
+-- the source had is no trace
+abbrev pub IsTraceCommandReadSoFar : Option (List ℕ) → Option (List ℕ) → Result FedText (ℕ × TraceFault) → Type 0
+IsTraceCommandReadSoFar source left (Ok x) = (fed : List ℕ) × Consumes source left fed × IsFedTextOf fed x
+IsTraceCommandReadSoFar source left (Err e) = e.1 ≢ NoMemory → IsTraceCommandOnNone source

@@ -1,0 +1,138 @@
+//! Which pages go stale by an event that takes, and whose records a fetch brings.
+
+use base::{MOST_PAGES, MOST_PROCESSORS};
+use causes::Due;
+use journal::{Event, Kind};
+use lrc_prose::text::ProseText;
+
+/// How many pages of an event are told at most.
+const MOST_TOLD: usize = 3;
+
+/// Which copies of pages are stale, as far as is known.
+#[derive(Clone, Copy)]
+pub struct StaleCopies {
+    /// Of each page, whether each processor's copy is.
+    marks: [[bool; MOST_PROCESSORS]; MOST_PAGES],
+}
+
+impl StaleCopies {
+    /// None.
+    pub fn new() -> StaleCopies {
+        StaleCopies {
+            marks: [[false; MOST_PROCESSORS]; MOST_PAGES],
+        }
+    }
+
+    /// Whether the processor's copy of the page is.
+    fn is(&self, page: usize, processor: usize) -> bool {
+        page < MOST_PAGES && processor < MOST_PROCESSORS && self.marks[page][processor]
+    }
+
+    /// Marks the processor's copy of the page, or not.
+    fn put(&mut self, page: usize, processor: usize, is_stale: bool) {
+        if page < MOST_PAGES && processor < MOST_PROCESSORS {
+            self.marks[page][processor] = is_stale;
+        }
+    }
+
+    /// Takes note of the event, which tells of these records.
+    pub fn note(&mut self, event: Event, dues: &[Due]) {
+        if let Kind::Fetch { page, .. } = event.kind {
+            self.put(page, event.processor, false);
+            return;
+        }
+        for due in dues {
+            self.put(due.page, event.processor, true);
+        }
+    }
+}
+
+/// Whose records a fetch brings. Empty where nobody's are known.
+#[derive(Clone, Copy)]
+pub struct StaleCopyWriters<'a> {
+    pub dues: &'a [Due],
+    /// Whether some are from before the cut.
+    pub has_older: bool,
+}
+
+impl StaleCopyWriters<'_> {
+    /// Puts what stands in front of the writer at this index.
+    fn put_front(&self, text: &mut ProseText, index: usize) {
+        let is_last = !self.has_older && index.saturating_add(1) == self.dues.len();
+        text.put(match index {
+            0 => ", of",
+            _ if is_last => " and",
+            _ => ",",
+        });
+    }
+
+    /// Puts them, with a comma before them.
+    pub fn put(&self, text: &mut ProseText) {
+        for (index, due) in self.dues.iter().enumerate() {
+            self.put_front(text, index);
+            text.put_number(" p", due.writer);
+        }
+        match (self.has_older, self.dues.len()) {
+            (false, _) => {}
+            (true, 0) => text.put(", from before the cut"),
+            (true, _) => text.put(" and from before the cut"),
+        }
+    }
+}
+
+/// Which pages go stale by an event that takes.
+#[derive(Clone, Copy)]
+pub struct GoneStaleCopies<'a> {
+    pub processor: usize,
+    /// The records that it brings word of, by rising pages.
+    pub dues: &'a [Due],
+    /// Which copies were stale before it.
+    pub stale: &'a StaleCopies,
+    /// Whether something was cut off, so that nobody knows which copies were stale.
+    pub is_cut: bool,
+}
+
+impl GoneStaleCopies<'_> {
+    /// Puts the first records of a page, the one of this number.
+    fn put_page(&self, text: &mut ProseText, due: Due, number: usize) {
+        if number > 1 {
+            text.put("; ");
+        }
+        text.put_number("page ", due.page);
+        if self.is_cut || self.stale.is(due.page, self.processor) {
+            text.put(" lacks ");
+            text.put_count(due.records, "record");
+            text.put(" more");
+        } else {
+            text.put(" goes stale: ");
+            text.put_count(due.records, "record");
+        }
+        text.put_number(" of p", due.writer);
+    }
+
+    /// Puts them.
+    pub fn put(&self, text: &mut ProseText) {
+        let mut pages: usize = 0;
+        let mut last = None;
+        for due in self.dues {
+            let is_next = last != Some(due.page);
+            if is_next {
+                pages = pages.saturating_add(1);
+                last = Some(due.page);
+            }
+            if pages > MOST_TOLD {
+                continue;
+            }
+            if is_next {
+                self.put_page(text, *due, pages);
+            } else {
+                text.put_number(", ", due.records);
+                text.put_number(" of p", due.writer);
+            }
+        }
+        if pages > MOST_TOLD {
+            text.put("; ");
+            text.put_count(pages.saturating_sub(MOST_TOLD), "more page");
+        }
+    }
+}

@@ -1,0 +1,13 @@
+use Rattle.std.proofs.Common.{ap, Some}
+use Rattle.clap.specs.Words.{Rule}
+use Rattle.lrc_options.proofs.clap_commands.clap_text_arg.Goals as goal
+
+pub returns-clause-rule : goal.returns-clause-rule
+returns-clause-rule c =
+    rw (c.help.ensures, c.value_name.ensures, c.long.ensures) (ap (λ (r : Rule). record r {
+      long = Some c.args.name.now;
+      value_names = 1;
+    }) c.new.ensures.rule)
+
+pub returns-clause-own : goal.returns-clause-own
+returns-clause-own c = rw (c.help.ensures, c.value_name.ensures, c.long.ensures) c.new.ensures.optional.1

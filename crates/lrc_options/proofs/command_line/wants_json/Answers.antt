@@ -1,9 +1,0 @@
-use Rattle.std.proofs.Common.{codes}
-use Rattle.clap.specs.Words.{found_of}
-use Rattle.lrc_options.proofs.OptionRules.{flag_option_read}
-use Rattle.lrc_options.proofs.command_line.wants_json.Goals as goal
-
-pub returns : goal.returns
-returns c =
-    flag_option_read (found_of c.args.matches.now) (codes "json") c.get_flag.result c.get_flag.ensures.none
-    c.get_flag.ensures.value c.get_flag.ensures.other

@@ -1,0 +1,5 @@
+use Rattle.std.proofs.Common.{All, ◌<◌}
+use Rattle.lrc_picture.proofs.cutout.cutout_episodes_of.Given as goal
+
+abbrev pub invariant-loop-place : goal.invariant-loop-place
+invariant-loop-place l = All (λ r. r < l.count) l.episodes.items

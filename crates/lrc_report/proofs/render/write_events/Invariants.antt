@@ -1,8 +1,0 @@
-use Rattle.std.proofs.Common.{take}
-use Rattle.lrc_report.specs.ReportText.{event_lines}
-use Rattle.lrc_report.specs.WritesThrough.{PassesThrough}
-use Rattle.lrc_report.proofs.render.write_events.Given as goal
-
-abbrev pub invariant-loop-index : goal.invariant-loop-index
-invariant-loop-index g l = PassesThrough (g.W.Write.contents l.fn.out) (g.W.Write.contents l.out) l.fn.pending l.pending
-    (event_lines l.first (take l.index l.events))

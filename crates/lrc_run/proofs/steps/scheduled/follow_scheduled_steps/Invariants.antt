@@ -1,0 +1,12 @@
+use Rattle.std.proofs.Common.{take}
+use Rattle.lrc_script.specs.Plan.{plan_of}
+use Rattle.lrc_run.specs.RunSteps.{AreAtRunSteps}
+use Rattle.lrc_run.specs.RunTurns.{AreRunTurnsTaken}
+use Rattle.lrc_run.proofs.steps.scheduled.follow_scheduled_steps.Given as goal
+
+abbrev pub invariant-loop-place : goal.invariant-loop-place
+invariant-loop-place g l = record {
+  way : AreAtRunSteps l.cluster (plan_of l.script).sections l.processors.items l.all.items;
+  taken : AreRunTurnsTaken (plan_of l.script).sections (take l.place l.turns) l.fn.processors.items l.processors.items
+      l.fn.all.items l.all.items;
+}

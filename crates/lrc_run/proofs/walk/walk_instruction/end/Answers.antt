@@ -1,0 +1,14 @@
+use Rattle.std.proofs.Common.{rules, ◌≡◌, Err, ap, ◌∙◌}
+use Rattle.book.specs.declared.refused.Refused.TheVariants.{NotYet}
+use Rattle.lrc_run.proofs.MoreCalls.{sees_more_calls_taken_all, sees_more_calls_nothing_taken}
+use Rattle.lrc_run.proofs.walk.walk_instruction.end.Goals as goal
+
+pub returns-in-Ok-clause-ok : goal.returns-in-Ok-clause-ok
+returns-in-Ok-clause-ok g c =
+    sees_more_calls_taken_all c.args.processor.now c.take.new.processor c.take.result c.in-Ok.is c.take.ensures
+
+pub returns-in-Err-NotYet-clause-ok : goal.returns-in-Err-NotYet-clause-ok
+returns-in-Err-NotYet-clause-ok g c =
+    let late : c.in-Err-NotYet.field-0 ≡ NotYet = search rules in
+    sees_more_calls_nothing_taken c.args.processor.now c.take.new.processor c.take.result (c.in-Err-NotYet.is ∙ ap Err late)
+    c.take.ensures

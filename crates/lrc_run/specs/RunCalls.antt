@@ -1,0 +1,184 @@
+-- What a processor does of a script.
+use Rattle.std.specs.Prelude.{ℕ, ◌≡◌, ◌<◌, ◌/◌, Bool, true, false, Some, List, [], ◌∷◌, ◌++◌, map, length, slice_get, Result, Ok, Err}
+use Rattle.book.specs.declared.refused.Refused.{Refused}
+use Rattle.journal.specs.declared.event.Kind.{Kind}
+use Rattle.journal.specs.declared.event.Kind.TheVariants.{Arrive, Depart, Fetch}
+use Rattle.journal.specs.BroughtCopy.{BroughtCopyHasNoGap}
+use Rattle.journal.specs.DidEvent.{event}
+use Rattle.journal.specs.Events.{EventAt}
+use Rattle.journal.specs.PageImages.{GapCounts}
+use Rattle.journal.specs.AwaitedNext.{awaited_next}
+use Rattle.journal.specs.declared.event.Event.{Event}
+use Rattle.lrc_script.specs.declared.script.Instruction.{Instruction}
+use Rattle.lrc_script.specs.declared.script.Instruction.TheVariants.{Cut}
+use Rattle.conformance.specs.InstructionEvents.{AreEventsOfInstruction, AreEventsOfInstructions}
+use Rattle.conformance.specs.Follows.{call_kinds, load_of}
+use Rattle.cluster.specs.Copies.Local.{Local, calls, new_local}
+use Rattle.cluster.specs.ProcessorCalls.{IsSameProcessorOfCall}
+use Rattle.cluster.specs.NewClusters.{SharedCluster}
+use Rattle.cluster.specs.TakingCalls.{IsTakingCallLate, taking_call_added}
+use Rattle.conformance.specs.CutInstructions.{HasCutInstruction}
+use Rattle.conformance.specs.OpenBlocks.{OpenBlockNotesAll, OpenBlock, open_block_handed_in, open_block_noted, open_block}
+use Rattle.conformance.specs.WantedAccess.{FetchesAreWanted}
+
+-- a processor's accepted calls, its fetches aside
+abbrev pub run_calls : Local → List Kind
+run_calls m = call_kinds (calls m)
+
+-- each fetch among its calls comes right before an access to its page
+abbrev pub AreRunCallsWanted : Local → Type 0
+AreRunCallsWanted m = FetchesAreWanted m.sizes.words (calls m)
+
+-- it has seen no less of the history
+abbrev pub SeesNoFewerRunCalls : Local → Local → Type 0
+SeesNoFewerRunCalls old new = (rest : List Event) × (new.seen ≡ old.seen ++ rest)
+
+-- it is the same processor, has just these calls besides, and has cut nothing off
+pub record HasRunCallsBesides (old new : Local) (kinds : List Kind) : Type 0 where
+  pub same : IsSameProcessorOfCall old new
+  pub sees : SeesNoFewerRunCalls old new
+  pub calls_are : calls new ≡ calls old ++ map (event old.number) kinds
+  pub uncut : new.own_cut ≡ old.own_cut
+
+-- what it has seen, and behind that its open block
+abbrev pub run_calls_open : Local → OpenBlock
+run_calls_open m = open_block m.seen (map (λ (e : Event). e.kind) m.block)
+
+-- the history, if it handed that in
+abbrev pub run_calls_handed_in : Local → List Event
+run_calls_handed_in m = open_block_handed_in m.number (run_calls_open m)
+
+-- these events are of this processor alone
+abbrev pub AreRunCallsItsOwn : ℕ → List Event → Type 0
+AreRunCallsItsOwn p es = (k : ℕ) (e : Event) → EventAt es k e → e.processor ≡ p
+
+-- what it has seen more is its own
+abbrev pub SeesOwnRunCalls : Local → Local → Type 0
+SeesOwnRunCalls old new = (part : List Event) × AreRunCallsItsOwn old.number part × (new.seen ≡ old.seen ++ part)
+
+-- if it has seen nothing of others since, these calls were noted in its block, one after another
+abbrev pub AreRunCallsNoted : Local → Local → List Kind → Type 0
+AreRunCallsNoted old new kinds =
+    SeesOwnRunCalls old new → OpenBlockNotesAll old.sizes old.number kinds (run_calls_open old) (run_calls_open new)
+
+-- it has just this call besides, noted in its block if it has seen nothing of others since
+pub record IsRunCallNoted (old new : Local) (k : Kind) : Type 0 where
+  pub adds : HasRunCallsBesides old new (k ∷ [])
+  pub noted : SeesOwnRunCalls old new → run_calls_open new ≡ open_block_noted old.number k (run_calls_open old)
+
+-- it has this access to the address besides, of a copy that lacked nothing
+pub record IsRunCallAccessNoted (old new : Local) (a : ℕ) (k : Kind) : Type 0 where
+  pub one : IsRunCallNoted old new k
+  pub full : BroughtCopyHasNoGap old.sizes (run_calls_handed_in old) old.number (a / old.sizes.words)
+
+-- it has the access, by the answer, or no call if it was refused
+abbrev pub IsRunCallAccessNotedBy : {A : Type 0} → Local → Local → Result A Refused → ℕ → (A → Kind) → Type 0
+IsRunCallAccessNotedBy old new (Ok x) a kind = IsRunCallAccessNoted old new a (kind x)
+IsRunCallAccessNotedBy old new (Err e) a kind = HasRunCallsBesides old new []
+
+-- it has a fetch of this page besides, which counts what its copy lacked if it has seen nothing of others since
+pub record IsRunCallFetchNoted (old new : Local) (page : ℕ) : Type 0 where
+  pub writers : ℕ
+  pub records : ℕ
+  pub words : ℕ
+  pub one : IsRunCallNoted old new (Fetch writers page records words)
+  pub within : page < old.sizes.pages
+  pub counts : SeesOwnRunCalls old new → GapCounts old.sizes (run_calls_handed_in old) old.number page writers records words
+
+-- it has the fetch, or no call if it was refused
+abbrev pub IsRunCallFetchNotedBy : {A : Type 0} → Local → Local → Result A Refused → ℕ → Type 0
+IsRunCallFetchNotedBy old new (Ok x) page = IsRunCallFetchNoted old new page
+IsRunCallFetchNotedBy old new (Err e) page = HasRunCallsBesides old new []
+
+-- it is the same processor, has made these calls besides, and fetches that they want, and has cut nothing off
+pub record HasRunCallsAndFetches (old new : Local) (kinds : List Kind) : Type 0 where
+  pub same : IsSameProcessorOfCall old new
+  pub sees : SeesNoFewerRunCalls old new
+  pub more : run_calls new ≡ run_calls old ++ kinds
+  pub noted : AreRunCallsNoted old new kinds
+  pub wanted : AreRunCallsWanted old → AreRunCallsWanted new
+  pub uncut : new.own_cut ≡ old.own_cut
+
+-- the same, except that it may have cut something off if this is so
+pub record HasRunCallsUnless (cuts : Type 0) (old new : Local) (kinds : List Kind) : Type 0 where
+  pub same : IsSameProcessorOfCall old new
+  pub sees : SeesNoFewerRunCalls old new
+  pub more : run_calls new ≡ run_calls old ++ kinds
+  pub noted : AreRunCallsNoted old new kinds
+  pub wanted : AreRunCallsWanted old → AreRunCallsWanted new
+  pub uncut : ¬ cuts → new.own_cut ≡ old.own_cut
+
+-- it is the same processor, has made no calls besides but maybe fetches, and has cut nothing off
+pub record MakesNoRunCalls (old new : Local) : Type 0 where
+  pub same : IsSameProcessorOfCall old new
+  pub none : run_calls new ≡ run_calls old
+  pub uncut : new.own_cut ≡ old.own_cut
+
+-- it has made these calls, by the answer, or none if it was refused
+abbrev pub AreRunCallsTried : {A : Type 0} → Local → Local → Result A Refused → (A → List Kind) → Type 0
+AreRunCallsTried old new (Ok x) kinds = HasRunCallsAndFetches old new (kinds x)
+AreRunCallsTried old new (Err e) kinds = MakesNoRunCalls old new
+
+-- it has done this instruction, and cut nothing off but by a cut
+pub record HasRunCallsOfInstruction (old new : Local) (i : Instruction) : Type 0 where
+  pub kinds : List Kind
+  pub are : AreEventsOfInstruction i kinds
+  pub makes : HasRunCallsUnless (i ≡ Cut) old new kinds
+
+-- it has begun this instruction by a call that waits, handed its block in, and awaits the event that ends it
+pub record IsRunCallBegun (old new : Local) (i : Instruction) : Type 0 where
+  pub first : Kind
+  pub last : Kind
+  pub are : AreEventsOfInstruction i (first ∷ last ∷ [])
+  pub waits : awaited_next first ≡ Some last
+  pub makes : HasRunCallsAndFetches old new (first ∷ [])
+  pub handed : new.block ≡ []
+  pub awaits : new.awaits ≡ Some last
+
+-- it has done this instruction, or begun it
+abbrev pub IsRunCallUnderway : Local → Local → Instruction → Bool → Type 0
+IsRunCallUnderway old new i true = HasRunCallsOfInstruction old new i
+IsRunCallUnderway old new i false = IsRunCallBegun old new i
+
+-- it is as it was, and what it awaits hasn't come by what it has seen
+pub record RunCallFindsNothing (old new : Local) : Type 0 where
+  pub calls_are : calls new ≡ calls old
+  pub block_is : new.block ≡ old.block
+  pub awaits_is : new.awaits ≡ old.awaits
+  pub late : IsTakingCallLate new
+
+-- it has taken what it awaited, or that hadn't come
+pub record IsRunCallOfTake (old new : Local) (taken : Bool) : Type 0 where
+  pub same : IsSameProcessorOfCall old new
+  pub sees : SeesNoFewerRunCalls old new
+  pub block_is : new.block ≡ old.block
+  pub yes : taken ≡ true → calls new ≡ calls old ++ taking_call_added old.number old.awaits
+  pub noted : taken ≡ true → SeesOwnRunCalls old new → new.seen ≡ old.seen ++ taking_call_added old.number old.awaits
+  pub no : taken ≡ false → RunCallFindsNothing old new
+  pub uncut : new.own_cut ≡ old.own_cut
+
+-- it has done these instructions
+pub record HasRunCallsOfAll (old new : Local) (is : List Instruction) : Type 0 where
+  pub kinds : List Kind
+  pub are : AreEventsOfInstructions is kinds
+  pub makes : HasRunCallsUnless (HasCutInstruction is) old new kinds
+
+-- it has done its section, and passed the closing barrier
+pub record HasRunCallsOfWalk (old new : Local) (section : List Instruction) : Type 0 where
+  pub kinds : List Kind
+  pub are : AreEventsOfInstructions section kinds
+  pub makes : HasRunCallsUnless (HasCutInstruction section) old new (kinds ++ Arrive ∷ Depart ∷ [])
+
+-- it has loaded these words
+abbrev pub HasRunCallsOfLoads : Local → Local → List (ℕ × ℕ) → Type 0
+HasRunCallsOfLoads old new words = HasRunCallsAndFetches old new (map load_of words)
+
+-- processor p of the cluster, before its first call
+abbrev pub new_at_run_call : SharedCluster → ℕ → Local
+new_at_run_call c p = new_local c.lock p c.sizes
+
+-- each of the cluster's processors has walked its section
+pub record HaveRunCallsOfWalks (c : SharedCluster) (sections : List (List Instruction)) (ms : List Local) : Type 0 where
+  pub all : length ms ≡ c.sizes.processors
+  pub each : (p : ℕ) (section : List Instruction) (m : Local) → slice_get sections p ≡ Some section
+      → slice_get ms p ≡ Some m → HasRunCallsOfWalk (new_at_run_call c p) m section

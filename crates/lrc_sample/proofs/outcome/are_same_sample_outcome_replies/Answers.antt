@@ -1,0 +1,6 @@
+use Rattle.std.proofs.lemmas.Slice.Eq.{slice_eq-Decides}
+use Rattle.lrc_sample.proofs.SameSampleAnswers.{same_sample_answer_replies}
+use Rattle.lrc_sample.proofs.outcome.are_same_sample_outcome_replies.Goals as goal
+
+pub returns : goal.returns
+returns c = slice_eq-Decides same_sample_answer_replies _ _ _ c.eq.ensures

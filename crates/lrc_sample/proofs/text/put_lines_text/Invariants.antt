@@ -1,8 +1,0 @@
-use Rattle.std.proofs.Common.{◌≡◌, ◌++◌, take}
-use Rattle.std.specs.List.{flat_map}
-use Rattle.std.specs.String.{string_bytes}
-use Rattle.lrc_sample.specs.Texts.{tally_line_text}
-use Rattle.lrc_sample.proofs.text.put_lines_text.Given as goal
-
-abbrev pub invariant-loop-line : goal.invariant-loop-line
-invariant-loop-line l = string_bytes l.text ≡ string_bytes l.fn.text ++ flat_map tally_line_text (take l.line-index l.lines)

@@ -1,0 +1,8 @@
+use Rattle.std.proofs.Common.{◌≡◌, ◌++◌, take}
+use Rattle.std.specs.List.{flat_map}
+use Rattle.std.specs.String.{string_bytes}
+use Rattle.lrc_sample.specs.SampleText.{sample_text_of_line}
+use Rattle.lrc_sample.proofs.text.put_sample_lines_text.Given as goal
+
+abbrev pub invariant-loop-line : goal.invariant-loop-line
+invariant-loop-line l = string_bytes l.text ≡ string_bytes l.fn.text ++ flat_map sample_text_of_line (take l.line-index l.lines)

@@ -1,8 +1,0 @@
-use Rattle.seats.proofs.Seats.{sits_at}
-use Rattle.seats.proofs.seat.Seat.into_processor.Goals as goal
-
-pub returns-clause-sits : goal.returns-clause-sits
-returns-clause-sits g c = sits_at c.self.invariant.0
-
-pub returns-clause-kept : goal.returns-clause-kept
-returns-clause-kept g c = c.self.invariant.2.keeps

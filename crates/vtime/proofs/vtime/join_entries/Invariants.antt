@@ -1,7 +1,0 @@
--- The entries below q are joined.
-use Rattle.std.proofs.Common.{◌≡◌, take}
-use Rattle.vtime.specs.Times.{join}
-use Rattle.vtime.proofs.vtime.join_entries.Given as goal
-
-abbrev pub invariant-loop-q : goal.invariant-loop-q
-invariant-loop-q l = l.mine ≡ join l.initial.mine (take l.q l.theirs)
