@@ -52,20 +52,36 @@ fn build(events: usize) -> Vec<Event> {
     journal
 }
 
-type Time<const P: usize> = [u32; P];
+pub type Time<const P: usize> = [u32; P];
 
-/// The last access of a kind to an address: by whom, in which interval, at which place.
+/// The last access of a kind to an address: by whom, in which interval, at which place. An interval of 0 stands for none.
 #[derive(Clone, Copy, Default)]
-struct Last {
-    processor: u8,
-    interval: u32,
-    place: u32,
+pub struct Last {
+    pub processor: u8,
+    pub interval: u32,
+    pub place: u32,
 }
 
 /// The loads since the last store: one, or of each processor the last.
-enum Loads<const P: usize> {
+pub enum Loads<const P: usize> {
     One(Last),
     Many(Box<[Last; P]>),
+}
+
+impl<const P: usize> Loads<P> {
+    /// Takes note of a load, which has this timestamp.
+    pub fn note(&mut self, now: Last, time: &Time<P>) {
+        match self {
+            Loads::One(last) if before(last, time) => *last = now,
+            Loads::One(last) => {
+                let mut all = Box::new([Last::default(); P]);
+                all[last.processor as usize] = *last;
+                all[now.processor as usize] = now;
+                *self = Loads::Many(all);
+            }
+            Loads::Many(all) => all[now.processor as usize] = now,
+        }
+    }
 }
 
 struct Address<const P: usize> {
@@ -73,17 +89,17 @@ struct Address<const P: usize> {
     loads: Loads<P>,
 }
 
-fn before<const P: usize>(last: &Last, time: &Time<P>) -> bool {
+pub fn before<const P: usize>(last: &Last, time: &Time<P>) -> bool {
     last.interval <= time[last.processor as usize]
 }
 
-fn join<const P: usize>(time: &mut Time<P>, other: &Time<P>) {
+pub fn join<const P: usize>(time: &mut Time<P>, other: &Time<P>) {
     for (own, other) in time.iter_mut().zip(other) {
         *own = (*own).max(*other);
     }
 }
 
-/// The first race by place, after Flanagan and Freund, FastTrack (PLDI 2009). An interval of 0 stands for none.
+/// The first race by place, after Flanagan and Freund, FastTrack (PLDI 2009).
 pub fn first_race<const P: usize>(journal: &[Event], processors: usize) -> Option<(usize, usize)> {
     let mut times: [Time<P>; P] = [[0; P]; P];
     for (p, time) in times.iter_mut().enumerate() {
@@ -107,16 +123,7 @@ pub fn first_race<const P: usize>(journal: &[Event], processors: usize) -> Optio
                 if !before(&address.store, time) {
                     return Some((address.store.place as usize, place));
                 }
-                match &mut address.loads {
-                    Loads::One(last) if before(last, time) => *last = now,
-                    Loads::One(last) => {
-                        let mut all = Box::new([Last::default(); P]);
-                        all[last.processor as usize] = *last;
-                        all[p] = now;
-                        address.loads = Loads::Many(all);
-                    }
-                    Loads::Many(all) => all[p] = now,
-                }
+                address.loads.note(now, time);
             }
             STORE => {
                 let address = &mut addresses[e.place as usize];
