@@ -107,8 +107,9 @@ def rounds(edits):
     return groups
 
 
-def check(crate, texts, seed):
-    """What a check of the crate with these texts says, over a copy of what is kept."""
+def check(crate, texts, seed, adds=False):
+    """What a check of the crate with these texts says, over a copy of what is kept; and adds to that what it kept itself, if it
+    is to."""
     room = tempfile.mkdtemp(prefix="edits-")
     try:
         for _ in range(2):
@@ -118,6 +119,9 @@ def check(crate, texts, seed):
             # (most likely for memory: once more)
             if ran.returncode != -signal.SIGKILL:
                 break
+        if adds:
+            shutil.rmtree(seed)
+            shutil.move(f"{room}/kept", seed)
         return ran
     finally:
         shutil.rmtree(room, ignore_errors=True)
@@ -152,11 +156,12 @@ def result(edit, told):
     return Result(edit, AMISS, why=f"{', '.join(paths)} is refused, but by no goal of a contract: {others[:300]}")
 
 
-def try_round(crate, group, seed):
-    """What the edits of a group come to. What its check doesn't show of them, smaller groups do."""
+def try_round(crate, group, seed, adds=False):
+    """What the edits of a group come to. What its check doesn't show of them, smaller groups do. Where it adds to what is kept,
+    that is what the group's own check keeps."""
     texts, why = texts_of([edit.path for edit in group], crate.folder)
     if not why:
-        ran = check(crate, texts, seed)
+        ran = check(crate, texts, seed, adds)
         told = Told(crate, ran.stdout, texts)
         why = fault_of(ran, told, texts)
     if why and len(group) == 1:
