@@ -1,5 +1,5 @@
 -- Where no two events race, the last store is what a load answers.
-use Rattle.std.proofs.Common.{ℕ, ◌≡◌, ◌≢◌, ◌<◌, ◌≤◌, ◌⊎◌, inl, inr, ◌↔◌, suc, List, [], ◌∷◌, ◌++◌, length, replicate, Option, Some, slice_get, subst, sym, refl, ap, ◌∙◌, arith}
+use Rattle.std.proofs.Common.{ℕ, ◌≡◌, ◌<◌, ◌≤◌, ◌⊎◌, inl, inr, ◌↔◌, List, [], ◌∷◌, length, replicate, Option, Some, slice_get, subst, sym, refl, ap, ◌∙◌, arith}
 use Rattle.std.specs.Prelude.{None}
 use Rattle.std.proofs.lemmas.Bool.{cases_order}
 use Rattle.std.proofs.lemmas.Option.{same_Some}
@@ -7,10 +7,10 @@ use Rattle.journal.specs.declared.event.Event.{Event}
 use Rattle.journal.specs.declared.event.Kind.{Kind}
 use Rattle.journal.specs.declared.event.Kind.TheVariants.{Load, Store}
 use Rattle.journal.specs.DidEvent.{did, event}
-use Rattle.journal.specs.Events.{EventAt, event_address}
+use Rattle.journal.specs.Events.{event_address}
 use Rattle.journal.specs.WellFormed.{Does}
 use Rattle.journal.specs.HappensBeforeEdges.{HappensBefore}
-use Rattle.journal.specs.ExplainedAnswers.{IsAnswer, LatestExplainedAnswer, UntouchedExplainedAnswer}
+use Rattle.journal.specs.ExplainedAnswers.{IsAnswer, LatestExplainedAnswer}
 use Rattle.journal.specs.Races.{RaceFree}
 use Rattle.journal.specs.ReplayMemory.{memory_after}
 use Rattle.journal.proofs.CopyOfPage.PageStores.{page_store_same}

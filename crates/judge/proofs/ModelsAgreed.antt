@@ -1,17 +1,17 @@
 -- Up to its first race the models are one.
-use Rattle.std.proofs.Common.{ℕ, suc, ◌≡◌, ◌<◌, ◌≤◌, ◌⊎◌, inl, inr, ◌↔◌, List, [], ◌∷◌, ◌++◌, length, replicate, drop, take, Some, slice_get, subst, sym, refl, ap, ◌∙◌, arith, take-append-drop}
+use Rattle.std.proofs.Common.{ℕ, suc, ◌≡◌, ◌<◌, inl, inr, ◌↔◌, List, [], ◌∷◌, ◌++◌, length, replicate, drop, take, Some, slice_get, subst, sym, refl, ap, ◌∙◌, arith, take-append-drop}
 use Rattle.std.proofs.lemmas.List.{length-take-le}
 use Rattle.std.proofs.Math.Seq.{take-append_seam}
 use Rattle.base.proofs.SlicesAndCounts.{slice_take-suc_at}
 use Rattle.journal.specs.declared.event.Event.{Event}
-use Rattle.journal.specs.declared.event.Kind.TheVariants.{Load, Store}
+use Rattle.journal.specs.declared.event.Kind.TheVariants.{Load}
 use Rattle.journal.specs.DidEvent.{did, event}
 use Rattle.journal.specs.Sizes.{Sizes, addresses}
 use Rattle.journal.specs.WellFormed.{Does}
 use Rattle.journal.specs.ExplainedAnswers.{IsAnswer}
 use Rattle.journal.specs.Races.{RaceFree}
 use Rattle.journal.specs.ReplayMemory.{memory_after}
-use Rattle.journal.proofs.Order.EventPlacesAndCounts.{event_place_at_end, event_place_inside, event_place_shorter}
+use Rattle.journal.proofs.Order.EventPlacesAndCounts.{event_place_at_end, event_place_inside}
 use Rattle.journal.proofs.Flat.FlatConflicts.{flat_conflict_not_unordered, flat_conflict_of_store}
 use Rattle.judge.specs.declared.models.MemoryModel.{MemoryModel}
 use Rattle.judge.specs.declared.models.MemoryModel.TheVariants as model

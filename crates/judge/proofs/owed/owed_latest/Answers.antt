@@ -1,10 +1,9 @@
-use Rattle.std.proofs.Common.{ℕ, ◌≡◌, ◌≢◌, ◌<◌, inl, inr, ◌↔◌, List, Option, None, Some, length, replicate, slice_get, slice_set, subst, sym, refl, ap, ◌∙◌}
+use Rattle.std.proofs.Common.{ℕ, ◌≡◌, ◌≢◌, ◌<◌, inl, inr, ◌↔◌, Option, None, Some, replicate, slice_get, slice_set, subst, sym, ap, ◌∙◌}
 use Rattle.std.specs.Prelude.{IfSome}
 use Rattle.std.proofs.lemmas.Bool.{cases_eq}
 use Rattle.std.proofs.lemmas.Option.{none-some, same_Some}
 use Rattle.base.proofs.SliceSets.{slice_get-replicate_found, slice_get-set_found, slice_get-set_other, slice_get-set_same}
 use Rattle.judge.specs.declared.flat_memory.FlatStore.{FlatStore}
-use Rattle.judge.specs.Owed.{IsOwedLastStore}
 use Rattle.judge.proofs.owed.owed_latest.Goals as goal
 
 -- no row has anything
@@ -32,5 +31,5 @@ returns-in-Some c = λ q i.
     let row = one_row x.by x.place (subst (λ o. IfSome o (λ (y : FlatStore). y.by < 16)) c.in-Some.is c.requires) q i in (
       λ at. (x, c.in-Some.is, (row.0 at).0, (row.0 at).1),
       λ last. (let is : x ≡ last.0 = same_Some x last.0 (sym c.in-Some.is ∙ last.1) in
-        row.1 (ap (λ (y : FlatStore). y.by) is ∙ last.2, ap (λ (y : FlatStore). y.place) is ∙ last.3)),
+          row.1 (ap (λ (y : FlatStore). y.by) is ∙ last.2, ap (λ (y : FlatStore). y.place) is ∙ last.3)),
     )

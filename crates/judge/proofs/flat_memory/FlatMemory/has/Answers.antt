@@ -1,4 +1,4 @@
-use Rattle.std.proofs.Common.{◌≡◌, None, Some, replicate, slice_get, subst, sym, ap, ◌∙◌}
+use Rattle.std.proofs.Common.{None, Some, subst, sym, ap, ◌∙◌}
 use Rattle.std.proofs.lemmas.Bool.{eq-eqb, eqb-true}
 use Rattle.std.proofs.lemmas.Option.{same_Some}
 use Rattle.judge.specs.LastFlatStores.{KeepsLastFlatStore}

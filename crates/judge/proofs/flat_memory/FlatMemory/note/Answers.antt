@@ -1,4 +1,4 @@
-use Rattle.std.proofs.Common.{◌≡◌, ℕ, ◌+◌, ◌≤◌, [], ◌∷◌, ◌++◌, List, length, subst, sym, arith}
+use Rattle.std.proofs.Common.{◌≡◌, ℕ, ◌+◌, ◌≤◌, [], ◌∷◌, ◌++◌, List, length, subst, sym}
 use Rattle.std.specs.Prelude.{Result, Ok, Err, OnOk, vec_len}
 use Rattle.journal.specs.declared.event.Event.{Event}
 use Rattle.journal.specs.declared.event.Kind.TheVariants.{Store}
@@ -29,13 +29,13 @@ pub returns-in-Store : goal.returns-in-Store
 returns-in-Store c =
     given _ _ _ c.set.result
     (λ written j n is range long. (let x = c.args.self.now in
-      let y : FlatMemory = record { stores = c.set.new.self } in
-      let a = c.in-Store.address in
-      let v = c.in-Store.value in
-      let p = c.args.event.processor in
-      subst (λ k. HasLastFlatStores (j ++ event p k ∷ []) n y) (sym c.in-Store.is)
-      (stored j n p a v x y c.set.ensures.room c.set.ensures.few
-      (subst (λ m. IsSparseWith x.stores y.stores a (record { by = p; place = m; value = v })) (sym long) written) is)))
+    let y : FlatMemory = record { stores = c.set.new.self } in
+    let a = c.in-Store.address in
+    let v = c.in-Store.value in
+    let p = c.args.event.processor in
+    subst (λ k. HasLastFlatStores (j ++ event p k ∷ []) n y) (sym c.in-Store.is)
+    (stored j n p a v x y c.set.ensures.room c.set.ensures.few
+    (subst (λ m. IsSparseWith x.stores y.stores a (record { by = p; place = m; value = v })) (sym long) written) is)))
     c.set.ensures.set
 
 pub returns-in_default : goal.returns-in_default

@@ -91,5 +91,5 @@ returns-in-Sequential c =
     let at = slice_get-get_or events place (event 0 (Load 0 0)) c.requires.place in
     given c.note-in-Sequential.result
     (λ noted m s owed range. (let o = subst (AreOwedBy m s (take place events)) c.in-Sequential.is owed in
-      (o.0, memory_next s events place e c.in-Sequential.memory c.note-in-Sequential.new.self at range noted o.1)))
+    (o.0, memory_next s events place e c.in-Sequential.memory c.note-in-Sequential.new.self at range noted o.1)))
     c.note-in-Sequential.ensures

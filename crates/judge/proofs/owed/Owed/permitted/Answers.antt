@@ -1,4 +1,4 @@
-use Rattle.std.proofs.Common.{ℕ, ◌≡◌, ◌<◌, ◌≤◌, inl, inr, [], ◌∷◌, List, Option, None, Some, subst, sym, arith}
+use Rattle.std.proofs.Common.{ℕ, ◌<◌, ◌≤◌, inl, inr, [], ◌∷◌, List, Option, None, Some, subst, sym, arith}
 use Rattle.std.specs.Prelude.{IfSome}
 use Rattle.std.proofs.Math.Seq.{take-append_seam}
 use Rattle.journal.specs.declared.event.Event.{Event}
@@ -18,8 +18,8 @@ returns-in-RaceFree c = λ m s j owed few within v free.
     let last = c.last.ensures j (addresses s) o.1.memory within in (
       inl o.0,
       λ q i. (let places = flat_answer_places j c.args.processor c.args.address v (free o.0) c.last.result last q i in
-        let told = c.owed_latest-latest.ensures q i in
-        ((λ at. places.0 (told.0 at)), (λ latest. told.1 (places.1 latest)))),
+          let told = c.owed_latest-latest.ensures q i in
+          ((λ at. places.0 (told.0 at)), (λ latest. told.1 (places.1 latest)))),
     )
 
 pub returns-in-LazyRelease : goal.returns-in-LazyRelease
