@@ -86,6 +86,17 @@ fn keep_trace_line_label(
     }
 }
 
+/// The event of a line, if it is looked for at once: not where the line before had a label, since this one has one, too, then.
+fn read_trace_line_at_once(alloc: Global, line: &[u8], has_labels: bool) -> Option<(usize, Event)>
+    ensures { IfSome result (λ x. IsTraceLineOfEvent line.now x.0 x.1) }
+{
+    if has_labels {
+        None
+    } else {
+        quick_trace_event(alloc, line)
+    }
+}
+
 /// Reads the lines that are whole, keeps their labels, and answers what stands behind them.
 pub fn read_trace_lines<'a>(
     alloc: Global,
@@ -106,9 +117,11 @@ pub fn read_trace_lines<'a>(
 {
     // This is the one call of `read_trace_line`: so the compiler puts all that reads a line into the loop.
     let mut rest = bytes;
+    let mut has_labels = false;
     while let Some((line, after)) = split_line(rest) {
-        let read = quick_trace_event(alloc, line);
+        let read = read_trace_line_at_once(alloc, line, has_labels);
         let (event, label) = split_trace_label_unless_read(line, read);
+        has_labels = !label.is_empty();
         keep_trace_line_label(begun, labels, label)?;
         read_trace_line(alloc, begun, event, read)?;
         rest = after;

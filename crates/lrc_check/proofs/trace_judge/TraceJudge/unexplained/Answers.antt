@@ -2,9 +2,7 @@ use Rattle.std.proofs.Common.{ℕ, suc, ◌≡◌, ◌≤◌, ◌∷◌, ◌++�
 use Rattle.std.proofs.lemmas.List.{take_all}
 use Rattle.std.proofs.lemmas.Bool.{false≢true}
 use Rattle.journal.specs.declared.event.Event.{Event}
-use Rattle.journal.specs.declared.event.Kind.{Kind}
-use Rattle.journal.specs.declared.event.Kind.TheVariants.{Load}
-use Rattle.journal.specs.DidEvent.{did, event}
+use Rattle.journal.specs.DidEvent.{event}
 use Rattle.journal.specs.Races.{RaceFree}
 use Rattle.journal.specs.Sizes.{Sizes}
 use Rattle.journal.specs.WellFormed.{WellFormedKindInRange}
@@ -63,8 +61,8 @@ returns c =
     let v = c.in-Load.field-1 in
     let paid = c.if-is_paid.ensures x.model s c.requires.judged.owed c.requires.within c.requires.racy in
     let wrong : ¬ IsModelAnswer x.model s (j ++ e ∷ []) (length j) a v =
-        (λ owed. false≢true (paid.1 (λ b w is.
-        lying_same_load (IsModelAnswer x.model s (j ++ e ∷ []) (length j)) a v b w (sym c.in-Load.is ∙ is) owed))) in
+    (λ owed. false≢true (paid.1 (λ b w is.
+    lying_same_load (IsModelAnswer x.model s (j ++ e ∷ []) (length j)) a v b w (sym c.in-Load.is ∙ is) owed))) in
     let free = free_of_races x.model s j e c.args.is_racy a v c.requires.racy wrong in
     record {
       address = a;

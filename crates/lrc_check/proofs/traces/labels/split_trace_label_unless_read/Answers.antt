@@ -1,4 +1,4 @@
-use Rattle.std.proofs.Common.{Some, subst, sym}
+use Rattle.std.proofs.Common.{subst, sym}
 use Rattle.std.specs.Prelude.{IfSome}
 use Rattle.lrc_check.specs.Traces.TraceLines.{IsTraceLineOfEvent}
 use Rattle.lrc_check.proofs.traces.UnlabelledTexts.{unlabelled_text_event_bare, unlabelled_text_event_label}

@@ -20,7 +20,7 @@ read_bare line bare (Some x) is read =
 
 pub read_trace_line-requires-clause-read : goal.read_trace_line-requires-clause-read
 read_trace_line-requires-clause-read c =
-    read_bare c.in-Some.line.now _ _ c.split_trace_label_unless_read.ensures.bare c.quick_trace_event-read.ensures
+    read_bare c.in-Some.line.now _ _ c.split_trace_label_unless_read.ensures.bare c.read_trace_line_at_once-read.ensures
 
 pub returns-in_err-keep_trace_line_label-clause-fault : goal.returns-in_err-keep_trace_line_label-clause-fault
 returns-in_err-keep_trace_line_label-clause-fault c =
