@@ -26,7 +26,7 @@
 //! earlier; a flag, and whether it is set; or exactly the processors that have not arrived. `explain` has what `loads`,
 //! `race`, `incoming` and `waits` tell.
 //!
-//! **What is only tested** (crate `test_lrc`): that memory isn't refused needlessly, and that each refusal is answered.
+//! **What is only tested** (crate `test_explanations`): that memory isn't refused needlessly, and that each refusal is answered.
 #![tactic(auto)]
 
 mod apart;

@@ -13,6 +13,9 @@ pub mod GapEvents
 pub mod KeepingGaps
 pub mod GapParts
 pub mod NearestRaceSteps
+pub mod DecidedOrder
 pub mod Flattening
+pub mod FlatAnswers
+pub mod ModelsAgreed
 pub mod OwedStays
 pub mod SizedJournals

@@ -1,14 +1,11 @@
 -- Rows of which some have a value, before the first one and as a history goes on.
-use Rattle.std.proofs.Common.{ℕ, zero, suc, ◌≡◌, ◌≢◌, ◌+◌, ◌/◌, ◌%◌, ◌<◌, ◌≤◌, inl, inr, Option, Some, List, [], ◌∷◌, ◌++◌, length, slice_get, slice_index, slice_set, vec_len, sym, refl, ap, ◌∙◌, arith, length-append, length-set}
+use Rattle.std.proofs.Common.{ℕ, ◌≡◌, ◌+◌, ◌/◌, ◌%◌, ◌≤◌, inl, inr, Option, Some, List, [], ◌∷◌, ◌++◌, length, slice_get, slice_index, vec_len, sym, refl, ap, ◌∙◌, arith, length-append}
 use Rattle.std.specs.Prelude.{None}
 use Rattle.std.specs.Global.{Vec}
-use Rattle.std.proofs.lemmas.Bool.{cases_eq}
-use Rattle.std.proofs.lemmas.Option.{slice_get_within}
-use Rattle.base.proofs.SlicesAndCounts.{slice_get-append_left, slice_get-last, slice_push_cases}
-use Rattle.base.proofs.SliceSets.{slice_get-set_same, slice_get-set_other}
+use Rattle.base.proofs.SlicesAndCounts.{slice_push_cases}
 use Rattle.journal.specs.declared.event.Event.{Event}
 use Rattle.judge.specs.declared.sparse_table.SparseTable.{SparseTable}
-use Rattle.judge.specs.SparseTables.{IsSparse, IsSparseFor, IsSparseRowWith, IsSparseWith, sparse_chunk, sparse_items, sparse_mark, sparse_room, sparse_row, sparse_table_value}
+use Rattle.judge.specs.SparseTables.{IsSparse, IsSparseFor, sparse_chunk, sparse_mark, sparse_room}
 
 -- a chunk more without a mark
 pub longer_sparse_mark : (chunks : List (Vec ℕ)) (chunk : Vec ℕ) (r : ℕ) → chunk.items ≡ [] → sparse_mark chunks r ≡ 0

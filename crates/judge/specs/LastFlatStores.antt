@@ -1,10 +1,11 @@
 -- One memory that the events are done to in their order.
-use Rattle.std.specs.Prelude.{ℕ, ◌≡◌, ◌≤◌, Option, Some, MatchOption, List, replicate, slice_get, vec_len}
+use Rattle.std.specs.Prelude.{ℕ, ◌<◌, ◌≤◌, Option, Some, None, MatchOption, List, length}
 use Rattle.journal.specs.declared.event.Event.{Event}
 use Rattle.journal.specs.declared.event.Kind.TheVariants.{Store}
 use Rattle.journal.specs.WellFormed.{Does}
-use Rattle.journal.specs.ReplayMemory.{memory_after}
 use Rattle.judge.specs.declared.flat_memory.FlatMemory.{FlatMemory}
+use Rattle.judge.specs.declared.flat_memory.FlatStore.{FlatStore}
+use Rattle.judge.specs.SparseTables.{IsSparseFor, sparse_at}
 
 -- the last store to a stands at place i
 pub record LastFlatStoreTo (j : List Event) (a i : ℕ) : Type 0 where
@@ -17,9 +18,21 @@ pub record LastFlatStoreTo (j : List Event) (a i : ℕ) : Type 0 where
 abbrev pub IsLastFlatStoreTo : List Event → ℕ → Option ℕ → Type 0
 IsLastFlatStoreTo j a o = MatchOption o ((m q w : ℕ) → ¬ Does j m q (Store a w)) (LastFlatStoreTo j a)
 
--- the memory of so many zeros is this one after the events
+-- x is the last store to a
+pub record IsLastFlatStore (j : List Event) (a : ℕ) (x : FlatStore) : Type 0 where
+  pub stores : Does j x.place x.by (Store a x.value)
+  pub last : (m q w : ℕ) → Does j m q (Store a w) → m ≤ x.place
+
+-- that store, if there is one
+abbrev pub KeepsLastFlatStore : List Event → ℕ → Option FlatStore → Type 0
+KeepsLastFlatStore j a o = MatchOption o ((m q w : ℕ) → ¬ Does j m q (Store a w)) (IsLastFlatStore j a)
+
+-- the word after the last store: 0 if there is none
+abbrev pub last_flat_store_word : Option FlatStore → ℕ
+last_flat_store_word None = 0
+last_flat_store_word (Some x) = x.value
+
+-- of so many addresses, the last store to each is kept
 pub record HasLastFlatStores (j : List Event) (addresses : ℕ) (x : FlatMemory) : Type 0 where
-  pub words : x.words.items ≡ memory_after (replicate addresses 0) j
-  pub stores : (a : ℕ) (o : Option ℕ) → slice_get x.stores.items a ≡ Some o → IsLastFlatStoreTo j a o
-  pub words_long : vec_len x.words ≡ addresses
-  pub stores_long : vec_len x.stores ≡ addresses
+  pub sparse : IsSparseFor addresses (length j) x.stores
+  pub stores : (a : ℕ) → a < addresses → KeepsLastFlatStore j a (sparse_at x.stores a)

@@ -38,3 +38,8 @@ ExplainedUnderModel m s j = (k p a v : ℕ) → Does j k p (Load a v) → IsMode
 abbrev pub ModelAnswersStayLaw : Type 0
 ModelAnswersStayLaw = (m : MemoryModel) (s : Sizes) (j es : List Event) (k a v : ℕ) → k < length j
     → IsModelAnswer m s (j ++ es) k a v ↔ IsModelAnswer m s j k a v
+
+-- up to its first race a load may answer under each model what it may under any other
+abbrev pub ModelsAgreeLaw : Type 0
+ModelsAgreeLaw = (m n : MemoryModel) (s : Sizes) (j : List Event) (k p a v : ℕ) → Does j k p (Load a v) → a < addresses s
+    → RaceFree (take (suc k) j) → IsModelAnswer m s j k a v ↔ IsModelAnswer n s j k a v

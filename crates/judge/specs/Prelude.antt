@@ -8,8 +8,8 @@ pub use Rattle.judge.specs.HistoryRanges.{HistoryRangeLaw}
 pub use Rattle.judge.specs.GapTally.{GapTallyAdds, IsGapTallyFor, is_gap_tally_between, gap_tally_mark, gap_tally_numbers, gap_tally_place_of}
 pub use Rattle.judge.specs.FetchGaps.{AreFetchGapAmountsFew, AreFetchGapsOf, AreFetchGapsLong, FetchGapAmountsAmong, FetchGapBroughtUpTo, FetchGapStoreInPage, TellsFetchGaps, fetch_gap_time}
 pub use Rattle.judge.specs.Miscounted.{IsNotMiscounted, IsFirstMiscounted, IsEventInSizes, Miscounts}
-pub use Rattle.judge.specs.Models.{ExplainedUnderModel, IsFlatModelWord, IsModelAnswer, ModelAnswersStayLaw, ModelConcurrentStore}
+pub use Rattle.judge.specs.Models.{ExplainedUnderModel, IsFlatModelWord, IsModelAnswer, ModelAnswersStayLaw, ModelConcurrentStore, ModelsAgreeLaw}
 pub use Rattle.judge.specs.NearestRaces.{NearestRaceAccessesAreKept, AreNearestRacesOf, IsNearestRaceLastUncounted, IsNearestRace, IsNearestRaceTo, IsNearestRaceUncounted}
-pub use Rattle.judge.specs.LastFlatStores.{IsLastFlatStoreTo, HasLastFlatStores}
-pub use Rattle.judge.specs.Owed.{AreOwedBy, PermitsOwed, IsOwedRacy}
+pub use Rattle.judge.specs.LastFlatStores.{HasLastFlatStores, IsLastFlatStoreTo, KeepsLastFlatStore}
+pub use Rattle.judge.specs.Owed.{AreOwedBy, IsOwedLastStore, IsOwedRacy, PermitsOwed}
 pub use Rattle.judge.specs.SizedHistory.{IsHistoryInSizes, IsSizedHistoryOfJournal, IsHistoryOfSizes, IsSizedHistory, most_in_sized_history, whole_sized_history}

@@ -1,18 +1,29 @@
 //! One memory that the events are done to in their order.
-ghost use Rattle.std.specs.Prelude.{◌≡◌, ◌↔◌, ℕ, ◌<◌, ◌≤◌, [], ◌∷◌, ◌++◌, IfOk, IsTrue, List, Some, length, replicate, slice_get};
+ghost use Rattle.std.specs.Prelude.{◌≡◌, ◌↔◌, ℕ, ◌<◌, ◌≤◌, ◌^◌, [], ◌∷◌, ◌++◌, IfOk, IsTrue, List, OnOk, Some, length, replicate, slice_get};
 ghost use Rattle.journal.specs.declared.event.Event.{Event};
 ghost use Rattle.journal.specs.Prelude.{EventAddressInRange, memory_after};
-ghost use Rattle.judge.specs.Prelude.{IsLastFlatStoreTo, HasLastFlatStores};
+ghost use Rattle.judge.specs.Prelude.{HasLastFlatStores, IsLastFlatStoreTo, KeepsLastFlatStore};
 
+use crate::sparse_table::SparseTable;
 use journal::{Event, Kind};
 use std::alloc::{AllocError, Global};
 
-/// One memory, to which the events of a history are done in their order, and which event wrote each of its words.
+/// The last store to an address.
+#[derive(Clone, Copy)]
+pub(crate) struct FlatStore {
+    /// Whose it is.
+    pub(crate) by: usize,
+    /// The place of its event.
+    pub(crate) place: u32,
+    /// What it stored.
+    pub(crate) value: u32,
+}
+
+/// One memory of zeros, to which the events of a history are done in their order, and which event wrote each of its words. It
+/// takes memory for the words that were stored to, and some more for their neighbours, as `SparseTable` does.
 #[derive(Drop)]
 pub struct FlatMemory {
-    pub(crate) words: Vec<u32>,
-    /// The place of the last store to each address.
-    pub(crate) stores: Vec<Option<usize>>,
+    pub(crate) stores: SparseTable<FlatStore>,
 }
 
 impl FlatMemory {
@@ -21,9 +32,16 @@ impl FlatMemory {
         ensures { IfOk result (HasLastFlatStores [] addresses) }
     {
         Ok(FlatMemory {
-            words: vec![in alloc; 0; addresses]?,
-            stores: vec![in alloc; None; addresses]?,
+            stores: SparseTable::new(alloc, addresses)?,
         })
+    }
+
+    /// The last store to the address.
+    pub(crate) fn last(&self, address: usize) -> Option<FlatStore>
+        requires { (j : List Event) × (n : ℕ) × HasLastFlatStores j n self.now × (address < n) }
+        ensures { (j : List Event) (n : ℕ) → HasLastFlatStores j n self.now → address < n → KeepsLastFlatStore j address result }
+    {
+        self.stores.get(address)
     }
 
     /// Whether the address has this word.
@@ -32,7 +50,10 @@ impl FlatMemory {
         ensures { (j : List Event) (n : ℕ) → HasLastFlatStores j n self.now → address < n
             → IsTrue result ↔ (slice_get (memory_after (replicate n 0) j) address ≡ Some value) }
     {
-        self.words[address] == value
+        match self.last(address) {
+            Some(store) => store.value == value,
+            None => value == 0,
+        }
     }
 
     /// The place of the last store to the address.
@@ -40,18 +61,26 @@ impl FlatMemory {
         requires { (j : List Event) × (n : ℕ) × HasLastFlatStores j n self.now × (address < n) }
         ensures { (j : List Event) (n : ℕ) → HasLastFlatStores j n self.now → address < n → IsLastFlatStoreTo j address result }
     {
-        self.stores[address]
+        match self.last(address) {
+            Some(store) => Some(store.place as usize),
+            None => None,
+        }
     }
 
-    /// Does the event, which comes at this place.
-    pub fn note(&mut self, event: Event, place: usize)
-        requires { (j : List Event) × (n : ℕ) × HasLastFlatStores j n self.old × EventAddressInRange n event.kind }
-        ensures { (j : List Event) (n : ℕ) → HasLastFlatStores j n self.old → EventAddressInRange n event.kind → length j ≡ place
-            → HasLastFlatStores (j ++ event ∷ []) n self.new }
+    /// Does the event, which comes at this place. The only error is running out of memory, after which it may tell no history.
+    pub fn note(&mut self, event: Event, place: usize) -> Result<(), AllocError>
+        requires few { place < 2 ^ 22 }
+        requires so_far { (j : List Event) × (n : ℕ) × HasLastFlatStores j n self.old × EventAddressInRange n event.kind × (length j ≡ place) }
+        ensures { OnOk result ((j : List Event) (n : ℕ) → HasLastFlatStores j n self.old → EventAddressInRange n event.kind
+            → length j ≡ place → HasLastFlatStores (j ++ event ∷ []) n self.new) }
     {
-        if let Kind::Store(address, value) = event.kind {
-            self.words[address] = value;
-            self.stores[address] = Some(place);
+        match event.kind {
+            Kind::Store(address, value) => {
+                let by = event.processor;
+                let place = place as u32;
+                self.stores.set(address, FlatStore { by, place, value })
+            }
+            _ => Ok(()),
         }
     }
 }

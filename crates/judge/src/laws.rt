@@ -1,5 +1,5 @@
 //! Laws of what may come next, as contracts of functions that do nothing: the check proves each by its name.
-ghost use Rattle.judge.specs.Prelude.{LaxLaw, ModelAnswersStayLaw, HistoryRangeLaw, WhyLaw};
+ghost use Rattle.judge.specs.Prelude.{LaxLaw, ModelAnswersStayLaw, HistoryRangeLaw, ModelsAgreeLaw, WhyLaw};
 
 /// A well formed history is well formed whatever the order in which a lock's asks are granted.
 pub fn lax_law()
@@ -21,4 +21,10 @@ pub fn history_range_law()
 /// was read.
 pub fn owed_stays_law()
     ensures { ModelAnswersStayLaw }
+{}
+
+/// Up to the first race of a history the models are one: a load whose past and itself have no race may answer under each what it
+/// may under any other.
+pub fn models_agree_law()
+    ensures { ModelsAgreeLaw }
 {}

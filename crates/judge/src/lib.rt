@@ -42,7 +42,7 @@ pub use frontier::Frontier;
 pub use gaps::Gaps;
 pub use history::History;
 pub use ill_formed::{IllFormed, first_ill_formed};
-pub use laws::{history_range_law, lax_law, owed_stays_law, why_law};
+pub use laws::{history_range_law, lax_law, models_agree_law, owed_stays_law, why_law};
 pub use miscounted::{Miscounted, first_miscounted, miscount};
 pub use models::MemoryModel;
 pub use nearest_races::NearestRaces;

@@ -1,32 +1,47 @@
 //! What the loads of a history owe under a model.
-ghost use Rattle.std.specs.Prelude.{◌≡◌, ◌↔◌, ℕ, ◌+◌, ◌<◌, ◌≤◌, [], ◌∷◌, ◌++◌, Bool, IfOk, IsTrue, List, OnOk, Some, length, slice_get, take};
+ghost use Rattle.std.specs.Prelude.{◌≡◌, ◌↔◌, ℕ, ◌+◌, ◌<◌, ◌≤◌, [], ◌∷◌, ◌++◌, Bool, IfOk, IfSome, IsTrue, List, OnOk, Some, length, slice_get, take};
 ghost use Rattle.base.specs.Prelude.{most_held, most_processors};
 ghost use Rattle.journal.specs.declared.event.Event.{Event};
 ghost use Rattle.journal.specs.declared.event.Kind.TheVariants.{Load};
 ghost use Rattle.journal.specs.Sizes.{Sizes as TheSizes, addresses};
 ghost use Rattle.journal.specs.Prelude.{did, event as an_event};
+ghost use Rattle.journal.specs.Races.{RaceFree};
 ghost use Rattle.judge.specs.declared.models.MemoryModel.{MemoryModel as AModel};
-ghost use Rattle.judge.specs.Prelude.{AreOwedBy, PermitsOwed, AreJudgedSizes, IsModelAnswer, IsOwedRacy, IsEventInSizes, judged_sizes_of};
+ghost use Rattle.judge.specs.declared.models.MemoryModel.TheVariants as model;
+ghost use Rattle.judge.specs.Prelude.{AreOwedBy, PermitsOwed, AreJudgedSizes, IsModelAnswer, IsOwedLastStore, IsOwedRacy, IsEventInSizes, judged_sizes_of};
 
-use crate::flat_memory::FlatMemory;
+use crate::flat_memory::{FlatMemory, FlatStore};
 use crate::models::MemoryModel;
 use crate::permitted::Permitted;
 use crate::sizes::Sizes;
 use crate::sources::ReadableSources;
+use base::MOST_PROCESSORS;
 use journal::{Event, Kind};
 use std::alloc::{AllocError, Global};
 
 /// A history, taken an event at a time, of which it tells what a load that comes next owes under a model.
 #[derive(Drop)]
 pub enum Owed {
-    /// Under `MemoryModel::RaceFree`.
-    RaceFree(ReadableSources),
+    /// Under `MemoryModel::RaceFree`: up to the first race what a load owes is the word of one flat memory.
+    RaceFree(FlatMemory),
     /// Under `MemoryModel::HappensBefore`.
     HappensBefore(ReadableSources),
     /// Under `MemoryModel::LazyRelease`.
     LazyRelease(ReadableSources),
     /// Under `MemoryModel::Sequential`.
     Sequential(FlatMemory),
+}
+
+/// Of each processor, the place of this store, if it is this processor's.
+fn owed_latest(last: Option<FlatStore>) -> [Option<usize>; MOST_PROCESSORS]
+    requires { IfSome last (λ x. x.by < most_processors) }
+    ensures { (q i : ℕ) → (slice_get result q ≡ Some (Some i)) ↔ IsOwedLastStore last q i }
+{
+    let mut latest = [None; MOST_PROCESSORS];
+    if let Some(store) = last {
+        latest[store.by] = Some(store.place as usize);
+    }
+    latest
 }
 
 impl Owed {
@@ -37,9 +52,7 @@ impl Owed {
     {
         let addresses = sizes.pages * sizes.words;
         match model {
-            MemoryModel::RaceFree => {
-                ReadableSources::new(alloc, sizes.processors, addresses).map(Owed::RaceFree)
-            }
+            MemoryModel::RaceFree => FlatMemory::new(alloc, addresses).map(Owed::RaceFree),
             MemoryModel::HappensBefore => {
                 ReadableSources::new(alloc, sizes.processors, addresses).map(Owed::HappensBefore)
             }
@@ -68,9 +81,7 @@ impl Owed {
             → IsTrue result ↔ IsModelAnswer m s (did events.now processor (Load address value)) (length events.now) address value }
     {
         match self {
-            Owed::RaceFree(sources) => {
-                is_racy || sources.may_answer(events, processor, address, value)
-            }
+            Owed::RaceFree(memory) => is_racy || memory.has(address, value),
             Owed::HappensBefore(sources) => {
                 sources.may_answer(events, processor, address, value)
                     || sources.has_unordered(events, processor, address, value)
@@ -97,7 +108,8 @@ impl Owed {
         }
     }
 
-    /// What a load of the address by this processor that comes next may answer. The only error is running out of memory.
+    /// What a load of the address by this processor that comes next may answer; under `MemoryModel::RaceFree` if there is no
+    /// race with it. The only error is running out of memory.
     pub fn permitted(
         &self,
         alloc: Global,
@@ -108,11 +120,12 @@ impl Owed {
             × (processor < s.processors) × (address < addresses s) }
         ensures { IfOk result (λ x. (m : AModel) (s : TheSizes) (j : List Event) → AreOwedBy m s j self.now
             → processor < s.processors → address < addresses s → (v : ℕ)
+            → (m ≡ model.RaceFree → RaceFree (did j processor (Load address v)))
             → PermitsOwed m (did j processor (Load address v)) (length j) address x) }
     {
         match self {
-            Owed::RaceFree(sources) => {
-                let latest = sources.before(processor, address);
+            Owed::RaceFree(memory) => {
+                let latest = owed_latest(memory.last(address));
                 Ok(Permitted::Latest(latest))
             }
             Owed::LazyRelease(sources) => {
@@ -140,13 +153,10 @@ impl Owed {
             → AreOwedBy m s (take (place + 1) events.now) self.new) }
     {
         match self {
-            Owed::RaceFree(sources) => sources.note(events, place),
+            Owed::RaceFree(memory) => memory.note(events[place], place),
             Owed::HappensBefore(sources) => sources.note(events, place),
             Owed::LazyRelease(sources) => sources.note(events, place),
-            Owed::Sequential(memory) => {
-                memory.note(events[place], place);
-                Ok(())
-            }
+            Owed::Sequential(memory) => memory.note(events[place], place),
         }
     }
 }

@@ -1,9 +1,7 @@
-//! Tests of scripts, traces, runs and what is said of them: each a caller who knows nothing but contracts.
+//! Tests of scripts, traces, runs and outcomes: each a caller who knows nothing but contracts.
 #![tactic(auto)]
 
 pub mod drawing;
-#[cfg(test)]
-mod explanations;
 #[cfg(test)]
 mod outcomes;
 #[cfg(test)]

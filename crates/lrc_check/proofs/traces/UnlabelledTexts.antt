@@ -3,18 +3,19 @@ use Rattle.std.proofs.Common.{◌≡◌, ℕ, zero, suc, ◌+◌, ◌≤◌, Lis
 use Rattle.std.specs.Prelude.{codes}
 use Rattle.std.specs.List.{flat_map, AllByRecursion}
 use Rattle.std.specs.Fmt.{decimal}
-use Rattle.std.proofs.lemmas.List.{take_all}
+use Rattle.std.proofs.lemmas.List.{append_cancel_right, drop_all, take_all}
 use Rattle.journal.specs.declared.event.Event.{Event}
 use Rattle.journal.specs.Sizes.{Sizes}
 use Rattle.lrc_script.specs.ScriptFaults.{IsLineSplit, IsWordOfLine}
 use Rattle.lrc_script.proofs.Reading.Separators.{HasNoSeparator}
 use Rattle.lrc_report.specs.ReportText.{report_event_text, report_events_text}
-use Rattle.lrc_check.specs.Traces.Labels.{without_trace_labels, line_without_trace_label}
+use Rattle.lrc_check.specs.Traces.Labels.{without_trace_labels, line_without_trace_label, trace_label_at, trace_line_label}
 use Rattle.lrc_check.specs.Traces.Heads.{trace_head_numbers_of}
 use Rattle.lrc_check.specs.Traces.Laws.{UnlabelledTraceLaw}
 use Rattle.lrc_check.specs.Traces.Sizes.{AreTraceSizes}
+use Rattle.lrc_check.specs.Traces.TraceLines.{IsTraceLineOfEvent}
 use Rattle.lrc_check.proofs.traces.Labelling.{IsLabellingDoubleSpace, labelling_lines_next, labelling_double_space_before, labelling_absent}
-use Rattle.lrc_check.proofs.traces.EventWords.{event_words_bytes, event_words_clean_bytes, event_words_split, event_words_are_line}
+use Rattle.lrc_check.proofs.traces.EventWords.{event_words_bytes, event_words_clean_bytes, event_words_of_line, event_words_split, event_words_are_line}
 use Rattle.lrc_check.proofs.traces.TextParts.{AreTextPartsSmall, text_parts_head, text_parts_head_clean, text_parts_head_split, text_parts_small}
 
 abbrev pub IsUnlabelledText : List ℕ → Type 0
@@ -38,13 +39,37 @@ unlabelled_text_words ((b ∷ w) ∷ ws) words (suc k) h =
     (labelling_double_space_before 32 ((b ∷ w) ++ rest) k (suc k) refl h)
 
 -- a line of words has no label
-unlabelled_text_split : (line w : List ℕ) (ws : List (List ℕ)) → IsLineSplit line w ws → line_without_trace_label line ≡ line
-unlabelled_text_split line w ws split =
+unlabelled_text_at : (line w : List ℕ) (ws : List (List ℕ)) → IsLineSplit line w ws → trace_label_at line ≡ length line
+unlabelled_text_at line w ws split =
     let none =
     subst IsUnlabelledText (sym split.whole)
     (unlabelled_text_word w (flat_map (λ v. 32 ∷ v) ws) split.first.no_space (unlabelled_text_words ws split.others)) in
+    labelling_absent line (λ k some. none k)
+
+unlabelled_text_split : (line w : List ℕ) (ws : List (List ℕ)) → IsLineSplit line w ws → line_without_trace_label line ≡ line
+unlabelled_text_split line w ws split =
     let le : length line ≤ length line = omega arith in
-    ap (λ (n : ℕ). take n line) (labelling_absent line (λ k some. none k)) ∙ take_all (length line) line le
+    ap (λ (n : ℕ). take n line) (unlabelled_text_at line w ws split) ∙ take_all (length line) line le
+
+-- nor has an event's line
+unlabelled_text_of_event : (line : List ℕ) (place : ℕ) (e : Event) → IsTraceLineOfEvent line place e → trace_label_at line ≡ length line
+unlabelled_text_of_event line place e is =
+    let bytes : line ≡ event_words_bytes place e =
+    append_cancel_right line (event_words_bytes place e) (10 ∷ []) (is.line_is ∙ event_words_are_line place e) in
+    unlabelled_text_at line _ _ (subst (λ x. IsLineSplit x (codes "event") (event_words_of_line place e)) (sym bytes) (event_words_split place e is.small))
+
+pub unlabelled_text_event_bare : (line : List ℕ) (place : ℕ) (e : Event) → IsTraceLineOfEvent line place e
+    → line_without_trace_label line ≡ line
+unlabelled_text_event_bare line place e is =
+    let le : length line ≤ length line = omega arith in
+    ap (λ (n : ℕ). take n line) (unlabelled_text_of_event line place e is) ∙ take_all (length line) line le
+
+pub unlabelled_text_event_label : (line : List ℕ) (place : ℕ) (e : Event) → IsTraceLineOfEvent line place e
+    → trace_line_label line ≡ []
+unlabelled_text_event_label line place e is =
+    let at = unlabelled_text_of_event line place e is in
+    let le : length line ≤ trace_label_at line + 2 = omega arith in
+    drop_all (trace_label_at line + 2) line le
 
 -- ---- the line of the sizes
 

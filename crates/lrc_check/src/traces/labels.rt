@@ -1,8 +1,10 @@
 //! The labels of a trace's lines: what stands on a line behind two spaces in a row is the logger's own.
-ghost use Rattle.std.specs.Prelude.{◌≡◌, ℕ, ◌+◌, ◌<◌, ◌≤◌, ◌^◌, [], ◌∷◌, ◌++◌, IfOk, MatchOption, OnOk, length, map, slice_index_or};
+ghost use Rattle.std.specs.Prelude.{◌≡◌, ℕ, ◌+◌, ◌<◌, ◌≤◌, ◌^◌, [], ◌∷◌, ◌++◌, IfOk, IfSome, MatchOption, OnOk, length, map, slice_index_or};
 ghost use Rattle.lrc_script.specs.Prelude.{parts_of_read_line};
 ghost use Rattle.lrc_check.specs.Traces.Prelude.{AreTraceLabelsShown, line_without_trace_label, trace_event_label, trace_label_at, trace_line_label, trace_label_byte_shown};
+ghost use Rattle.lrc_check.specs.Traces.Prelude.{IsTraceLineOfEvent};
 
+use journal::Event;
 use lrc_script::line::split_line;
 use std::alloc::{AllocError, Global};
 use std::marker::Model;
@@ -28,6 +30,21 @@ pub fn split_trace_label(line: &[u8]) -> (&[u8], &[u8])
     match spaces_before_trace_label(line) {
         Some(at) => (&line[..at], &line[at + 2..]),
         None => (line, b""),
+    }
+}
+
+/// A line without its label, and the label. A line that was read as an event's as a whole has none, and none is looked for.
+pub(crate) fn split_trace_label_unless_read<'a>(
+    line: &'a [u8],
+    read: Option<(usize, Event)>,
+) -> (&'a [u8], &'a [u8])
+    requires { IfSome read (λ x. IsTraceLineOfEvent line.now x.0 x.1) }
+    ensures bare { result.0.now ≡ line_without_trace_label line.now }
+    ensures label { result.1.now ≡ trace_line_label line.now }
+{
+    match read {
+        Some(_) => (line, b""),
+        None => split_trace_label(line),
     }
 }
 

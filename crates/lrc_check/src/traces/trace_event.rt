@@ -78,7 +78,7 @@ fn trace_event_kind(alloc: Global, name: EventName, words: Option<&[u8]>) -> Opt
 
 /// The event of a line, and the place that the line gives it. It goes over each word twice at most, and doesn't say
 /// what is wrong: it answers None for each fault, and where memory runs out.
-fn quick_trace_event(alloc: Global, line: &[u8]) -> Option<(usize, Event)>
+pub(crate) fn quick_trace_event(alloc: Global, line: &[u8]) -> Option<(usize, Event)>
     ensures { IfSome result (λ x. IsTraceLineOfEvent line.now x.0 x.1) }
 {
     let (first, rest) = split_script_line_at(line, b' ');
@@ -150,21 +150,28 @@ fn tells_cut_trace_events(line: &[u8]) -> bool
     }
 }
 
-/// Adds the event of a line to those before it.
+/// Adds the event of a line to those before it. `read` is what was read of the line already.
 pub fn add(
     alloc: Global,
     sizes: &TraceSizes,
     events: &mut Vec<Event>,
     line: &[u8],
+    read: Option<(usize, Event)>,
 ) -> Result<(), TraceFault>
-    requires { AreTraceSizes (trace_sizes_of sizes.now) }
+    requires sizes { AreTraceSizes (trace_sizes_of sizes.now) }
+    requires read { IfSome read (λ x. IsTraceLineOfEvent line.now x.0 x.1) }
     ensures found { OnOk result (TraceLineRead (trace_sizes_of sizes.now) events.old.items line.now events.new.items) }
     ensures fault { IfErr result (λ e. TraceFaultRefuses e (trace_sizes_of sizes.now) events.old.items line.now) }
 {
-    if events.is_empty() && tells_cut_trace_events(line) {
-        return Err(TraceFault::Cut);
-    }
-    let (place, event) = read_trace_event(alloc, line)?;
+    let (place, event) = match read {
+        Some(read) => read,
+        None => {
+            if events.is_empty() && tells_cut_trace_events(line) {
+                return Err(TraceFault::Cut);
+            }
+            read_trace_event(alloc, line)?
+        }
+    };
     if let Some(fault) = trace_range_fault_of_event(sizes, events.len(), place, &event) {
         return Err(fault);
     }

@@ -1,15 +1,16 @@
 //! The lines of a trace's text, as they come: what those so far are, and what comes next.
-ghost use Rattle.std.specs.Prelude.{◌≡◌, ℕ, List, [], ◌∷◌, ◌++◌, IfOk, IfErr, OnOk};
+ghost use Rattle.std.specs.Prelude.{◌≡◌, ℕ, List, [], ◌∷◌, ◌++◌, IfOk, IfErr, IfSome, OnOk};
 ghost use Rattle.lrc_script.specs.Prelude.{HasNoLineFeed};
 ghost use Rattle.lrc_check.specs.declared.traces.fault.TraceFault.TheVariants.{NoMemory, Truncated};
 ghost use Rattle.lrc_check.specs.Traces.Prelude.{TraceFaultSaysNoSizes, TraceLineHasSizes, IsTraceBegun, IsTraceFault, IsTraceFaultLasting, IsNoOtherLawfulTrace};
-ghost use Rattle.lrc_check.specs.Traces.Prelude.{IsNoLawfulTrace, IsLawfulTrace, without_trace_labels, trace_begun_text, trace_labels_of, trace_begun_line_number, trace_sizes_of, trace_text};
+ghost use Rattle.lrc_check.specs.Traces.Prelude.{IsNoLawfulTrace, IsLawfulTrace, IsTraceLineOfEvent, without_trace_labels, trace_begun_text, trace_labels_of, trace_begun_line_number, trace_sizes_of, trace_text};
 
 use crate::traces::fault::TraceFault;
 use crate::traces::head::read_trace_head;
-use crate::traces::labels::{TraceLabels, split_trace_label};
+use crate::traces::labels::{TraceLabels, split_trace_label_unless_read};
 use crate::traces::trace::Trace;
-use crate::traces::trace_event::add;
+use crate::traces::trace_event::{add, quick_trace_event};
+use journal::Event;
 use lrc_script::line::split_line;
 use std::alloc::Global;
 
@@ -36,14 +37,16 @@ pub fn next_trace_line_number(begun: &Option<Trace>) -> usize
     }
 }
 
-/// Reads the next line, of which the line feed isn't there.
+/// Reads the next line, of which the line feed isn't there. `read` is what was read of it already.
 fn read_trace_line(
     alloc: Global,
     begun: &mut Option<Trace>,
     line: &[u8],
+    read: Option<(usize, Event)>,
 ) -> Result<(), (usize, TraceFault)>
     requires begun { IsTraceBegun begun.old }
     requires one_line { HasNoLineFeed line.now }
+    requires read { IfSome read (λ x. IsTraceLineOfEvent line.now x.0 x.1) }
     ensures begun { OnOk result (IsTraceBegun begun.new) }
     ensures text { OnOk result (trace_begun_text begun.new ≡ trace_begun_text begun.old ++ (line.now ++ 10 ∷ [])) }
     ensures fault { IfErr result (λ e. IsTraceFaultLasting (trace_begun_text begun.old ++ (line.now ++ 10 ∷ [])) e.0 e.1) }
@@ -58,7 +61,7 @@ fn read_trace_line(
         },
         Some(trace) => {
             let number = trace.events.len() + 2;
-            match add(alloc, &trace.sizes, &mut trace.events, line) {
+            match add(alloc, &trace.sizes, &mut trace.events, line, read) {
                 Ok(()) => Ok(()),
                 Err(fault) => Err((number, fault)),
             }
@@ -83,6 +86,17 @@ fn keep_trace_line_label(
     }
 }
 
+/// The event of a line, if it is looked for at once: not where the line before had a label, since this one has one, too, then.
+fn read_trace_line_at_once(alloc: Global, line: &[u8], has_labels: bool) -> Option<(usize, Event)>
+    ensures { IfSome result (λ x. IsTraceLineOfEvent line.now x.0 x.1) }
+{
+    if has_labels {
+        None
+    } else {
+        quick_trace_event(alloc, line)
+    }
+}
+
 /// Reads the lines that are whole, keeps their labels, and answers what stands behind them.
 pub fn read_trace_lines<'a>(
     alloc: Global,
@@ -103,10 +117,13 @@ pub fn read_trace_lines<'a>(
 {
     // This is the one call of `read_trace_line`: so the compiler puts all that reads a line into the loop.
     let mut rest = bytes;
+    let mut has_labels = false;
     while let Some((line, after)) = split_line(rest) {
-        let (event, label) = split_trace_label(line);
+        let read = read_trace_line_at_once(alloc, line, has_labels);
+        let (event, label) = split_trace_label_unless_read(line, read);
+        has_labels = !label.is_empty();
         keep_trace_line_label(begun, labels, label)?;
-        read_trace_line(alloc, begun, event)?;
+        read_trace_line(alloc, begun, event, read)?;
         rest = after;
     }
     Ok(rest)

@@ -1,13 +1,19 @@
-use Rattle.std.proofs.Common.{◌≡◌, ◌+◌, List, take, slice_index_or, subst, sym, ◌∙◌, arith}
+use Rattle.std.proofs.Common.{ℕ, ◌≡◌, ◌+◌, [], ◌∷◌, ◌++◌, List, Some, length, take, slice_get, slice_index_or, subst, sym, ◌∙◌, arith}
 use Rattle.std.specs.Prelude.{Result, Ok, Err, OnOk}
 use Rattle.std.proofs.lemmas.Option.{slice_get-get_or}
 use Rattle.std.proofs.lemmas.List.{length-take-le}
 use Rattle.journal.specs.declared.event.Event.{Event}
 use Rattle.journal.specs.declared.event.Kind.TheVariants.{Load}
 use Rattle.journal.specs.DidEvent.{event}
+use Rattle.journal.specs.Events.{EventAt}
+use Rattle.journal.specs.EventsInRange.{EventAddressInRange}
+use Rattle.base.proofs.SlicesAndCounts.{slice_get-from_take}
+use Rattle.journal.proofs.Order.EventPlacesAndCounts.{event_place_inside}
 use Rattle.journal.specs.Sizes.{Sizes, addresses}
 use Rattle.journal.proofs.Passes.NextClocks.{next_clocks_front}
+use Rattle.judge.specs.declared.flat_memory.FlatMemory.{FlatMemory}
 use Rattle.judge.specs.declared.sources.readable.ReadableSources.{ReadableSources}
+use Rattle.judge.specs.Miscounted.{IsEventInSizes}
 use Rattle.judge.specs.LastFlatStores.{HasLastFlatStores}
 use Rattle.judge.specs.Owed.{AreOwedBy, AreSourcesOfOwed}
 use Rattle.judge.specs.Sources.KeptSources.{AreKeptSourcesOf}
@@ -28,15 +34,34 @@ sources_next s j now x y old tells processors places = record {
   addresses = places ∙ old.addresses;
 }
 
+-- the memory after the event
+memory_next : (s : Sizes) (events : List Event) (place : ℕ) (e : Event) (x y : FlatMemory) → EventAt events place e
+    → ((k : ℕ) (f : Event) → slice_get events k ≡ Some f → IsEventInSizes s f)
+    → ((j : List Event) (n : ℕ) → HasLastFlatStores j n x → EventAddressInRange n e.kind → length j ≡ place
+    → HasLastFlatStores (j ++ e ∷ []) n y)
+    → HasLastFlatStores (take place events) (addresses s) x → HasLastFlatStores (take (place + 1) events) (addresses s) y
+memory_next s events place e x y at range noted is =
+    let inside = event_place_inside events place e at in
+    subst (λ xs. HasLastFlatStores xs (addresses s) y) (sym (next_clocks_front events place e at))
+    (noted (take place events) (addresses s) is (history_range_address s e.kind (range place e at).kind)
+    (length-take-le place events (omega (arith, inside))))
+
 pub returns-in-RaceFree : goal.returns-in-RaceFree
 returns-in-RaceFree c =
+    let events = c.args.events.now in
+    let place = c.args.place in
+    let e = slice_index_or events place (event 0 (Load 0 0)) in
+    let at = slice_get-get_or events place (event 0 (Load 0 0)) c.requires.place in
     given c.note.result
-    (λ tells m s owed range. (let o = subst (AreOwedBy m s (take c.args.place c.args.events.now)) c.in-RaceFree.is owed in (
+    (λ noted m s owed range. (let o = subst (AreOwedBy m s (take place events)) c.in-RaceFree.is owed in (
       o.0,
-      sources_next s (take c.args.place c.args.events.now) (take (c.args.place + 1) c.args.events.now)
-          c.in-RaceFree.sources c.note.new.self o.1 tells c.note.ensures.processors c.note.ensures.addresses,
+      record {
+        memory = memory_next s events place e c.in-RaceFree.memory c.note.new.self at range noted o.1.memory;
+        few = o.1.few;
+        processors = λ i f here. (range i f (slice_get-from_take events (place + 1) i f here)).processor;
+      },
     )))
-    c.note.ensures.tells
+    c.note.ensures
 
 pub returns-in-HappensBefore : goal.returns-in-HappensBefore
 returns-in-HappensBefore c =
@@ -59,12 +84,12 @@ returns-in-LazyRelease c =
     c.note-in-LazyRelease.ensures.tells
 
 pub returns-in-Sequential : goal.returns-in-Sequential
-returns-in-Sequential c = λ m s owed range.
+returns-in-Sequential c =
     let events = c.args.events.now in
     let place = c.args.place in
     let e = slice_index_or events place (event 0 (Load 0 0)) in
     let at = slice_get-get_or events place (event 0 (Load 0 0)) c.requires.place in
-    let o = subst (AreOwedBy m s (take place events)) c.in-Sequential.is owed in
-    let long = length-take-le place events (omega (arith, c.requires.place)) in
-    let next = c.note-in-Sequential.ensures (take place events) (addresses s) o.1 (history_range_address s e.kind (range place e at).kind) long in
-    (o.0, subst (λ xs. HasLastFlatStores xs (addresses s) c.note-in-Sequential.new.self) (sym (next_clocks_front events place e at)) next)
+    given c.note-in-Sequential.result
+    (λ noted m s owed range. (let o = subst (AreOwedBy m s (take place events)) c.in-Sequential.is owed in
+    (o.0, memory_next s events place e c.in-Sequential.memory c.note-in-Sequential.new.self at range noted o.1)))
+    c.note-in-Sequential.ensures

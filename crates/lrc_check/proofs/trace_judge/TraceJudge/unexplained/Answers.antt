@@ -1,12 +1,33 @@
-use Rattle.std.proofs.Common.{◌∷◌, ◌++◌, [], length, subst, sym, refl, ◌∙◌}
+use Rattle.std.proofs.Common.{ℕ, suc, ◌≡◌, ◌≤◌, ◌∷◌, ◌++◌, [], Bool, List, true, false, length, take, subst, sym, refl, ◌∙◌, arith, length-append}
+use Rattle.std.proofs.lemmas.List.{take_all}
 use Rattle.std.proofs.lemmas.Bool.{false≢true}
+use Rattle.journal.specs.declared.event.Event.{Event}
 use Rattle.journal.specs.DidEvent.{event}
+use Rattle.journal.specs.Races.{RaceFree}
+use Rattle.journal.specs.Sizes.{Sizes}
 use Rattle.journal.specs.WellFormed.{WellFormedKindInRange}
 use Rattle.judge.specs.Models.{IsModelAnswer}
-use Rattle.judge.specs.Owed.{PermitsOwed}
+use Rattle.judge.specs.declared.models.MemoryModel.{MemoryModel}
+use Rattle.judge.specs.declared.models.MemoryModel.TheVariants as model
+use Rattle.judge.specs.Owed.{IsOwedRacy, PermitsOwed}
 use Rattle.judge.specs.JudgedSizes.{judged_sizes_of}
 use Rattle.lrc_check.proofs.LyingTraces.{lying_same_load}
 use Rattle.lrc_check.proofs.trace_judge.TraceJudge.unexplained.Goals as goal
+
+-- all events up to and with the last one
+whole : (j : List Event) (e : Event) → take (suc (length j)) (j ++ e ∷ []) ≡ j ++ e ∷ []
+whole j e =
+    let long = length-append j (e ∷ []) in
+    let le : length (j ++ e ∷ []) ≤ suc (length j) = omega arith in
+    take_all (suc (length j)) (j ++ e ∷ []) le
+
+-- a load that lies under race-free has no race
+free_of_races : (m : MemoryModel) (s : Sizes) (j : List Event) (e : Event) (racy : Bool) (a v : ℕ) → IsOwedRacy j e racy
+    → ¬ IsModelAnswer m s (j ++ e ∷ []) (length j) a v → m ≡ model.RaceFree → RaceFree (j ++ e ∷ [])
+free_of_races m s j e false a v free wrong same = free
+free_of_races m s j e true a v raced wrong same =
+    absurd (wrong (subst (λ x. IsModelAnswer x s (j ++ e ∷ []) (length j) a v) (sym same)
+    (λ free. absurd (raced (subst RaceFree (whole j e) free)))))
 
 pub is_paid-requires : goal.is_paid-requires
 is_paid-requires c =
@@ -39,16 +60,19 @@ returns c =
     let a = c.in-Load.address in
     let v = c.in-Load.field-1 in
     let paid = c.if-is_paid.ensures x.model s c.requires.judged.owed c.requires.within c.requires.racy in
+    let wrong : ¬ IsModelAnswer x.model s (j ++ e ∷ []) (length j) a v =
+    (λ owed. false≢true (paid.1 (λ b w is.
+    lying_same_load (IsModelAnswer x.model s (j ++ e ∷ []) (length j)) a v b w (sym c.in-Load.is ∙ is) owed))) in
+    let free = free_of_races x.model s j e c.args.is_racy a v c.requires.racy wrong in
     record {
       address = a;
       value = v;
       loads = c.in-Load.is;
       place = refl;
-      wrong = λ owed.
-          false≢true (paid.1 (λ b w is.
-          lying_same_load (IsModelAnswer x.model s (j ++ e ∷ []) (length j)) a v b w (sym c.in-Load.is ∙ is) owed));
+      wrong = wrong;
       permitted =
           subst (λ k. PermitsOwed x.model (j ++ event e.processor k ∷ []) (length j) a c.in_ok-permitted.permitted) (sym c.in-Load.is)
           (c.in_ok-permitted.ensures x.model s j c.requires.judged.owed c.requires.within.processor
-          (subst (WellFormedKindInRange s) c.in-Load.is c.requires.within.kind) v);
+          (subst (WellFormedKindInRange s) c.in-Load.is c.requires.within.kind) v
+          (λ same. subst (λ k. RaceFree (j ++ event e.processor k ∷ [])) c.in-Load.is (free same)));
     }

@@ -1,4 +1,4 @@
-use Rattle.std.proofs.Common.{◌≢◌, ◌↔◌, ℕ, List, subst, sym}
+use Rattle.std.proofs.Common.{subst, sym}
 use Rattle.std.specs.Prelude.{Result, Ok, Err, OnOk}
 use Rattle.journal.specs.DidEvent.{did}
 use Rattle.judge.specs.Locksets.Held.{AreHeldLocks}

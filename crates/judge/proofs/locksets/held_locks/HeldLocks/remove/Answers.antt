@@ -1,4 +1,4 @@
-use Rattle.std.proofs.Common.{rules, ◌≡◌, ◌==◌, ℕ, List, filter, not, refl, subst, sym}
+use Rattle.std.proofs.Common.{rules, ◌≡◌, ◌==◌, ℕ, filter, not, refl, subst, sym}
 use Rattle.std.proofs.lemmas.Fn.{filter_same}
 use Rattle.base.specs.InOrderOnce.{Has}
 use Rattle.judge.proofs.locksets.SetsHeld.{sets_held_without}

@@ -1,6 +1,6 @@
 use Rattle.std.proofs.Common.{◌≡◌, ℕ, ◌<◌, All, Some, slice_get}
 use Rattle.std.specs.Global.{Vec}
-use Rattle.test_lrc.proofs.explanations.pictures.are_places.Given as goal
+use Rattle.test_explanations.proofs.explanations.pictures.are_places.Given as goal
 
 abbrev pub invariant-loop-row : goal.invariant-loop-row
 invariant-loop-row l =

@@ -4,7 +4,7 @@ use Rattle.journal.specs.declared.event.Event.{Event}
 use Rattle.journal.specs.declared.event.Kind.TheVariants.{Load}
 use Rattle.journal.specs.DidEvent.{event}
 use Rattle.journal.specs.EventsInRange.{EventAddressInRange, EventAddressesInRange, EventProcessorsInRange}
-use Rattle.test_lrc.proofs.explanations.answers.only_these.Goals as goal
+use Rattle.test_explanations.proofs.explanations.answers.only_these.Goals as goal
 
 -- the event at this place
 abbrev here : List Event → ℕ → Event

@@ -1,5 +1,5 @@
 use Rattle.std.proofs.Common.{◌≡◌}
-use Rattle.test_lrc.proofs.explanations.texts.journal_of.Given as goal
+use Rattle.test_explanations.proofs.explanations.texts.journal_of.Given as goal
 
 abbrev pub invariant-loop-processor : goal.invariant-loop-processor
 invariant-loop-processor l = record {
