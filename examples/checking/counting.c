@@ -55,7 +55,7 @@ static void *second(void *unused)
 
 int main(int argc, char **argv)
 {
-    pthread_t threads[2];
+    void *(*const bodies[])(void *) = {first, second};
 
     if (argc != 2 || (strcmp(argv[1], "right") && strcmp(argv[1], "forgot") && strcmp(argv[1], "stale"))) {
         fprintf(stderr, "usage: counting right|forgot|stale\n");
@@ -65,9 +65,6 @@ int main(int argc, char **argv)
     is_stale = !strcmp(argv[1], "stale");
     pthread_barrier_init(&barrier, NULL, 2);
     trace_begin(stdout, 2, 2, 1, 1);
-    pthread_create(&threads[0], NULL, first, NULL);
-    pthread_create(&threads[1], NULL, second, NULL);
-    pthread_join(threads[0], NULL);
-    pthread_join(threads[1], NULL);
+    trace_run(bodies, 2);
     return 0;
 }

@@ -3,6 +3,7 @@
  *
  *     trace_begin(file, 2, 8, 1, 1)  before the threads: 2 processors, 8 words, 1 lock, 1 flag
  *     trace_thread(0)                first in each thread: its processor's number
+ *     trace_run(bodies, 2)           a thread for each of these bodies, up to their ends
  *     LOAD(a, word)                  the value of the word with address a; STORE(a, word, value)
  *     LOCK(l, mutex)                 takes the mutex, which is lock l; UNLOCK(l, mutex)
  *     BARRIER(barrier)               the one barrier, of all processors
@@ -64,6 +65,16 @@ static inline void trace_begin(FILE *file, int processors, int words, int locks,
 static inline void trace_thread(int processor)
 {
     trace_self = processor;
+}
+
+static inline void trace_run(void *(*const bodies[])(void *), int processors)
+{
+    pthread_t threads[16];
+
+    for (int at = 0; at < processors; at++)
+        pthread_create(&threads[at], NULL, bodies[at], NULL);
+    for (int at = 0; at < processors; at++)
+        pthread_join(threads[at], NULL);
 }
 
 /* Prints an event's line, with its label. The guard is held. */

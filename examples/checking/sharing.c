@@ -80,7 +80,6 @@ static void *other(void *unused)
 int main(int argc, char **argv)
 {
     void *(*const bodies[])(void *) = {writer, one, other};
-    pthread_t threads[3];
 
     if (argc != 2 || (strcmp(argv[1], "right") && strcmp(argv[1], "forgot") && strcmp(argv[1], "apart"))) {
         fprintf(stderr, "usage: sharing right|forgot|apart\n");
@@ -90,9 +89,6 @@ int main(int argc, char **argv)
     is_apart = !strcmp(argv[1], "apart");
     trace_meet_begin(&meeting, 2, MEETING);
     trace_begin(stdout, 3, 4, 0, 4);
-    for (int at = 0; at < 3; at++)
-        pthread_create(&threads[at], NULL, bodies[at], NULL);
-    for (int at = 0; at < 3; at++)
-        pthread_join(threads[at], NULL);
+    trace_run(bodies, 3);
     return 0;
 }
