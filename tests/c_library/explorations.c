@@ -47,14 +47,19 @@ static void explorations(void)
     found = explored("a counter, up to its last state", counter, 4);
     count("nothing is open", found.hangs == CEVANDLE_NEVER_HANGS && found.states == 4 && found.are_all == 1);
     found = explored("a counter, up to the state before", counter, 3);
-    count("it is given up", found.hangs == CEVANDLE_HANGS_UNKNOWN && found.states == 4 && found.are_all == 0);
+    count("it is given up, and its text shows that it doesn't hang",
+          found.hangs == CEVANDLE_NEVER_HANGS && found.states == 4 && found.are_all == 0);
+    const char crossed[] = "cluster 2 1 1 2\np 0\nacquire 0\nacquire 1\nrelease 1\nrelease 0\n"
+                           "p 1\nacquire 1\nacquire 0\nrelease 0\nrelease 1\nshow 0\n";
+    found = explored("crossed locks that aren't looked for", crossed, 0);
+    count("whether it hangs is unknown", found.hangs == CEVANDLE_HANGS_UNKNOWN && found.are_all == 0);
     const char races[] = "cluster 2 1 2 0\np 0\nstore 1 5\np 1\nload 1\nshow 0\n";
     found = explored("a race", races, SIZE_MAX);
     count("its accesses", found.verdict == CEVANDLE_RACES && is_access(&found.race.first, 0, 0, CEVANDLE_STORE, 5)
                               && is_access(&found.race.second, 1, 1, CEVANDLE_LOAD, 5) && found.race.first.address == 1
                               && found.race.second.address == 1);
     found = explored("a race that isn't looked for", races, 0);
-    count("that is unknown", found.verdict == CEVANDLE_RACES_UNKNOWN && found.hangs == CEVANDLE_HANGS_UNKNOWN
+    count("that is unknown", found.verdict == CEVANDLE_RACES_UNKNOWN && found.hangs == CEVANDLE_NEVER_HANGS
                                  && found.states == 1 && found.outcomes == 0 && found.are_all == 0 && has_no_race(&found));
     found = explored("waits", "cluster 3 1 1 1 2\np 0\nacquire 0\nawait 1\np 1\nawait 1\nacquire 0\np 2\nset 0\nshow 0\n",
                      1000);
@@ -161,15 +166,15 @@ static void script_faults(void)
                                    && is_filled(&fault, sizeof fault));
 }
 
-/* Eight processors ask for one lock, four times each: the states take more than there is. */
+/* Eight processors ask for one lock, eight times each: the states take more than there is. */
 static void memory_refused(void)
 {
-    char script[2048] = "cluster 8 1 1 1\n", lines[64];
+    char script[4096] = "cluster 8 1 1 1\n", lines[64];
     for (int processor = 0; processor < 8; processor++) {
         sprintf(lines, "p %d\n", processor);
         strcat(script, lines);
         sprintf(lines, "acquire 0\nadd 0 %d\nrelease 0\n", 1 << 4 * (processor % 4));
-        for (int section = 0; section < 4; section++) {
+        for (int section = 0; section < 8; section++) {
             strcat(script, lines);
         }
     }

@@ -40,7 +40,7 @@ def told(text):
     kept, accesses = [], 0
     for line in text.splitlines():
         is_event = line.startswith("event ")
-        if line.startswith("  words ") or BY_RULES.fullmatch(line) or is_event and not accesses:
+        if line.startswith(("  words ", "  schedule ", "    event ")) or BY_RULES.fullmatch(line) or is_event and not accesses:
             continue
         accesses = 2 if line == "race" else accesses - is_event
         kept.append(UNTOLD.sub("", line))

@@ -4,7 +4,7 @@ Each order of the events is gone through, and at each load each value that it ma
 which no other store of its past follows, or 0 if its past has none. Beginnings in which each processor has done the same events, with the
 same past before each, and in which the locks and flags stand alike, go on alike, so one of them is followed.
 """
-from schedules import Event, Memory, is_edge
+from schedules import Event, Memory, answers_reached, is_edge
 
 
 class Beginning:
@@ -74,17 +74,7 @@ def after(script, events):
 
 def all_allowed(script, most):
     """What the loads of each processor answer, of each whole run; None if there are more than so many beginnings."""
-    start = Beginning(script)
-    found, pending, outcomes = {start.key()}, [start], set()
-    while pending:
-        beginning = pending.pop()
-        if beginning.memory.is_whole():
-            outcomes.add(tuple(map(tuple, beginning.memory.replies)))
-        for later in beginning.nexts():
-            key = later.key()
-            if key not in found:
-                found.add(key)
-                pending.append(later)
-        if len(found) > most:
-            return None
-    return outcomes
+    def answer(beginning):
+        return tuple(map(tuple, beginning.memory.replies)) if beginning.memory.is_whole() else None
+
+    return answers_reached(Beginning(script), Beginning.nexts, answer, most, Beginning.key)

@@ -4,6 +4,7 @@ import random
 import scripts
 import texts
 from allowed import all_allowed
+from memory import all_shown
 from schedules import Enumerated, Enumeration, Memory, enumerate_all, first_race
 
 MESSAGE = "cluster 2 1 2 0 1/p 0/store 0 5/set 0/p 1/await 0/load 0/show 0/"
@@ -83,6 +84,26 @@ ALLOWED = [
 ]
 
 
+# Racy scripts, and all that this memory shows of them.
+RACE = "cluster 2 1 1 0/p 0/store 0 1/p 1/store 0 2/show 0"
+SHOWN = [
+    # Processor 0 fetches behind the barrier, and so what it stored itself is written over, whoever closes first.
+    (RACE, ["words 0 2"]),
+    # Both stores lie in the fetched records, in the order in which they were closed.
+    ("cluster 3 1 1 0/p 0/p 1/store 0 1/p 2/store 0 2/show 0", ["words 0 1", "words 0 2"]),
+    # On one flat memory one of the loads could answer the other's store.
+    (BUFFERING, ["words 0 1 replies p0 0 p1 0"]),
+    (CHAIN, ["words 0 9 replies p2 0", "words 0 9 replies p2 9"]),
+]
+
+
+def is_shown_as_by_hand(row):
+    text, wanted = row
+    script = scripts.read(text.replace("/", "\n"))
+    results = texts.results_of(script, all_shown(script, 10000), "loads")
+    return sorted(texts.outcome_line(it).strip() for it in results) == sorted(wanted)
+
+
 def is_allowed_as_by_hand(row):
     text, wanted = row
     script = scripts.read(text.replace("/", "\n"))
@@ -107,7 +128,8 @@ def is_run_as_by_hand(row):
     script = scripts.read(BUFFERING.replace("/", "\n"))
     events = [*lines, *ENDS]
     replies = "p0 1 p1 0" if "event 2 0 load 1 1" in lines else "p0 0 p1 0"
-    front = ["verdict racy", *events[:4], "race", *events[1:3], "states 9", "until by the rules", f"  words 0 1 replies {replies}"]
+    race = ["verdict racy", *events[:4], "race", *events[1:3], f"  {texts.SOME}", "states 9"]
+    front = [*race, "until by the rules", f"  words 0 1 replies {replies}"]
 
     def is_let_through(told):
         text = "".join(line + "\n" for line in [*front, *told, "beginnings 9"])
@@ -222,8 +244,9 @@ def damages(script, found, detail):
         yield "a hang without events", [*lines[:-1], "hangs", lines[-1]]
         yield "a schedule cut short", without(race - 1)
         yield "events missing at its beginning", lines[:1] + lines[2:]
+        yield "a race without a schedule", without(race + 3)
         yield "one event for both", lines[:race + 1] + [lines[race + 2]] * 2 + lines[race + 3:]
-        yield from allowed_damages(lines, found)
+        yield from allowed_damages(script, lines, found, detail)
         return
     yield "racy", ["verdict racy", *lines[2:]]
     yield "given up", ["verdict undecided", *lines[1:]]
@@ -234,6 +257,7 @@ def damages(script, found, detail):
             yield f"told by {other}", told
     if count:
         yield "an outcome left out", [lines[0], f"outcomes {count - 1}", *lines[3:]]
+        yield "an outcome without a schedule", [*lines[:2], lines[2].removesuffix(f" {texts.SOME}"), *lines[3:]]
         yield "an outcome twice", [lines[0], f"outcomes {count + 1}", lines[2], *lines[2:]]
         yield "another word", [*lines[:2], lines[2].replace("words ", "words 1", 1), *lines[3:]]
     if count > 1:
@@ -245,21 +269,32 @@ def damages(script, found, detail):
         place = lines.index("hangs")
         yield "no hang", lines[:place] + ["hangs never", lines[-1]]
         yield "hangs given up", lines[:place] + ["hangs undecided", lines[-1]]
-        yield "a hang that can go on", without(len(lines) - 2 - len([it for it in lines if it.startswith("processor ")]))
-        yield "a wait left out", without(len(lines) - 2)
+        yield "a hang that can go on", without(len(lines) - 3 - len([it for it in lines if it.startswith("processor ")]))
+        yield "a wait left out", without(len(lines) - 3)
+        yield "a hang without a schedule", without(len(lines) - 2)
 
 
-def allowed_damages(lines, found):
+def allowed_damages(script, lines, found, detail):
     """The text of a racy script, damaged where it tells what the rules allow."""
     place = next(it for it, line in enumerate(lines) if line.endswith(" by the rules") or line.endswith(" so far"))
     front, told, last = lines[:place], lines[place + 1:-1], lines[-1]
+    starts = [it for it, line in enumerate(told) if line.startswith("  words")]
+    first, rest = told[:(*starts, len(told))[1]] if starts else [], told[(*starts, len(told))[1]:] if starts else []
     yield "the rules not told", front
     yield "no beginnings", front + [lines[place], *told]
     if found.allowed:
         yield "allowed so far", [*front, lines[place] + " so far", *told, last]
-        yield "an allowed outcome left out", [*front, f"outcomes {len(told) - 1} by the rules", *told[1:], last]
-        yield "an allowed outcome twice", [*front, f"outcomes {len(told) + 1} by the rules", told[0], *told, last]
-        yield "another allowed word", [*front, lines[place], told[0].replace("words ", "words 1", 1), *told[1:], last]
+        yield "an allowed outcome left out", [*front, f"outcomes {len(starts) - 1} by the rules", *rest, last]
+        yield "an allowed outcome twice", [*front, f"outcomes {len(starts) + 1} by the rules", *first, *told, last]
+        yield "another allowed word", [*front, lines[place], first[0].replace("words ", "words 1", 1), *first[1:], *rest, last]
+    if found.allowed and texts.shown_results(script, found, detail) is not None:
+        is_shown = first[0].endswith(texts.SOME)
+        other = first[0].removesuffix(texts.SOME if is_shown else "by the rules alone")
+        answers = [] if is_shown else first[1:]
+        yield "shown, or not", [*front, lines[place], other + ("by the rules alone" if is_shown else texts.SOME), *rest, last]
+        yield "undecided", [*front, lines[place], other + "schedule undecided", *rest, last]
+        if answers:
+            yield "another answer", [*front, lines[place], first[0], answers[0] + "1", *answers[1:], *rest, last]
 
 
 def is_refused(script, found, lines, detail):
@@ -276,6 +311,7 @@ def is_judged(seed):
     script = scripts.draw(seed)
     found = enumerate_all(script)
     found.allowed = all_allowed(script, 500)
+    found.shown = all_shown(script, 1000)
     for detail in texts.DETAILS:
         try:
             texts.judge(script, found, texts.write(script, found, detail), detail)
@@ -294,6 +330,8 @@ def trials():
         yield f"{detail} by hand", is_told_as_by_hand(detail)
     for row in ALLOWED:
         yield f"allowed by hand: {row[0]}", is_allowed_as_by_hand(row)
+    for row in SHOWN:
+        yield f"shown by hand: {row[0]}", is_shown_as_by_hand(row)
     for row in RUNS:
         yield f"a run by the rules: {row}", is_run_as_by_hand(row)
     for word in (0, 1, 2):

@@ -146,6 +146,7 @@ class Enumerated:
     hang: list = None  # events after which nothing can come; None where no schedule hangs
     outcomes: set = field(default_factory=set)  # of each whole run its processors' replies
     allowed: set = None  # the same of each run that the rules allow (allowed.py); None where that isn't known
+    shown: set = None  # the same of each run on this memory (memory.py); None where that isn't known
     states: int = 0
 
 
@@ -206,6 +207,22 @@ def conflicting(script, processor, address, stores):
     others = [other for other in range(script.processors) if other != processor]
     bits = sum(bit(script, other, address, True) for other in others)
     return bits + (sum(bit(script, other, address, False) for other in others) if stores else 0)
+
+
+def answers_reached(start, nexts_of, answer_of, most, key_of=lambda it: it):
+    """What those answer that can be reached from the start and are whole (the others answer None); None if more than so many can be."""
+    found, pending, answers = {key_of(start)}, [start], set()
+    while pending:
+        here = pending.pop()
+        answers.add(answer_of(here))
+        for later in nexts_of(here):
+            key = key_of(later)
+            if key not in found:
+                found.add(key)
+                pending.append(later)
+        if len(found) > most:
+            return None
+    return answers - {None}
 
 
 def put(items, place, item):

@@ -23,6 +23,11 @@ class Script:
     def addresses(self):
         return self.pages * self.words
 
+    @property
+    def cuts(self):
+        """Whether some section cuts."""
+        return any(("cut",) in section for section in self.sections)
+
     def text(self):
         sizes = [self.processors, self.pages, self.words, self.locks] + ([self.flags] if self.flags else [])
         lines = ["cluster " + " ".join(map(str, sizes))]
@@ -67,6 +72,34 @@ def locks_are_lawful(section):
             if numbers[0] not in held:
                 return False
             held.remove(numbers[0])
+    return True
+
+
+def locks_asked_within(section):
+    """Each lock that is asked for with each that is held then; None where one is held at a wait for others, or at the end."""
+    held, pairs = set(), set()
+    for name, *numbers in [*section, ("barrier",)]:
+        if name == "acquire":
+            pairs |= {(outer, numbers[0]) for outer in held}
+            held.add(numbers[0])
+        elif name == "release":
+            held.remove(numbers[0])
+        elif name in ("barrier", "await") and held:
+            return None
+    return pairs
+
+
+def are_locks_ranked(script):
+    """Whether locks are asked for in some order within each other, and none is held at a wait for others."""
+    of_sections = [locks_asked_within(section) for section in script.sections]
+    if None in of_sections:
+        return False
+    pairs = set().union(*of_sections)
+    while pairs:
+        lowest = {inner for _, inner in pairs} - {outer for outer, _ in pairs}
+        if not lowest:
+            return False
+        pairs = {(outer, inner) for outer, inner in pairs if inner not in lowest}
     return True
 
 

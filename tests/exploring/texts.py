@@ -8,6 +8,15 @@ from schedules import Event, Memory, first_race
 NUMBERS = {"load": 2, "store": 2, "ask": 1, "acquire": 1, "release": 1, "arrive": 0, "depart": 0,
            "set": 1, "watch": 1, "await": 1}
 
+# Processors that have turns, each with how many in a row; `-` for none.
+TURNS = "(?:0|[1-9][0-9]*)(?::[1-9][0-9]*)?"
+SCHEDULE = f"-|{TURNS}(?:,{TURNS})*"
+# What a text by the enumeration has in the place of a schedule.
+SOME = "schedule -"
+# What a load answers, and the store.
+LOAD = "event ([0-9]+) ([0-9]+) load ([0-9]+) ([0-9]+)"
+STORE = LOAD.replace("load", "store")
+
 
 class Wrong(Exception):
     """What is wrong with a text."""
@@ -18,14 +27,18 @@ class Answer:
     """What a text says."""
     verdict: str  # "race-free", "racy", "undecided"
     outcomes: list = None  # (words, replies) of each, as `shown_of` has them
+    schedules: list = None  # that of each outcome
     are_all: bool = False  # there are no other outcomes
     never_hangs: bool = False
     hang: list = None  # events
     waits: list = None  # lines
+    hang_schedule: str = None
     race: list = None  # events
     racing: list = None  # the two lines
+    race_schedule: str = None
     allowed: list = None  # (words, replies) of each outcome by the rules
     allowed_all: bool = False  # the rules allow no others
+    allowed_schedules: list = None  # that of each; "undecided", or None for one by the rules alone
 
 
 class Lines:
@@ -65,11 +78,14 @@ def read(text, by_rules=True):
         answer.race = read_events(lines)
         lines.next("race")
         answer.racing = [lines.next("event .*")[0], lines.next("event .*")[0]]
+        answer.race_schedule = read_schedule(lines)
         read_hang(lines, answer, r"hangs" if lines.lines[:1] == ["hangs"] else None)
     else:
         count = lines.next(r"outcomes (0|[1-9][0-9]*)( so far)?")
         answer.are_all = count[2] is None
-        answer.outcomes = [read_outcome(lines.next("  (words .*)")[1]) for _ in range(int(count[1]))]
+        read = [lines.next(f"  (words .*) schedule ({SCHEDULE})") for _ in range(int(count[1]))]
+        answer.outcomes = [read_outcome(line[1]) for line in read]
+        answer.schedules = [line[2] for line in read]
         read_hang(lines, answer, "hangs never|hangs undecided|hangs")
     lines.next(r"states [1-9][0-9]*")
     if answer.verdict == "racy" and by_rules:
@@ -82,16 +98,36 @@ def read_allowed(lines, answer):
     """What the rules allow."""
     count = lines.next(r"outcomes (0|[1-9][0-9]*) by the rules( so far)?")
     answer.allowed_all = count[2] is None
-    answer.allowed = [read_outcome(lines.next("  (words .*)")[1]) for _ in range(int(count[1]))]
+    answer.allowed, answer.allowed_schedules = [], []
+    for _ in range(int(count[1])):
+        line = lines.next(f"  (words .*?)(?: by the rules alone| schedule ({SCHEDULE}|undecided))")
+        answer.allowed.append(read_outcome(line[1]))
+        answer.allowed_schedules.append(line[2])
+        if line[2] is None:
+            read_answers(lines, answer.allowed[-1])
     lines.next(r"beginnings [1-9][0-9]*")
+
+
+def read_answers(lines, outcome):
+    """What the loads of a run by the rules alone answer. The words that the outcome shows have to be those of the last loads."""
+    words = []
+    while lines.lines[:1] and lines.lines[0].startswith("    "):
+        parts = lines.next(f"    {LOAD} answers (?:{STORE}|no store)")
+        _, _, address, value, store, _, stored_at, stored = parts.groups()
+        if (address, value) != (stored_at, stored) if store else value != "0":
+            raise Wrong(f"{parts[0]!r} answers something else")
+        words.append((int(address), int(value)))
+    if tuple(words[len(words) - len(outcome[0]):]) != outcome[0]:
+        raise Wrong(f"the loads {words} where {outcome} is shown")
 
 
 @dataclass
 class Until:
     """What the rules say of a run that ends with some words."""
-    answer: str  # "shown", "never", "undecided"
+    answer: str  # "shown", "alone", "by the rules", "never", "undecided"
     outcome: tuple = None  # (words, replies) of the run
-    events: list = None  # its events
+    events: list = None  # its events, unless this memory shows it
+    schedule: str = None  # if it does
 
 
 def read_until_by_rules(text):
@@ -99,10 +135,16 @@ def read_until_by_rules(text):
     front, states, rest = text.partition("\nstates ")
     number, _, behind = rest.partition("\n")
     lines = Lines(behind)
-    until = Until(lines.next("until (?:(never|undecided) )?by the rules")[1] or "shown")
-    if until.answer == "shown":
+    first = lines.next("until (?:(shown)|(never|undecided) by the rules|by the rules( alone)?)")
+    until = Until(first[1] or first[2] or (first[3] or "by the rules").strip())
+    if until.answer in ("shown", "alone", "by the rules"):
         until.outcome = read_outcome(lines.next("  (words .*)")[1])
+    if until.answer == "shown":
+        until.schedule = read_schedule(lines)
+    if until.answer in ("alone", "by the rules"):
         until.events = read_events(lines)
+    if until.answer == "alone":
+        read_answers(lines, until.outcome)
     lines.next(r"beginnings (0|[1-9][0-9]*)")
     lines.end()
     return read(front + states + number + "\n", by_rules=False), until
@@ -118,6 +160,11 @@ def read_hang(lines, answer, pattern):
     if line == "hangs":
         answer.hang = read_events(lines)
         answer.waits = lines.while_begins("processor ")
+        answer.hang_schedule = read_schedule(lines)
+
+
+def read_schedule(lines):
+    return lines.next(f"  schedule ({SCHEDULE})")[1]
 
 
 def read_events(lines):
@@ -204,23 +251,43 @@ def write(script, found, detail):
     if found.race is not None:
         places = first_race(found.race)
         ends = ["race"] + [found.race[place].line(place) for place in places]
-        lines = ["verdict racy", *event_lines(found.race), *ends, f"states {found.states}", *allowed_lines(script, found, detail)]
+        front = ["verdict racy", *event_lines(found.race), *ends, f"  {SOME}", f"states {found.states}"]
+        lines = [*front, *allowed_lines(script, found, detail)]
     else:
         results = results_of(script, found.outcomes, detail)
-        lines = ["verdict race-free under every schedule", f"outcomes {len(results)}", *map(outcome_line, results)]
+        outcomes = [f"{outcome_line(result)} {SOME}" for result in results]
+        lines = ["verdict race-free under every schedule", f"outcomes {len(results)}", *outcomes]
         if found.hang is None:
             lines.append("hangs never")
         else:
-            lines += ["hangs", *event_lines(found.hang), *wait_lines(ran(script, found.hang))]
+            lines += ["hangs", *event_lines(found.hang), *wait_lines(ran(script, found.hang)), f"  {SOME}"]
         lines.append(f"states {found.states}")
     return "".join(line + "\n" for line in lines)
+
+
+def shown_results(script, found, detail):
+    """The results that this memory shows; None if no schedules are looked for: a script that cuts has no whole journal, so its words alone are told."""
+    if found.shown is None or script.cuts and detail != "words":
+        return None
+    return results_of(script, found.shown, detail)
 
 
 def allowed_lines(script, found, detail):
     """The lines of what the rules allow; none of them if there are too many beginnings."""
     results = results_of(script, found.allowed or [], detail)
     count = f"outcomes {len(results)} by the rules" + " so far" * (found.allowed is None)
-    return [count, *map(outcome_line, results), "beginnings 1"]
+    shown = shown_results(script, found, detail)
+    return [count, *(line for it in results for line in allowed_outcome_lines(it, shown)), "beginnings 1"]
+
+
+def allowed_outcome_lines(outcome, shown):
+    """The lines of an outcome by the rules where this memory shows these; where that isn't known they are None. What loads answer is told of the
+    last ones."""
+    if shown is None or outcome in shown:
+        return [f"{outcome_line(outcome)} {'schedule undecided' if shown is None else SOME}"]
+    return [f"{outcome_line(outcome)} by the rules alone",
+            *(f"    event 9 0 load {address} {word} answers {f'event 0 0 store {address} {word}' if word else 'no store'}"
+              for address, word in outcome[0])]
 
 
 def event_lines(events):
@@ -262,6 +329,11 @@ def judge_allowed(script, found, answer, detail):
     """What the rules allow has to be what the enumeration by them finds, unless that has too many beginnings."""
     if found.allowed is not None:
         expect_all(answer.allowed, answer.allowed_all, results_of(script, found.allowed, detail))
+    shown = shown_results(script, found, detail)
+    if shown is not None:
+        for outcome, schedule in zip(answer.allowed, answer.allowed_schedules):
+            if (schedule is not None) != (outcome in shown) or schedule == "undecided":
+                raise Wrong(f"schedule {schedule} of {outcome} where this memory shows {shown}")
 
 
 def ends_with(words, asked):
@@ -270,16 +342,21 @@ def ends_with(words, asked):
 
 
 def judge_until_by_rules(script, found, until, asked):
-    """A run has to be one that the rules allow, with what it shows, and end with what is asked for; and none may be missed."""
-    if until.answer == "shown":
+    """A run has to be one that the rules allow, with what it shows, and end with what is asked for; and none may be missed. Whether this memory
+    shows one has to be as the enumeration of its schedules says, where all replies are told."""
+    if until.outcome is not None and not ends_with(until.outcome[0], asked):
+        raise Wrong(f"{until.outcome} where {asked} is asked for")
+    if until.outcome is not None and shown_results(script, found, "all") is not None:
+        is_shown = any(ends_with(shown_of(script, replies)[0], asked) for replies in found.shown)
+        if until.answer != ("shown" if is_shown else "alone"):
+            raise Wrong(f"{until.answer} where this memory {'shows' if is_shown else 'does not show'} {asked}")
+    if until.events is not None:
         run = after(script, until.events)
         if run is None or not run.memory.is_whole():
             raise Wrong(f"{event_lines(until.events)} is no run that the rules allow")
         if shown_of(script, tuple(map(tuple, run.memory.replies))) != until.outcome:
             raise Wrong(f"{until.outcome} isn't what the run shows")
-        if not ends_with(until.outcome[0], asked):
-            raise Wrong(f"{until.outcome} where {asked} is asked for")
-    elif found.allowed is not None:
+    elif until.outcome is None and found.allowed is not None:
         if until.answer == "undecided":
             raise Wrong("undecided by the rules")
         if any(ends_with(shown_of(script, replies)[0], asked) for replies in found.allowed):

@@ -63,28 +63,39 @@ def explore_text(objects):
     by = {name: [it for it in others if it["told"] == name] for name in ("race", "outcome", "hang", "allowed", "rules")}
     expect(end["told"] == "end" and sum(map(len, by.values())) == len(others), f"that is the end: {end}")
     hangs = [line for hang in by["hang"]
-             for line in ["hangs", *map(line_of, hang["events"]), *map(wait_line, hang["waits"])]]
+             for line in ["hangs", *map(line_of, hang["events"]), *map(wait_line, hang["waits"]), f"  schedule {hang['schedule']}"]]
     if end["verdict"] == "racy":
         [race] = by["race"]
         yield from ["verdict racy", *map(line_of, race["events"]), "race",
-                    *(line_of(race["events"][race[name]]) for name in ("first", "second")), *hangs]
+                    *(line_of(race["events"][race[name]]) for name in ("first", "second")), f"  schedule {race['schedule']}", *hangs]
         yield f"states {end['states']}"
         yield from allowed_text(by["allowed"], *by["rules"])
     else:
         expect(end["outcomes"] == len(by["outcome"]), f"each outcome is told: {end}")
         yield NO_VERDICTS[end["verdict"]]
         yield f"outcomes {end['outcomes']}" + " so far" * (not end["all"])
-        yield from ("  " + results_of(it) for it in by["outcome"])
+        yield from (f"  {results_of(it)} schedule {it['schedule']}" for it in by["outcome"])
         expect((end["hangs"] == "hangs") == bool(hangs), f"the hang is told: {end}")
         yield from hangs or [f"hangs {end['hangs']}"]
         yield f"states {end['states']}"
+
+
+def allowed_lines(outcome):
+    """The lines of an outcome that the rules allow."""
+    alone = outcome.get("alone", False)
+    expect(("answers" in outcome) == alone and not (alone and "schedule" in outcome), f"a schedule, or answers: {outcome}")
+    end = "by the rules alone" if alone else f"schedule {outcome.get('schedule', 'undecided')}"
+    yield f"  {results_of(outcome)} {end}"
+    for it in outcome.get("answers", []):
+        yield f"    {line_of(it['load'])} answers {line_of(it['store']) if 'store' in it else 'no store'}"
 
 
 def allowed_text(allowed, rules):
     """What the rules allow of a racy script, as `explore` prints it."""
     expect(rules["outcomes"] == len(allowed), f"each allowed outcome is told: {rules}")
     yield f"outcomes {rules['outcomes']} by the rules" + " so far" * (not rules["all"])
-    yield from ("  " + results_of(it) for it in allowed)
+    for it in allowed:
+        yield from allowed_lines(it)
     yield f"beginnings {rules['beginnings']}"
 
 
@@ -101,21 +112,25 @@ def why(lie):
 
 
 def word_line(word):
-    """The line of a word of which somebody forgot the lock."""
+    """The line of a word that needs a lock and has none: at times, or never."""
     def made(event):
         return f"event {event['place']} by p{event['processor']}"
 
-    one, other = word["guarded"]
-    expect({event_of(it).numbers[0] for it in (word["first"], word["second"], one, other)} == {word["address"]},
+    guarded = word.get("guarded", [])
+    expect({event_of(it).numbers[0] for it in (word["first"], word["second"], *guarded)} == {word["address"]},
            f"all are accesses of the word: {word}")
-    return (f"unprotected {word['address']}: {made(word['first'])} and {made(word['second'])} hold no lock in common; "
-            f"events {one['place']} and {other['place']} hold lock {word['lock']}")
+    bare = f"{word['address']}: {made(word['first'])} and {made(word['second'])} hold no lock in common"
+    if word["told"] == "handed":
+        expect("guarded" not in word and "lock" not in word, f"no accesses of the word hold a lock: {word}")
+        return f"handed over {bare}"
+    one, other = guarded
+    return f"unprotected {bare}; events {one['place']} and {other['place']} hold lock {word['lock']}"
 
 
 def check_text(objects):
     """The text of `check`, but for the sentences on a race."""
     *others, end = objects
-    words = [it for it in others if it["told"] == "unprotected"]
+    words = [it for it in others if it["told"] in ("unprotected", "handed")]
     others = [it for it in others if it not in words]
     by = {it["told"]: it for it in others}
     expect(end["told"] == "end" and list(by) == [it for it in ("race", "lie") if it in by] and len(by) == len(others),

@@ -1,7 +1,8 @@
-"""Words of which somebody forgot the lock, by the definition: of a trace each pair of accesses is looked at.
+"""Words that need a lock and have none, by the definition: of a trace each pair of accesses is looked at.
 
 Two accesses of a word need a lock if they race in the trace in which locks order nothing, and two processors have stored
-to the word up to the first of them. The word is told if some such accesses hold a lock in common, and others don't.
+to the word up to the first of them. The word is told if some such accesses hold no lock in common: as one of which somebody
+forgot the lock if others do, else as one that is handed over, which is told by `--locksets all` alone.
 """
 import re
 from collections import defaultdict
@@ -13,8 +14,11 @@ from table import Table, places_of
 
 LOCKING = ("ask", "acquire", "release")
 LABEL = r"(?: \([^()]*\))?"
-LINE = re.compile(rf"unprotected (\d+): event (\d+){LABEL} by p(\d+) and event (\d+){LABEL} by p(\d+) hold no lock in common; "
-                  rf"events (\d+){LABEL} and (\d+){LABEL} hold lock (\d+)")
+FORGOTTEN, ALL = "forgotten", "all"
+NAMES = ("unprotected ", "handed over ")
+BARE = rf"(\d+): event (\d+){LABEL} by p(\d+) and event (\d+){LABEL} by p(\d+) hold no lock in common"
+LINE = re.compile(rf"unprotected {BARE}; events (\d+){LABEL} and (\d+){LABEL} hold lock (\d+)")
+HANDED = re.compile(rf"handed over {BARE}")
 
 
 def without_locks(events):
@@ -55,32 +59,36 @@ class Pairs:
         else:
             self.unguarded[address].add((earlier, later))
 
-    def words(self):
-        """The words of which somebody forgot the lock."""
-        return sorted(set(self.guarded) & set(self.unguarded))
+    def words(self, which):
+        """The words of which somebody forgot the lock; or all that need one and have none at times."""
+        return sorted(set(self.guarded) & set(self.unguarded) if which == FORGOTTEN else set(self.unguarded))
 
 
 def check_line(events, pairs, line):
-    """That a line tells two accesses of each sort, and a lock; the word."""
-    told = LINE.fullmatch(line)
+    """That a line tells two accesses that hold no lock, and two that do, with it, if there are such; the word."""
+    told = LINE.fullmatch(line) or HANDED.fullmatch(line)
     expect(told, f"that tells a word: {line}")
-    address, first, maker, second, other, one, two, lock = map(int, told.groups())
+    address, first, maker, second, other, *guard = map(int, told.groups())
     expect((first, second) in pairs.unguarded[address], f"these need a lock and hold none in common: {line}")
     expect((events[first].processor, events[second].processor) == (maker, other), f"their processors made them: {line}")
-    expect(lock in pairs.guarded[address].get((one, two), ()), f"those need the lock and hold it: {line}")
+    if guard:
+        one, two, lock = guard
+        expect(lock in pairs.guarded[address].get((one, two), ()), f"those need the lock and hold it: {line}")
+    else:
+        expect(address not in pairs.guarded, f"no two of its accesses hold a lock in common: {line}")
     return address
 
 
-def check_answer(events, plain, answer):
+def check_answer(events, plain, which, answer):
     """That an answer with --locksets is the one without, and of a trace without a race the lines on words besides; the words."""
-    lines = [it for it in answer.output.splitlines() if it.startswith("unprotected ")]
+    lines = [it for it in answer.output.splitlines() if it.startswith(NAMES)]
     rest = "".join(f"{it}\n" for it in answer.output.splitlines() if it not in lines)
     expect((answer.status, rest, answer.errors) == plain, f"but for its words it is {plain}where it is {answer}")
     if "verdict race-free" not in plain.output:
         return expect(not lines, f"no word is told of such a trace: {answer}")
     pairs = Pairs(events)
     told = [check_line(events, pairs, line) for line in lines]
-    expect(told == pairs.words(), f"of the words {pairs.words()} somebody forgot the lock: {answer}")
+    expect(told == pairs.words(which), f"the words {pairs.words(which)} need a lock and have none: {answer}")
     return told
 
 
@@ -100,20 +108,24 @@ def passes(before, lock, processors):
     return [Event(it, kind, (lock,)) for it in free for kind in LOCKING]
 
 
-def forgetful(draws, events, lock=None, processors=0):
-    """The trace without the lock's events of one section; None where it has no section. With another lock, which nobody
-    holds, the processors pass that before what was the section and behind it: so they are ordered by accident."""
+def forgetful(draws, events, lock=None, processors=0, always=False):
+    """The trace without the lock's events of one section, or of all sections of its lock; None where it has no section. With
+    another lock, which nobody holds, the processors pass that before what was the section and behind it: so they are ordered
+    by accident."""
     found = list(sections(events))
     if not found:
         return None
-    ask, grant, release = draws.choice(found)
-    own, others = events[ask].processor, [it for it in range(processors) if it != events[ask].processor]
+    drawn = draws.choice(found)
+    chosen = [it for it in found if always and events[it[0]].numbers == events[drawn[0]].numbers] or [drawn]
+    dropped = {place for section in chosen for place in section}
+    grants, releases = ({it[part] for it in chosen} for part in (1, 2))
     trace = []
     for place, event in enumerate(events):
-        if lock is not None and place == grant:
-            trace += passes(trace, lock, [*others, own])
-        elif lock is not None and place == release:
-            trace += passes(trace, lock, [own, *others])
-        if place not in (ask, grant, release):
+        others = [it for it in range(processors) if it != event.processor]
+        if lock is not None and place in grants:
+            trace += passes(trace, lock, [*others, event.processor])
+        elif lock is not None and place in releases:
+            trace += passes(trace, lock, [event.processor, *others])
+        if place not in dropped:
             trace.append(event)
     return tuple(trace)

@@ -53,7 +53,7 @@ class Case:
 
     def check(self, events, rules):
         text = verdicts.text_of(self.script, events)
-        objects, printed = self.both(text, "check", "--locksets", *rules.words())
+        objects, printed = self.both(text, "check", "--locksets", "all", *rules.words())
         bare = "".join(line + "\n" for line in printed.splitlines() if not line.startswith(INDENT))
         json_lines.expect_same(json_lines.check_text(objects), bare)
         expect(objects[-1]["lax"] == rules.is_lax and objects[-1]["model"] == rules.model, f"{rules}: {objects[-1]}")
@@ -76,7 +76,7 @@ class Case:
         for number, trace in enumerate((events, ways.falsified(draws, self.script, events, places, falsify))):
             model = verdicts.MODELS[(self.number + number) % 4]
             rules = verdicts.Rules(model, self.number % 3 == 1, self.number % 5 == 0)
-            if trace is not None and verdicts.find(self.script, trace, rules).kind != "no trace":
+            if trace is not None and verdicts.find(self.script, trace, rules, reads_all=True).kind != "no trace":
                 self.found.trial(f"{self.name}, {name}, JSON", verdicts.text_of(self.script, trace), self.check, trace, rules)
 
 

@@ -20,6 +20,8 @@ SCHEDULES = 3
 # Pages, and words of a page: as many addresses as a trace has at most. Locks, and flags: as many as it has at most.
 WIDE, MANY = 1 << 10, 1 << 16
 FLAGGING = ("set", "watch", "await")
+# How many processors a trace of many has: from the first of these up to the second.
+PROCESSORS = 17, 25
 # What a journal is called that isn't falsified, and one with other replies all along.
 AS_IT_IS, FLAT = "journals", "all replies of one flat memory"
 
@@ -92,6 +94,21 @@ def widened(script, events):
     return replace(many, pages=WIDE, words=WIDE), tuple(map(moved, trace))
 
 
+def with_processors(draws, script, events):
+    """The script with more processors than a cluster has, and its trace with these moved apart: the others arrive and depart
+    beside processor 0."""
+    count = draws.randrange(*PROCESSORS)
+    names = draws.sample(range(count), script.processors)
+    idle = [it for it in range(count) if it not in names]
+    names += [count] * count
+    trace = []
+    for event in events:
+        trace.append(replace(event, processor=names[event.processor]))
+        if event.kind in ("arrive", "depart") and event.processor == 0:
+            trace += [replace(event, processor=it) for it in idle]
+    return replace(script, processors=count), tuple(trace)
+
+
 class Case:
     """A script whose journals are judged."""
 
@@ -122,10 +139,23 @@ class Case:
         check_verdict(verdicts.answer_to(verdict, rules), answer)
         self.found.seen["wide", verdict.kind] += 1
 
+    def try_many(self, events, draws):
+        """Compares what the program says of the trace with its processors moved apart, under the models that look at earlier
+        stores. Of so many a race has no sentences."""
+        script, moved = with_processors(draws, self.script, events)
+        for rules in (verdicts.Rules(verdicts.HAPPENS_BEFORE), verdicts.Rules(verdicts.LAZY_RELEASE)):
+            found = verdicts.find(script, moved, rules)
+            verdict = found._replace(lines=tuple(it for it in found.lines if not it.startswith(verdicts.INDENT)))
+            answer = self.program.call(verdicts.text_of(script, moved), "check", *rules.words())
+            check_verdict(verdicts.answer_to(verdict, rules), answer)
+            self.found.seen["many", rules.model, verdict.kind] += 1
+
     def try_told(self, events, rules):
-        """Compares what `explain --trace` says of a trace with what `check` does."""
+        """Compares what `explain --trace`, which reads all first, says of a trace with what `check` does."""
         text = verdicts.text_of(self.script, events)
-        answer = self.program.call(text, "check", *rules.words())
+        whole = verdicts.find(self.script, events, rules, reads_all=True)
+        is_read = whole.kind != "no trace"
+        answer = self.program.call(text, "check", *rules.words()) if is_read else verdicts.answer_to(whole, rules)
         check_told(answer, self.program.call(text, "explain", "--trace", *rules.words()))
         self.found.seen["told", {0: "faithful", 2: "no trace", 6: "a lie"}[answer.status]] += 1
 
@@ -138,20 +168,29 @@ class Case:
         expect(events_of(trace) == events_of(run), f"the events are told as {run}where they are as {trace}")
 
     def try_locksets(self, sort, text, events):
-        """With --locksets the words are told of which somebody forgot the lock, and without it the same is printed but them."""
-        plain, answer = (self.program.call(text, "check", "--lax", *words) for words in ((), ("--locksets",)))
-        check = partial(locksets.check_answer, events, plain)
+        """With --locksets the words are told that need a lock and have none, and without it the same is printed but them."""
+        plain = self.program.call(text, "check", "--lax")
+        self.try_words(sort, text, events, plain, locksets.FORGOTTEN)
+        self.try_words(f"{sort}, all words", text, events, plain, locksets.ALL)
+
+    def try_words(self, sort, text, events, plain, which):
+        """The words of this sort alone are told."""
+        answer = self.program.call(text, "check", "--lax", "--locksets", which)
+        check = partial(locksets.check_answer, events, plain, which)
         told = check(answer)
         self.found.seen["locksets", sort, "no race-free trace" if told is None else "told" if told else "nothing told"] += 1
+        self.found.seen["locksets", sort, "handed over"] += "\nhanded over " in answer.output
         if self.is_turning and told:
-            self.found.turn("locksets", turns.LOCKSETS, answer, check)
+            self.found.turn("locksets", turns.LOCKSETS if which == locksets.FORGOTTEN else turns.HANDED, answer, check)
 
     def sweep_locksets(self, name, events, draws):
         """The words of a journal, and of what is left where one section forgets its lock."""
         script, spare = self.script, self.script.locks
         traces = [("journals", script, events), ("a lock forgotten", script, locksets.forgetful(draws, events)),
                   ("and ordered by accident", replace(script, locks=spare + 1),
-                   locksets.forgetful(draws, events, spare, script.processors))]
+                   locksets.forgetful(draws, events, spare, script.processors)),
+                  ("a lock never taken", replace(script, locks=spare + 1),
+                   locksets.forgetful(draws, events, spare, script.processors, always=True))]
         traces += [(f"{sort}, of many", *with_many(sizes, trace)) for sort, sizes, trace in traces if trace is not None]
         for sort, sizes, trace in traces:
             if trace is not None:
@@ -171,6 +210,9 @@ class Case:
         if not rules.ends_at_race:
             self.found.trial(f"{name}, {way}, told", shown, self.try_told, events, rules)
         self.found.trial(f"{name}, {way}, wide", shown, self.try_wide, events, rules)
+        if self.number % 3 == 0:
+            draws = random.Random(f"{name}, {way}, many")
+            self.found.trial(f"{name}, {way}, of many processors", shown, self.try_many, events, draws)
 
     def faithful(self, call, *arguments):
         """The report of a run, whose journal is faithful, and has the report's verdict and traffic."""

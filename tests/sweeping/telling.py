@@ -27,7 +27,7 @@ WANTED = {
     FLAT: ("unexplained",),
 }
 TURNS = {"texts": turns.TEXTS, "reports": turns.REPORTS, "cut reports": turns.REPORTS, "states": turns.STATES,
-         "notes": turns.NOTES, "traces": turns.TRACES, "locksets": turns.LOCKSETS}
+         "notes": turns.NOTES, "traces": turns.TRACES, "locksets": (*turns.LOCKSETS, *turns.HANDED)}
 STATES = ("runs", "events", "in parts", "records", "notices", "stale", "dirty")
 # Of JSON what has to be told.
 JSON = (("result", ("race-free", "racy")), ("search", ("race-free", "racy", "undecided")),
@@ -35,10 +35,15 @@ JSON = (("result", ("race-free", "racy")), ("search", ("race-free", "racy", "und
 TOLD = ("faithful", "no trace", "a lie")
 # Of traces with as many addresses as there may be.
 WIDE = ("faithful", "ill formed", "unexplained", "miscounted", "racy")
+# Of traces of more than 16 processors, under these models.
+MANY = {verdicts.HAPPENS_BEFORE: ("faithful", "ill formed", "unexplained"),
+        verdicts.LAZY_RELEASE: ("faithful", "ill formed", "unexplained", "miscounted")}
 # Of --locksets, of a journal and of one of which a section forgets its lock; and with as many locks as there may be.
 LOCKSETS = [("journals", "nothing told"), ("journals", "no race-free trace"), *(
     (sort, what) for sort in ("a lock forgotten", "and ordered by accident", "and ordered by accident, of many")
-    for what in ("told", "nothing told", "no race-free trace"))]
+    for what in ("told", "nothing told", "no race-free trace")),
+    ("a lock never taken", "nothing told"), ("a lock never taken, all words", "handed over"),
+    ("a lock never taken, of many, all words", "handed over")]
 COUNTED = ("reports", "racy", "cut", "events", "fetches")
 
 
@@ -80,6 +85,8 @@ def lines(seen):
         yield f"traces under {model}: {counts(seen, 'model', model, of=OF_MODELS)}"
     yield f"traces told: {counts(seen, 'told', of=TOLD)}"
     yield f"traces of 2^20 addresses: {counts(seen, 'wide', of=WIDE)}"
+    for model, kinds in MANY.items():
+        yield f"traces of many processors under {model}: {counts(seen, 'many', model, of=kinds)}"
     yield "locksets: " + "; ".join(f"{sort}: {seen['locksets', sort, what]} {what}" for sort, what in LOCKSETS)
     yield f"JSON: {seen['json', 'scripts']} scripts; " + "; ".join(
         f"{what}: {counts(seen, 'json', what, of=kinds)}" for what, kinds in JSON)
@@ -105,6 +112,7 @@ def wanted():
                 if model != verdicts.LAZY_RELEASE or kind == "racy")
     yield from (("told", what) for what in TOLD)
     yield from (("wide", what) for what in WIDE)
+    yield from (("many", model, what) for model, kinds in MANY.items() for what in kinds)
     yield from (("locksets", *it) for it in LOCKSETS)
     yield from (("json", what, kind) for what, kinds in JSON for kind in kinds)
     for kind, all_turns in TURNS.items():

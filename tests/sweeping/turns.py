@@ -116,6 +116,10 @@ NOTES = (("a store", one_more("(?<=  )event ")), ("who stored", one_more("event 
 LOCKSETS = (("the word", one_more("^unprotected ")), ("a bare access", one_more("^unprotected [0-9]+: event ")),
             ("a guarded access", one_more("; events ")), ("the lock", one_more(" hold lock ")),
             ("no word told", replaced("^unprotected .*\\n", "")))
+HANDED = (("a word handed over", one_more("^handed over ")), ("an access of such a word", one_more("^handed over [0-9]+: event ")),
+          ("a word handed over that somebody forgot", replaced("^handed over (.*)$", r"unprotected \1; events 0 and 1 hold lock 0")),
+          ("a word forgotten that is handed over", replaced("^unprotected (.*);.*$", r"handed over \1")),
+          ("no word handed over told", replaced("^handed over .*\\n", "")))
 TRACES = (("the verdict", other_verdict), ("the place", one_more("^unfaithful ")),
           ("the reason", replaced("^because .*$", "because nobody has stored it")),
           ("a due count", one_more("has to count ")), ("the messages", one_more("^traffic ")),

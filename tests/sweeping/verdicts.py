@@ -24,6 +24,11 @@ class Rules(NamedTuple):
     is_lax: bool = False
     ends_at_race: bool = False
 
+    @property
+    def counts(self):
+        """Whether what fetches count is judged."""
+        return self.model == LAZY_RELEASE and not self.is_lax
+
     def words(self):
         """The program's words for them."""
         default = [] if self.model == RACE_FREE else ["--model", self.model]
@@ -119,7 +124,7 @@ def first_wrong(table, words, rules):
         is_owed = rules.model != RACE_FREE or race is None or place < race[1]
         if event.kind == "load" and is_owed:
             wrong = wrong_load(table, place, rules.model)
-        elif event.kind == "fetch" and rules.model == LAZY_RELEASE and not rules.is_lax:
+        elif event.kind == "fetch" and rules.counts:
             wrong = wrong_fetch(gaps, place)
         if wrong is not None:
             return wrong
@@ -187,12 +192,8 @@ def lie(events, wrong):
         f"unfaithful {wrong.place}", events[wrong.place].line(wrong.place), *wrong.why))
 
 
-def find(sizes, events, rules):
-    """What is to be found of a trace."""
-    for place, event in enumerate(events):
-        fault = out_of_range(sizes, event)
-        if fault is not None:
-            return Found("no trace", place, 0, (f"lrc: line {place + 2}: {fault}",))
+def judged(sizes, events, rules):
+    """What is found of events each of which names what the cluster has got."""
     refused = first_refused(sizes, events, rules.is_lax)
     table = Table(events if refused is None else events[:refused[0]])
     race, wrong = nearest_race(table), first_wrong(table, sizes.words, rules)
@@ -201,6 +202,19 @@ def find(sizes, events, rules):
     if wrong is None and refused is not None:
         wrong = Wrong("ill formed", refused[0], (f"because {refused[1]}",))
     return faithful(table, rules) if wrong is None else lie(events, wrong)
+
+
+def find(sizes, events, rules, reads_all=False):
+    """What is to be found of a trace. It is judged as it is read, so what is found wrong hides each bad line behind it; not
+    where a command reads all first."""
+    for place, event in enumerate(events):
+        fault = out_of_range(sizes, event)
+        if fault is not None:
+            before = None if reads_all else judged(sizes, events[:place], rules)
+            if before is not None and before.kind != "faithful":
+                return before
+            return Found("no trace", place, 0, (f"lrc: line {place + 2}: {fault}",))
+    return judged(sizes, events, rules)
 
 
 STATUSES = {"faithful": 0, "no trace": 2, "racy": 8}

@@ -127,14 +127,21 @@ def changed(sums, landed, now, today=None):
     return tried, faults + [f"{FILE} has a row of {key}, which has no edits" for key in gone]
 
 
+def is_of_today(seen, said):
+    """Whether the file's rows of a crate were written with this toolchain, and of the crate as it stands."""
+    name = next(iter(seen)).partition("/")[0]
+    return said.get(name) == seen[name]
+
+
 def differences(seen, said, is_whole):
-    """How what was seen of a crate differs from what the file says. Where the file was written with another toolchain, which
-    may name another goal, each edit has only to have a row. `is_whole`: whether all of its edits were tried."""
+    """How what was seen of a crate differs from what the file says. Where that was written with another toolchain or of another
+    state of the crate, which may name another goal, each edit has only to have a row. `is_whole`: whether all of its edits were
+    tried."""
     name = next(iter(seen)).partition("/")[0]
     if not said:
         return [f"{FILE} has no row of {name}: tools/edits --write {name} adds them"]
-    if said.get(name, ("",))[0] != seen[name][0]:
-        said = {key: seen.get(key, row) if "/" in key else (seen[name][0], row[1]) for key, row in said.items()}
+    if not is_of_today(seen, said):
+        said = {key: seen.get(key, row) for key, row in said.items()}
     if not is_whole:
         said = {key: row for key, row in said.items() if key in seen}
     return [f"{key}: {FILE} says {' '.join(said.get(key, ['nothing']))}, and not {' '.join(seen.get(key, ['nothing']))}"

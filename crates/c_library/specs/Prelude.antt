@@ -2,7 +2,7 @@
 pub use Rattle.c_library.specs.Given.{HaveGivenKinds, AreGivenRules, HasGivenKind, given_event_of, given_sizes, given_kind_of, given_model_of, given_rules_of}
 pub use Rattle.c_library.specs.CallFaults.{IsCallFaultCode, call_fault_code}
 pub use Rattle.c_library.specs.ToldVerdicts.{told_verdict_earlier, told_verdict_number, told_verdict_other, told_verdict_ill_formed, told_verdict_lie, told_verdict_miscounted}
-pub use Rattle.c_library.specs.ToldVerdicts.{told_verdict_of, told_verdict_race, told_verdict_traffic, told_verdict_unexplained}
+pub use Rattle.c_library.specs.ToldVerdicts.{told_verdict_of, told_verdict_race, told_verdict_store, told_verdict_stores, told_verdict_traffic, told_verdict_unexplained}
 pub use Rattle.c_library.specs.GivenJudged.{IsGivenJudgedFault, IsGivenJudgedTold}
 pub use Rattle.c_library.specs.GivenHistories.{AreGivenHistoryEvents, IsGivenHistoryEvent, IsGivenHistoryFault, IsGivenHistory, IsGivenHistoryRaceTold}
 pub use Rattle.c_library.specs.GivenHistories.{IsGivenHistoryReplayTold, IsGivenHistoryReplayed}

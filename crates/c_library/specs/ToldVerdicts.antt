@@ -1,10 +1,11 @@
 -- What C is told of a history.
-use Rattle.std.specs.Prelude.{ℕ, ◌+◌, Option, Some, None, map, replicate}
+use Rattle.std.specs.Prelude.{ℕ, ◌+◌, List, [], ◌∷◌, Option, Some, None, option_map, replicate, slice_set}
 use Rattle.journal.specs.declared.traffic.Traffic.{Traffic}
+use Rattle.judge.specs.declared.flat_memory.FlatStore.{FlatStore}
 use Rattle.judge.specs.declared.ill_formed.IllFormed.{IllFormed}
 use Rattle.judge.specs.declared.miscounted.Miscounted.{Miscounted}
 use Rattle.judge.specs.declared.permitted.Permitted.{Permitted}
-use Rattle.judge.specs.declared.permitted.Permitted.TheVariants.{Latest, Heard, Last}
+use Rattle.judge.specs.declared.permitted.Permitted.TheVariants.{One, Latest, Heard, Last}
 use Rattle.judge.specs.declared.why.Why.{Why}
 use Rattle.judge.specs.declared.why.Why.TheVariants.{HeldBy, AskedEarlier, NotArrived}
 use Rattle.judge.specs.Why.{why_rank}
@@ -58,11 +59,25 @@ abbrev pub told_verdict_ill_formed : IllFormed → ToldLie
 told_verdict_ill_formed x =
     record told_verdict_no_lie { why = 3 + why_rank x.why; place = x.place; other = told_verdict_other x.why; earlier = told_verdict_earlier x.why }
 
+-- of each processor the place of this store, if it is that one's
+abbrev pub told_verdict_store : Option FlatStore → List ℕ
+told_verdict_store None = replicate 16 NONE
+told_verdict_store (Some x) = slice_set (replicate 16 NONE) x.by x.place
+
+-- these places, and of each processor that of its store among these
+abbrev pub told_verdict_places_with : List ℕ → List FlatStore → List ℕ
+told_verdict_places_with places [] = places
+told_verdict_places_with places (x ∷ stores) = told_verdict_places_with (slice_set places x.by x.place) stores
+
+abbrev pub told_verdict_stores : List FlatStore → List ℕ
+told_verdict_stores stores = told_verdict_places_with (replicate 16 NONE) stores
+
 -- a load, by its place and by what it may answer
 abbrev pub told_verdict_load : ℕ → Permitted → ToldLie
-told_verdict_load place (Latest latest) = record told_verdict_no_lie { why = 1; place = place; stores = map told_verdict_number latest }
-told_verdict_load place (Heard latest unordered) = record told_verdict_no_lie { why = 1; place = place; stores = map told_verdict_number latest }
-told_verdict_load place (Last store) = record told_verdict_no_lie { why = 1; place = place; last = told_verdict_number store }
+told_verdict_load place (One store) = record told_verdict_no_lie { why = 1; place = place; stores = told_verdict_store store }
+told_verdict_load place (Latest latest) = record told_verdict_no_lie { why = 1; place = place; stores = told_verdict_stores latest.items }
+told_verdict_load place (Heard latest unordered) = record told_verdict_no_lie { why = 1; place = place; stores = told_verdict_stores latest.items }
+told_verdict_load place (Last store) = record told_verdict_no_lie { why = 1; place = place; last = told_verdict_number (option_map (λ x. x.place) store) }
 
 abbrev pub told_verdict_unexplained : Unexplained → ToldLie
 told_verdict_unexplained x = told_verdict_load x.place x.permitted

@@ -102,6 +102,7 @@ impl GivenRules {
             model: self.model(),
             lax: self.lax == 1,
             ends_at_race: self.ends_at_race == 1,
+            locksets: None,
         }
     }
 }

@@ -1,11 +1,11 @@
 //! What C is told of a history.
-ghost use Rattle.std.specs.Prelude.{◌≡◌, ◌+◌, map};
+ghost use Rattle.std.specs.Prelude.{◌≡◌, ◌+◌, option_map};
 ghost use Rattle.judge.specs.Why.{why_rank};
 ghost use Rattle.c_library.specs.Prelude.{told_verdict_earlier, told_verdict_number, told_verdict_other, told_verdict_ill_formed, told_verdict_lie, told_verdict_miscounted};
-ghost use Rattle.c_library.specs.Prelude.{told_verdict_of, told_verdict_race, told_verdict_traffic, told_verdict_unexplained};
+ghost use Rattle.c_library.specs.Prelude.{told_verdict_of, told_verdict_race, told_verdict_store, told_verdict_stores, told_verdict_traffic, told_verdict_unexplained};
 
 use journal::{MOST_PROCESSORS, Traffic};
-use judge::{IllFormed, Miscounted, Permitted, Why};
+use judge::{FlatStore, IllFormed, Miscounted, Permitted, Why};
 use lrc_check::{Checked, Lie, TraceVerdict, Unexplained};
 
 /// No place, and nobody.
@@ -100,13 +100,38 @@ fn told_verdict_number(number: Option<usize>) -> u64
     }
 }
 
-/// The places, of each processor.
-fn told_verdict_places(latest: &[Option<usize>; MOST_PROCESSORS]) -> [u64; MOST_PROCESSORS]
-    ensures { result ≡ map told_verdict_number latest.now }
+/// The places of these stores, each of the processor whose it is.
+fn told_verdict_stores(stores: &[FlatStore]) -> [u64; MOST_PROCESSORS]
+    ensures { result ≡ told_verdict_stores stores.now }
 {
     let mut places = [NONE; MOST_PROCESSORS];
-    for by in 0..MOST_PROCESSORS {
-        places[by] = told_verdict_number(latest[by]);
+    for store in stores {
+        if store.by < MOST_PROCESSORS {
+            places[store.by] = u64::from(store.place);
+        }
+    }
+    places
+}
+
+/// The place of the store, or `NONE`.
+fn told_verdict_last(store: Option<FlatStore>) -> u64
+    ensures { result ≡ told_verdict_number (option_map (λ x. x.place) store) }
+{
+    match store {
+        Some(store) => u64::from(store.place),
+        None => NONE,
+    }
+}
+
+/// The place of the store, of the processor whose it is.
+fn told_verdict_store(store: Option<FlatStore>) -> [u64; MOST_PROCESSORS]
+    ensures { result ≡ told_verdict_store store }
+{
+    let mut places = [NONE; MOST_PROCESSORS];
+    if let Some(store) = store {
+        if store.by < MOST_PROCESSORS {
+            places[store.by] = u64::from(store.place);
+        }
     }
     places
 }
@@ -168,16 +193,22 @@ fn told_verdict_unexplained(load: &Unexplained) -> ToldLie
 {
     let place = load.place as u64;
     match &load.permitted {
+        Permitted::One(store) => ToldLie {
+            why: 1,
+            place,
+            stores: told_verdict_store(*store),
+            ..NO_LIE
+        },
         Permitted::Latest(latest) | Permitted::Heard(latest, _) => ToldLie {
             why: 1,
             place,
-            stores: told_verdict_places(latest),
+            stores: told_verdict_stores(latest),
             ..NO_LIE
         },
         Permitted::Last(last) => ToldLie {
             why: 1,
             place,
-            last: told_verdict_number(*last),
+            last: told_verdict_last(*last),
             ..NO_LIE
         },
     }

@@ -17,9 +17,8 @@ use Rattle.journal.proofs.Order.EventPlacesAndCounts.{event_place_inside}
 use Rattle.journal.proofs.Journals.WellFormedStays.{well_formed_stays_last_unique, well_formed_stays_last_now, well_formed_stays_last_longer, well_formed_stays_last_shorter}
 use Rattle.judge.specs.Why.{WhyWaitsFor}
 use Rattle.explore.specs.KeptWaiting.{KeptWaitingAsksAt, IsKeptWaitingForLock, IsFirstKeptWaiting, TellsKeptWaiting}
-use Rattle.explore.specs.WaitCodes.{WaitCodesAreKept, wait_code_ending, wait_code_seated}
+use Rattle.explore.specs.WaitCodes.{WaitCodesAreKept, wait_code_ending, wait_code_holder, wait_code_nobody}
 use Rattle.explore.specs.declared.wait_code.WaitCode.{WaitCode}
-use Rattle.explore.specs.declared.wait_code.Seat.{Seat}
 use Rattle.explore.specs.declared.waiting.Waiting.{Waiting}
 use Rattle.explore.proofs.WaitCodes.{wait_code_ending_lock}
 
@@ -91,13 +90,13 @@ asked_first_waits_first j x p i l q tells mine found = (there, back)
         ]
 
 -- nobody holds the lock
-pub asked_nobody_holds : (j : List Event) (x : Waiting) (l : ℕ) → TellsKeptWaiting j x → slice_index_or x.holders l None ≡ None
+pub asked_nobody_holds : (j : List Event) (x : Waiting) (l : ℕ) → TellsKeptWaiting j x → wait_code_holder (slice_index_or x.holders l wait_code_nobody) ≡ None
     → (q : ℕ) → ¬ Holds j q l
-asked_nobody_holds j x l tells none q holds = none-some q (sym (ap wait_code_seated none) ∙ (tells.holders l q).1 holds)
+asked_nobody_holds j x l tells none q holds = none-some q (sym none ∙ (tells.holders l q).1 holds)
 
-pub asked_somebody_holds : (j : List Event) (x : Waiting) (l : ℕ) (seat : Seat) (i : ℕ) → TellsKeptWaiting j x
-    → slice_index_or x.holders l None ≡ Some seat → ¬ WellFormedGrant j i l
-asked_somebody_holds j x l seat i tells some may = may.free seat.0 ((tells.holders l seat.0).0 (ap wait_code_seated some))
+pub asked_somebody_holds : (j : List Event) (x : Waiting) (l q i : ℕ) → TellsKeptWaiting j x
+    → wait_code_holder (slice_index_or x.holders l wait_code_nobody) ≡ Some q → ¬ WellFormedGrant j i l
+asked_somebody_holds j x l q i tells some may = may.free q ((tells.holders l q).0 some)
 
 -- these are processors
 pub asked_small : (asked : List ℕ) → ((p : ℕ) → Has asked p → p < 16) → All (λ p. p < 16) asked
@@ -117,14 +116,14 @@ asked_last_others j p q i k a apart = (
   well_formed_stays_last_shorter j (event p k ∷ []) q i a (asked_one_away (event p k) q apart),
 )
 
-asked_waits_own : (j : List Event) (p : ℕ) (k b : Kind) → (awaited_next k ≡ Some b) ↔ WhyWaitsFor (did j p k) p b
+pub asked_waits_own : (j : List Event) (p : ℕ) (k b : Kind) → (awaited_next k ≡ Some b) ↔ WhyWaitsFor (did j p k) p b
 asked_waits_own j p k b = (
   λ is. record { place = length j; kind = k; last = well_formed_stays_last_now j (event p k); awaits = is },
   λ w. let same = well_formed_stays_last_unique (did j p k) p (length j) w.place k w.kind (well_formed_stays_last_now j (event p k)) w.last in
       ap awaited_next same.1 ∙ w.awaits,
 )
 
-asked_waits_others : (j : List Event) (p q : ℕ) (k b : Kind) → p ≢ q → WhyWaitsFor j q b ↔ WhyWaitsFor (did j p k) q b
+pub asked_waits_others : (j : List Event) (p q : ℕ) (k b : Kind) → p ≢ q → WhyWaitsFor j q b ↔ WhyWaitsFor (did j p k) q b
 asked_waits_others j p q k b apart = (
   λ w. record {
     place = w.place;
@@ -188,7 +187,7 @@ asks_old j q i a = event_place_inside j i (event q (Ask a.0)) a.1.does
 
 -- so the lock, which nobody holds, may be granted to p exactly where p is the first
 pub asked_first_may_acquire : (j : List Event) (x : Waiting) (p i l q : ℕ) → TellsKeptWaiting j x → LastIs j p i (Ask l)
-    → slice_index_or x.holders l None ≡ None → IsFirstKeptWaiting x.asked.items x.waits l q → (q ≡ p) ↔ WellFormedGrant j i l
+    → wait_code_holder (slice_index_or x.holders l wait_code_nobody) ≡ None → IsFirstKeptWaiting x.asked.items x.waits l q → (q ≡ p) ↔ WellFormedGrant j i l
 asked_first_may_acquire j x p i l q tells mine none found = (
   λ is. record {
     free = asked_nobody_holds j x l tells none;

@@ -11,6 +11,11 @@ pub clone_match_ok : {A E : Type 0} (r : Result A E) (P Q : A → Type 0) (F : E
 clone_match_ok (Ok x) P Q F f h = f x h
 clone_match_ok (Err e) P Q F f h = tt
 
+-- what is weaker is so, too
+pub clone_if_ok : {A E : Type 0} (r : Result A E) (P Q : A → Type 0) → ((x : A) → P x → Q x) → IfOk r P → IfOk r Q
+clone_if_ok (Ok x) P Q f h = f x h
+clone_if_ok (Err e) P Q f h = tt
+
 -- rows of clones
 pub cloned_items : (R : Vec ℕ → Vec ℕ → Type 0) → ((v w : Vec ℕ) → R v w → w.items ≡ v.items) → (vs ws : List (Vec ℕ))
     → AllZip R vs ws → machine_rows ws ≡ machine_rows vs

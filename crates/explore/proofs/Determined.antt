@@ -17,7 +17,8 @@ use Rattle.explore.specs.OutcomeTelling.{AreOutcomeTellingKept, outcome_telling_
 use Rattle.conformance.specs.Follows.{calls_of}
 use Rattle.explore.specs.KeptWaiting.{AreKeptWaitingAsks, KeptWaitingAsksAt, IsLikeKeptWaiting, TellsKeptWaiting}
 use Rattle.explore.proofs.AskQueue.{AskQueuedBefore}
-use Rattle.explore.proofs.WaitCodes.{wait_code_ending_once, wait_code_seated_once}
+use Rattle.explore.proofs.WaitCodes.{wait_code_ending_once, wait_code_holder_once}
+use Rattle.explore.specs.WaitCodes.{wait_code_nobody}
 use Rattle.explore.proofs.ToldReplies.{told_replies_same_rows}
 
 -- lists that read the same are the same
@@ -106,8 +107,8 @@ determined_waiting g x y first second = record {
       (λ p lt. wait_code_ending_once _ _ (determined_option _ _ (λ k. determined_both (second.waits p k) (first.waits p k))));
   arrivals = determined_read 0 y.arrivals x.arrivals (second.arrivals_long ∙ sym first.arrivals_long)
       (λ p lt. second.arrivals p ∙ sym (first.arrivals p));
-  holders = determined_read None y.holders x.holders (second.holders_long ∙ sym first.holders_long)
-      (λ l lt. wait_code_seated_once _ _ (determined_option _ _ (λ q. determined_both (second.holders l q) (first.holders l q))));
+  holders = determined_read wait_code_nobody y.holders x.holders (second.holders_long ∙ sym first.holders_long)
+      (λ l lt. wait_code_holder_once _ _ (determined_option _ _ (λ q. determined_both (second.holders l q) (first.holders l q))));
   flags = determined_read false y.flags x.flags (second.flags_long ∙ sym first.flags_long)
       (λ f lt. determined_bool _ _ (determined_both (second.flags f) (first.flags f)));
   asked = determined_asked g y.asked.items x.asked.items second.asked first.asked;

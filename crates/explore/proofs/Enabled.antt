@@ -28,7 +28,7 @@ enabled_acquire s j p l b waits is =
     )
 
 -- a departure after one's arrival
-enabled_depart_awaited : (a : Kind) → awaited_next a ≡ Some Depart → a ≡ Arrive
+pub enabled_depart_awaited : (a : Kind) → awaited_next a ≡ Some Depart → a ≡ Arrive
 enabled_depart_awaited (Ask m) is = absurd cc
 enabled_depart_awaited Arrive is = refl
 enabled_depart_awaited (Watch f) is = absurd cc
@@ -44,7 +44,7 @@ enabled_depart s j p n b many waits is =
     )
 
 -- a flag that is watched
-enabled_await_awaited : (a : Kind) (f : ℕ) → awaited_next a ≡ Some (Await f) → a ≡ Watch f
+pub enabled_await_awaited : (a : Kind) (f : ℕ) → awaited_next a ≡ Some (Await f) → a ≡ Watch f
 enabled_await_awaited (Ask m) f is = absurd cc
 enabled_await_awaited Arrive f is = absurd cc
 enabled_await_awaited (Watch g) f is = cc

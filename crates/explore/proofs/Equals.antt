@@ -1,25 +1,26 @@
--- Machines that `==` finds equal are in the same state.
-use Rattle.std.proofs.Common.{ℕ, ◌≡◌, Bool, true, false, ◌&&◌, ◌||◌, inl, inr, List, [], ◌∷◌, ◌++◌, Option, Some, map, refl, sym, ap, ap₂, subst, ◌∙◌}
+-- Parts of states that `==` finds equal are the same.
+use Rattle.std.proofs.Common.{ℕ, ◌≡◌, Bool, true, false, ◌&&◌, ◌||◌, ◌⊎◌, inl, inr, List, [], ◌∷◌, ◌++◌, Option, Some, map, refl, sym, ap, ap₂, subst, ◌∙◌}
 use Rattle.std.specs.Prelude.{None, nat_eq, not, if◌then◌else◌}
 use Rattle.std.specs.Global.{Vec}
 use Rattle.std.specs.Option.{option_eq}
 use Rattle.std.specs.Cmp.Lexicographic.{pointwise, same_text}
 use Rattle.std.specs.List.{list_any}
-use Rattle.std.proofs.lemmas.Bool.{and_from, and_parts, false≢true}
+use Rattle.std.proofs.lemmas.Bool.{and_from, and_parts, eqb-true, false≢true}
 use Rattle.std.proofs.lemmas.Cmp.{nat_list_eq_equiv}
 use Rattle.std.proofs.lemmas.List.{map-append}
 use Rattle.base.specs.InOrderOnce.{Has}
 use Rattle.base.proofs.JoinedLists.{joined_list_has-cons, joined_list_has-nil}
 use mathlib.Core.Bool.{beq}
 use Rattle.explore.specs.declared.wait_code.WaitCode.{WaitCode}
-use Rattle.explore.specs.declared.wait_code.Seat.{Seat}
-use Rattle.explore.specs.declared.flat_state.FlatState.{FlatState}
-use Rattle.explore.specs.declared.waiting.Waiting.{Waiting}
+use Rattle.explore.specs.declared.wait_code.LockHolder.{LockHolder}
+use Rattle.explore.specs.declared.kept_state.KeptState.{KeptState}
+use Rattle.explore.specs.declared.kept_state.StateValues.{StateValues}
+use Rattle.explore.specs.declared.waiting.WaitingAsks.{WaitingAsks}
+use Rattle.explore.specs.declared.waiting.WaitingGrants.{WaitingGrants}
 use Rattle.explore.specs.declared.explored.ScriptOutcome.{ScriptOutcome}
 use Rattle.explore.specs.Explored.{explored_outcome}
-use Rattle.explore.specs.Machines.{MachinesInSameState, machine_rows}
-use Rattle.explore.specs.FlatSearch.{IsAmongFlatSearched}
-use Rattle.explore.specs.KeptWaiting.{IsLikeKeptWaiting}
+use Rattle.explore.specs.KeptStates.{AreLikeStateAsks, AreLikeStateGrants, AreLikeStateValues}
+use Rattle.explore.specs.Machines.{machine_rows}
 
 -- lists whose items are found equal are the same
 equal_items : {A B : Type 0} (f : A → B) (E : A → A → Bool) → ((a b : A) → E a b ≡ true → f b ≡ f a) → (xs ys : List A)
@@ -56,57 +57,80 @@ equal_bools true false h = absurd (false≢true h)
 equal_bools false true h = absurd (false≢true h)
 equal_bools false false h = refl
 
--- what `==` tests
-module _ (E : WaitCode → WaitCode → Bool) (F : Seat → Seat → Bool) where
-  abbrev pub waiting_equal : Waiting → Waiting → Bool
-  waiting_equal x y =
-      pointwise (option_eq E) x.waits y.waits && (pointwise nat_eq x.arrivals y.arrivals
-      && (pointwise (option_eq F) x.holders y.holders
-      && (pointwise beq x.flags y.flags && pointwise nat_eq x.asked.items y.asked.items)))
+-- what `==` tests of values
+abbrev pub state_values_equal : StateValues → StateValues → Bool
+state_values_equal v w =
+    pointwise (λ (a b : Vec ℕ). pointwise nat_eq a.items b.items) v.replies.items w.replies.items && pointwise nat_eq v.memory.items w.memory.items
 
-  abbrev pub machine_equal : FlatState → FlatState → Bool
-  machine_equal m n =
-      pointwise nat_eq m.done n.done
-      && (pointwise (λ (v w : Vec ℕ). pointwise nat_eq v.items w.items) m.replies.items n.replies.items
-      && (pointwise nat_eq m.memory.items n.memory.items && waiting_equal m.waiting n.waiting))
+pub equal_state_values_like : (v w : StateValues) → state_values_equal v w ≡ true → AreLikeStateValues v w
+equal_state_values_like v w h =
+    let rows : Vec ℕ → Vec ℕ → Bool = λ a b. pointwise nat_eq a.items b.items in
+    let a = and_parts (pointwise rows v.replies.items w.replies.items) _ h in
+    record {
+      replies = equal_items (λ (a : Vec ℕ). a.items) rows (λ a b. equal_numbers a.items b.items) v.replies.items w.replies.items a.0;
+      memory = equal_numbers v.memory.items w.memory.items a.1;
+    }
 
-module _ (E : WaitCode → WaitCode → Bool) (F : Seat → Seat → Bool) (same_wait : (a b : WaitCode) → E a b ≡ true → b ≡ a)
-    (same_seat : (a b : Seat) → F a b ≡ true → b ≡ a) where
-  equal_waiting_like : (x y : Waiting) → waiting_equal E F x y ≡ true → IsLikeKeptWaiting x y
-  equal_waiting_like x y h =
-      let a = and_parts (pointwise (option_eq E) x.waits y.waits) _ h in
-      let b = and_parts (pointwise nat_eq x.arrivals y.arrivals) _ a.1 in
-      let c = and_parts (pointwise (option_eq F) x.holders y.holders) _ b.1 in
-      let d = and_parts (pointwise beq x.flags y.flags) (pointwise nat_eq x.asked.items y.asked.items) c.1 in
+-- and of waits, and of what has come
+module _ (E : WaitCode → WaitCode → Bool) where
+  abbrev pub state_asks_equal : WaitingAsks → WaitingAsks → Bool
+  state_asks_equal v w = pointwise (option_eq E) v.waits w.waits && pointwise nat_eq v.asked.items w.asked.items
+
+  pub equal_state_asks_like : ((a b : WaitCode) → E a b ≡ true → b ≡ a) → (v w : WaitingAsks) → state_asks_equal v w ≡ true → AreLikeStateAsks v w
+  equal_state_asks_like same v w h =
+      let a = and_parts (pointwise (option_eq E) v.waits w.waits) _ h in
       record {
-        waits = equal_lists (option_eq E) (equal_options E same_wait) x.waits y.waits a.0;
-        arrivals = equal_numbers x.arrivals y.arrivals b.0;
-        holders = equal_lists (option_eq F) (equal_options F same_seat) x.holders y.holders c.0;
-        flags = equal_lists beq equal_bools x.flags y.flags d.0;
-        asked = equal_numbers x.asked.items y.asked.items d.1;
+        waits = equal_lists (option_eq E) (equal_options E same) v.waits w.waits a.0;
+        asked = equal_numbers v.asked.items w.asked.items a.1;
       }
 
-  pub equal_machines_in_same_state : (m n : FlatState) → machine_equal E F m n ≡ true → n.telling ≡ m.telling → MachinesInSameState m n
-  equal_machines_in_same_state m n h telling =
-      let a = and_parts (pointwise nat_eq m.done n.done) _ h in
-      let rows : Vec ℕ → Vec ℕ → Bool = λ v w. pointwise nat_eq v.items w.items in
-      let b = and_parts (pointwise rows m.replies.items n.replies.items) _ a.1 in
-      let c = and_parts (pointwise nat_eq m.memory.items n.memory.items) (waiting_equal E F m.waiting n.waiting) b.1 in
+module _ (F : LockHolder → LockHolder → Bool) where
+  abbrev pub state_grants_equal : WaitingGrants → WaitingGrants → Bool
+  state_grants_equal v w =
+      pointwise nat_eq v.arrivals w.arrivals && (pointwise F v.holders w.holders && pointwise beq v.flags w.flags)
+
+  pub equal_state_grants_like : ((a b : LockHolder) → F a b ≡ true → b ≡ a) → (v w : WaitingGrants) → state_grants_equal v w ≡ true
+      → AreLikeStateGrants v w
+  equal_state_grants_like same v w h =
+      let a = and_parts (pointwise nat_eq v.arrivals w.arrivals) _ h in
+      let b = and_parts (pointwise F v.holders w.holders) _ a.1 in
       record {
-        telling = telling;
-        done = equal_numbers m.done n.done a.0;
-        replies =
-            equal_items (λ (v : Vec ℕ). v.items) rows (λ v w. equal_numbers v.items w.items) m.replies.items
-            n.replies.items b.0;
-        memory = equal_numbers m.memory.items n.memory.items c.0;
-        waiting = equal_waiting_like m.waiting n.waiting c.1;
+        arrivals = equal_numbers v.arrivals w.arrivals a.0;
+        holders = equal_lists F same v.holders w.holders b.0;
+        flags = equal_lists beq equal_bools v.flags w.flags b.1;
       }
+
+-- and of states as they are kept
+abbrev pub kept_state_equal : KeptState → KeptState → Bool
+kept_state_equal a b =
+    pointwise nat_eq a.done b.done && (nat_eq a.values b.values && (nat_eq a.asks b.asks && nat_eq a.grants b.grants))
+
+pub equal_kept_state_same : (a b : KeptState) → kept_state_equal a b ≡ true → b ≡ a
+equal_kept_state_same a b h =
+    let p = and_parts (pointwise nat_eq a.done b.done) _ h in
+    let q = and_parts (nat_eq a.values b.values) _ p.1 in
+    let r = and_parts (nat_eq a.asks b.asks) _ q.1 in
+    let done = equal_numbers a.done b.done p.0 in
+    let values = sym (eqb-true a.values b.values q.0) in
+    let asks = sym (eqb-true a.asks b.asks r.0) in
+    let grants = sym (eqb-true a.grants b.grants r.1) in
+    ap (λ n. made n b.values b.asks b.grants) done ∙ ap (λ n. made a.done n b.asks b.grants) values
+    ∙ ap (λ n. made a.done a.values n b.grants) asks ∙ ap (made a.done a.values a.asks) grants
+  where
+    made : List ℕ → ℕ → ℕ → ℕ → KeptState
+    made done values asks grants = record { done = done; values = values; asks = asks; grants = grants }
 
 -- what `insert` leaves, where it says that the key is no new one
 pub equal_keys_kept : {A : Type 0} (is_there is_new : Bool) (old more new : List A) → is_new ≡ false → is_new ≡ not is_there
     → new ≡ (if is_there then old else more) → new ≡ old
 equal_keys_kept true is_new old more new old_one added keys = keys
 equal_keys_kept false is_new old more new old_one added keys = absurd (false≢true (sym old_one ∙ added))
+
+-- and where it says that it is one
+pub equal_keys_put : {A : Type 0} (is_there is_new : Bool) (old more new : List A) → is_new ≡ true → is_new ≡ not is_there
+    → new ≡ (if is_there then old else more) → new ≡ more
+equal_keys_put true is_new old more new new_one added keys = absurd (false≢true (sym added ∙ new_one))
+equal_keys_put false is_new old more new new_one added keys = keys
 
 -- rows that have the same are found equal
 pub equal_rows : (vs ws : List (Vec ℕ)) → machine_rows vs ≡ machine_rows ws
@@ -124,7 +148,7 @@ equal_rows (v ∷ vs) (w ∷ ws) same =
 abbrev pub outcome_equal : ScriptOutcome → ScriptOutcome → Bool
 outcome_equal a b = pointwise (λ (v w : Vec ℕ). pointwise nat_eq v.items w.items) a.replies.items b.replies.items
 
-equal_outcome_same : (a b : ScriptOutcome) → outcome_equal a b ≡ true → explored_outcome b ≡ explored_outcome a
+pub equal_outcome_same : (a b : ScriptOutcome) → outcome_equal a b ≡ true → explored_outcome b ≡ explored_outcome a
 equal_outcome_same a b h =
     equal_items (λ (v : Vec ℕ). v.items) (λ (v w : Vec ℕ). pointwise nat_eq v.items w.items)
     (λ v w. equal_numbers v.items w.items) a.replies.items b.replies.items h
@@ -154,16 +178,21 @@ equal_has_found o (k ∷ ks) has = elim ((joined_list_has-cons (explored_outcome
     or_right true h = refl
     or_right false h = h
 
--- what `insert` does to the outcomes
-pub equal_outcome_inserted : (ks : List ScriptOutcome) (o : ScriptOutcome) (new : List ScriptOutcome)
-    → new ≡ (if list_any (outcome_equal o) ks then ks else ks ++ o ∷ [])
-    → IsAmongFlatSearched (map explored_outcome ks) (map explored_outcome new) (explored_outcome o)
-equal_outcome_inserted ks o new is = go (list_any (outcome_equal o) ks) refl is
+-- an outcome is one of these, or is put at their end, as `insert_full` says
+pub equal_outcome_inserted : (ks : List ScriptOutcome) (o : ScriptOutcome) (new : List ScriptOutcome) (is_new : Bool)
+    → is_new ≡ not (list_any (outcome_equal o) ks) → new ≡ (if list_any (outcome_equal o) ks then ks else ks ++ o ∷ [])
+    → ((is_new ≡ false) × Has (map explored_outcome ks) (explored_outcome o) × (map explored_outcome new ≡ map explored_outcome ks))
+    ⊎ ((is_new ≡ true) × (¬ Has (map explored_outcome ks) (explored_outcome o))
+    × (map explored_outcome new ≡ map explored_outcome ks ++ explored_outcome o ∷ []))
+equal_outcome_inserted ks o new is_new isnt is = go (list_any (outcome_equal o) ks) refl isnt is
   where
-    go : (b : Bool) → list_any (outcome_equal o) ks ≡ b → new ≡ (if b then ks else ks ++ o ∷ [])
-        → IsAmongFlatSearched (map explored_outcome ks) (map explored_outcome new) (explored_outcome o)
-    go true any same = inl (equal_found_has o ks any, ap (λ (os : List ScriptOutcome). map explored_outcome os) same)
-    go false any pushed = inr (
+    go : (b : Bool) → list_any (outcome_equal o) ks ≡ b → is_new ≡ not b → new ≡ (if b then ks else ks ++ o ∷ [])
+        → ((is_new ≡ false) × Has (map explored_outcome ks) (explored_outcome o) × (map explored_outcome new ≡ map explored_outcome ks))
+        ⊎ ((is_new ≡ true) × (¬ Has (map explored_outcome ks) (explored_outcome o))
+        × (map explored_outcome new ≡ map explored_outcome ks ++ explored_outcome o ∷ []))
+    go true any told same = inl (told, equal_found_has o ks any, ap (λ (os : List ScriptOutcome). map explored_outcome os) same)
+    go false any told pushed = inr (
+      told,
       (λ has. false≢true (sym any ∙ equal_has_found o ks has)),
       ap (λ (os : List ScriptOutcome). map explored_outcome os) pushed ∙ map-append explored_outcome ks (o ∷ []),
     )

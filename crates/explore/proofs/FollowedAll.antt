@@ -1,5 +1,5 @@
 -- What is found after a state, an event at a time.
-use Rattle.std.proofs.Common.{ℕ, ◌≡◌, ◌≢◌, ◌+◌, ◌<◌, inl, inr, List, Option, Some, length, slice_get, slice_index_or, refl, sym, ap, subst, ◌∙◌, arith}
+use Rattle.std.proofs.Common.{◌≤◌, ℕ, ◌≡◌, ◌≢◌, ◌+◌, ◌<◌, inl, inr, List, Option, Some, length, slice_get, slice_index_or, refl, sym, ap, subst, ◌∙◌, arith}
 use Rattle.std.specs.Prelude.{None}
 use Rattle.std.specs.Global.{Vec}
 use Rattle.explore.specs.declared.prefixes.script_call.ScriptCall.{ScriptCall}
@@ -89,5 +89,16 @@ module _ (s : Plan) (rows : List (Vec ScriptCall)) (x y : FoundStates) (place : 
         | inr isnt ↦ old.known m g p j (omega arith) at knows told
       ];
       few = (let before = old.few in omega (arith, before));
+      telling = old.telling;
+    }
+
+    -- nobody else may do anything
+    pub followed_all_rest : n ≤ length nexts → ((p : ℕ) (k : Kind) → slice_index_or nexts p None ≡ Some k → p < n)
+        → AreFollowedStates s rows x y place nexts (length nexts)
+    followed_all_rest le last = record {
+      keeps = old.keeps;
+      found = old.found;
+      known = λ m g p j lt at knows told. old.known m g p j (last p j told) at knows told;
+      few = (let before = old.few in omega (arith, before, le));
       telling = old.telling;
     }

@@ -4,10 +4,12 @@ pub mod AskQueue
 pub mod Enabled
 pub mod Proper
 pub mod ToldReplies
+pub mod ToldRows
 pub mod MachineReplies
 pub mod Lengths
 pub mod LikeMachines
 pub mod MachineSteps
+pub mod MadeEvents
 pub mod Clones
 pub mod Equals
 pub mod FreeRuns
@@ -16,9 +18,13 @@ pub mod FollowedAll
 pub mod FirstRaces
 pub mod ChoosingFree
 pub mod SearchedStates
+pub mod ShownRuns
 pub mod UntilSearched
 pub mod locksets
+pub mod ranked_locks
 pub mod reduced
 pub mod allowed_runs
 pub mod Determined
+pub mod KeptStates
+pub mod StateOrigins
 pub mod CountedStates

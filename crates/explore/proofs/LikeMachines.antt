@@ -13,15 +13,15 @@ use Rattle.explore.specs.declared.outcome_telling.OutcomeTelling.{OutcomeTelling
 use Rattle.explore.specs.Machines.{MachinesInSameState, MachineKnows, machine_rows}
 use Rattle.explore.specs.OutcomeTelling.{AreOutcomeTellingKept}
 use Rattle.explore.specs.KeptWaiting.{AreKeptWaitingAsks, IsLikeKeptWaiting, TellsKeptWaiting}
-use Rattle.explore.specs.WaitCodes.{WaitCodesAreKept, wait_code_arrivals_open, wait_code_seated}
+use Rattle.explore.specs.WaitCodes.{WaitCodesAreKept, wait_code_arrivals_open, wait_code_holder, wait_code_nobody}
 use Rattle.explore.specs.declared.wait_code.WaitCode.{WaitCode}
-use Rattle.explore.specs.declared.wait_code.Seat.{Seat}
+use Rattle.explore.specs.declared.wait_code.LockHolder.{LockHolder}
 
 pub like_machine_waiting_tells : (g : List Event) (x y : Waiting) → IsLikeKeptWaiting x y → TellsKeptWaiting g x → TellsKeptWaiting g y
 like_machine_waiting_tells g x y like tells = record {
   long = ap (λ (ws : List (Option WaitCode)). length ws) like.waits ∙ tells.long;
   arrivals_long = ap (λ (ns : List ℕ). length ns) like.arrivals ∙ tells.arrivals_long;
-  holders_long = ap (λ (hs : List (Option Seat)). length hs) like.holders ∙ tells.holders_long;
+  holders_long = ap (λ (hs : List LockHolder). length hs) like.holders ∙ tells.holders_long;
   flags_long = ap (λ (bs : List Bool). length bs) like.flags ∙ tells.flags_long;
   waits = subst (WaitCodesAreKept g) (sym like.waits) tells.waits;
   arrivals = subst (λ ns. (p : ℕ) → slice_index ns p ≡ event_count event_arrives g p) (sym like.arrivals) tells.arrivals;
@@ -29,7 +29,7 @@ like_machine_waiting_tells g x y like tells = record {
       subst (λ ws. (p : ℕ) → event_count event_departs g p + wait_code_arrivals_open (slice_index_or ws p None) ≡ event_count event_arrives g p)
       (sym like.waits) tells.departures;
   holders =
-      subst (λ hs. (l q : ℕ) → (wait_code_seated (slice_index_or hs l None) ≡ Some q) ↔ Holds g q l) (sym like.holders)
+      subst (λ hs. (l q : ℕ) → (wait_code_holder (slice_index_or hs l wait_code_nobody) ≡ Some q) ↔ Holds g q l) (sym like.holders)
       tells.holders;
   flags = subst (λ bs. (f : ℕ) → IsTrue (slice_index_or bs f false) ↔ FrontTellsFlagSet g f) (sym like.flags) tells.flags;
   asked = subst (AreKeptWaitingAsks g) (sym like.asked) tells.asked;

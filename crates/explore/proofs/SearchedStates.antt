@@ -1,13 +1,14 @@
 -- What a search knows, state by state.
 -- What was noted of the first states stays so as states are pushed on. One more state is either followed, where its next
 -- events are found, or ends: then it is whole and shows an outcome, or it hangs.
-use Rattle.std.proofs.Common.{ℕ, ◌≡◌, ◌≢◌, ◌+◌, ◌<◌, ◌≤◌, ◌↔◌, ◌⊎◌, inl, inr, Bool, false, List, [], ◌∷◌, Option, Some, length, map, slice_get, slice_index, slice_index_or, refl, sym, ap, subst, ◌∙◌, arith}
+use Rattle.std.proofs.Common.{ℕ, ◌≡◌, ◌≢◌, ◌+◌, ◌<◌, ◌≤◌, ◌↔◌, ◌⊎◌, inl, inr, Bool, false, List, [], ◌∷◌, ◌++◌, Option, Some, length, map, slice_get, slice_index, slice_index_or, refl, sym, ap, subst, ◌∙◌, length-append, arith}
 use Rattle.std.specs.Prelude.{None, MatchOption, unwrap_or}
 use Rattle.std.specs.Global.{Vec}
 use Rattle.std.proofs.lemmas.Bool.{cases_eq, cases_lt, false≢true}
 use Rattle.std.proofs.lemmas.List.{get_or_past}
 use Rattle.std.proofs.lemmas.Option.{none-some, same_Some, slice_get-get_or, slice_get_within}
 use Rattle.base.specs.InOrderOnce.{Has, IsOnce}
+use Rattle.base.proofs.SlicesAndCounts.{slice_push_cases}
 use Rattle.base.proofs.JoinedLists.{joined_list_has-append, joined_list_has-cons, joined_list_has-nil, joined_list_in_order-append, joined_list_in_order-nil, joined_list_in_order_single}
 use Rattle.journal.specs.declared.event.Event.{Event}
 use Rattle.journal.specs.declared.event.Kind.{Kind}
@@ -20,6 +21,7 @@ use Rattle.explore.specs.Prefixes.FlatBeginnings.{IsFlatBeginning, IsFlatBeginni
 use Rattle.explore.specs.Prefixes.PrefixLaws.{PrefixHasNoNeighbours}
 use Rattle.explore.proofs.prefixes.Beginnings.{prefix_beginning_next, prefix_beginning_whole_done}
 use Rattle.explore.specs.declared.flat_state.FlatState.{FlatState}
+use Rattle.explore.specs.declared.found_states.FoundStates.{FoundStates}
 use Rattle.explore.specs.declared.neighbours.Neighbours.{Neighbours}
 use Rattle.explore.specs.declared.search.Search.{Search}
 use Rattle.explore.specs.declared.explored.Hanging.{Hanging}
@@ -36,13 +38,20 @@ use Rattle.explore.specs.Nexts.{AreNexts, AreNextInConflict}
 use Rattle.explore.specs.declared.outcome_telling.Detail.{Detail}
 use Rattle.explore.specs.OutcomeTelling.{AreOutcomeTellingReplies, outcome_telling_of_script, outcome_telling_kept, outcome_telling_replies, outcome_telling_steps}
 use Rattle.explore.proofs.ToldReplies.{told_reply_kept_whole, told_replies_rows_like, told_replies_same_rows}
-use Rattle.explore.specs.FlatSearch.{FlatSearchFollowsAsks, AreFlatSearchOutcomes, FlatSearchHasHang, IsAmongFlatSearched, FlatSearchFollowsFree, FlatSearchFollowsWhole, IsFlatSearchReduced, AreFlatSearchNotes, IsFlatSearchHangingOpen, IsFlatSearchVerdictOpen, IsFlatSearchQuiet, FlatSearchedUpTo, IsShownByFlatSearch, HasMoreToFlatSearch, MayNoteInFlatSearch, FlatSearchHasNoHang}
+use Rattle.explore.specs.FlatSearch.{FlatSearchFollowsAsks, AreFlatSearchOutcomes, AreFlatSearchPlaces, FlatSearchHasHang, IsAmongFlatSearched, FlatSearchFollowsFree, FlatSearchFollowsWhole, IsFlatSearchReduced, AreFlatSearchNotes, IsFlatSearchHangingOpen, IsFlatSearchVerdictOpen, IsFlatSearchQuiet, FlatSearchedUpTo, IsNotedInFlatSearch, IsShownAtFlatSearchPlace, IsShownByFlatSearch, HasMoreToFlatSearch, MayNoteInFlatSearch, FlatSearchHasNoHang}
 use Rattle.explore.proofs.AddedStates.{added_state_found_soon_kept}
 use Rattle.explore.proofs.MachineSteps.{machine_step_some_at}
 use Rattle.explore.proofs.reduced.Ends.{ReducedEndsInConflict, ReducedEndsShowing, reduced_ends_conflict_lasts, reduced_ends_whole, reduced_ends_hang_lasts, reduced_ends_shows_last}
 use Rattle.explore.proofs.reduced.Later.{later_ask}
 use Rattle.explore.proofs.reduced.Reaching.{ReachingFollowsAsks, IsReached, IsReachingLasting, ReducedReachingFollowsAll, ReducedReachingFollowsOne, reached}
 use Rattle.explore.proofs.reduced.Soon.{soon_followed, soon_now, soon_reached}
+
+-- the state that has done nothing was found
+searched_states_first_found : (s : Plan) (x : FoundStates) → AreFoundStates s x → IsFoundState s (found_states x) []
+searched_states_first_found s x found =
+    let long = found.long in
+    let m = machine_step_some_at (found_states x) 0 (omega (arith, long)) in
+    record { place = 0; state = m.0; at = m.1; knows = found.first m.0 m.1 }
 
 -- a state of the first ones was there before
 pub searched_state_was_at : (old new : List FlatState) (place : ℕ) (m : FlatState) → KeepsFoundStates old new → place < length old
@@ -85,9 +94,20 @@ module _ (s : Plan) (old new : List FlatState) (n : ℕ) (keeps : KeepsFoundStat
     hangs = λ m g at knows. h.hangs m g (searched_state_was_at old new place m keeps h.within at) knows;
   }
 
+  searched_states_places_kept : (outcomes : List (List (List ℕ))) (places : List ℕ) → AreFlatSearchPlaces s old outcomes places
+      → AreFlatSearchPlaces s new outcomes places
+  searched_states_places_kept outcomes places of = record {
+    long = of.long;
+    each = λ i place replies at_outcome at_place. (let shown = of.each i place replies at_outcome at_place in record {
+      within = (
+          let f = machine_step_some_at old place shown.within in slice_get_within new place f.0 (keeps place f.0 f.1));
+      shows = λ m g at knows. shown.shows m g (searched_state_was_at old new place m keeps shown.within at) knows;
+    });
+  }
+
   pub searched_states_noted_kept : (x y : Search) → found_states x.found ≡ old → found_states y.found ≡ new → y.outcomes.keys ≡ x.outcomes.keys
-      → y.hang ≡ x.hang → AreFlatSearchNotes s x n → AreFlatSearchNotes s y n
-  searched_states_noted_kept x y is_old is_new outcomes hang noted =
+      → y.shown_at.items ≡ x.shown_at.items → y.hang ≡ x.hang → AreFlatSearchNotes s x n → AreFlatSearchNotes s y n
+  searched_states_noted_kept x y is_old is_new outcomes shown_at hang noted =
       let shows = subst (λ ms. AreFlatSearchOutcomes s ms n (map explored_outcome x.outcomes.keys)) is_old noted.shown in
       let hung = subst (λ ms. MatchOption x.hang (FlatSearchHasNoHang s ms n) (FlatSearchHasHang s ms)) is_old noted.hang in
       record {
@@ -100,6 +120,12 @@ module _ (s : Plan) (old new : List FlatState) (n : ℕ) (keeps : KeepsFoundStat
               );
               once = shows.once;
             }));
+        places =
+            subst (λ ms. AreFlatSearchPlaces s ms (map explored_outcome y.outcomes.keys) y.shown_at.items) (sym is_new)
+            (subst (λ ks. AreFlatSearchPlaces s new (map explored_outcome ks) y.shown_at.items) (sym outcomes)
+            (subst (AreFlatSearchPlaces s new (map explored_outcome x.outcomes.keys)) (sym shown_at)
+            (searched_states_places_kept (map explored_outcome x.outcomes.keys) x.shown_at.items
+            (subst (λ ms. AreFlatSearchPlaces s ms (map explored_outcome x.outcomes.keys) x.shown_at.items) is_old noted.places))));
         hang =
             subst (λ ms. MatchOption y.hang (FlatSearchHasNoHang s ms n) (FlatSearchHasHang s ms)) (sym is_new)
             (subst (λ o. MatchOption o (FlatSearchHasNoHang s new n) (FlatSearchHasHang s new)) (sym hang) (searched_state_hangs_kept x.hang hung));
@@ -131,8 +157,8 @@ module _ (s : Plan) (old new : List FlatState) (n : ℕ) (keeps : KeepsFoundStat
 
 -- before the first state is looked at
 pub searched_states_start : (s : Plan) (x : Search) (rows : List (Vec ScriptCall)) → AreFoundStates s x.found → x.outcomes.keys ≡ []
-    → x.hang ≡ None → FlatSearchedUpTo s x rows 0
-searched_states_start s x rows found outcomes hang = record {
+    → x.shown_at.items ≡ [] → x.hang ≡ None → FlatSearchedUpTo s x rows 0
+searched_states_start s x rows found outcomes shown_at hang = record {
   found = found;
   within = omega arith;
   closed = λ place m lt. absurd (omega arith);
@@ -142,6 +168,10 @@ searched_states_start s x rows found outcomes hang = record {
       each = λ replies. ((λ has. absurd (joined_list_has-nil replies has)), (λ by. absurd (let lt = by.within in omega arith)));
       once = joined_list_in_order-nil _;
     });
+    places =
+        subst (λ ks. AreFlatSearchPlaces s (found_states x.found) (map explored_outcome ks) x.shown_at.items) (sym outcomes)
+        (subst (AreFlatSearchPlaces s (found_states x.found) []) (sym shown_at)
+        (record { long = refl; each = λ i place replies at_outcome. absurd (none-some replies at_outcome) }));
     hang = subst (λ o. MatchOption o (FlatSearchHasNoHang s (found_states x.found) 0) (FlatSearchHasHang s (found_states x.found))) (sym hang)
         (λ place m g lt. absurd (omega arith));
   };
@@ -214,6 +244,7 @@ module _ (s : Plan) (states : List FlatState) (n : ℕ) (f : FlatState) (at : sl
         searched_state_unfinished_shown s states n f at (λ g knows follows. goes g knows (λ p k next. reduced_ends_whole s g p k one follows next))
         x x is is refl
         noted.shown;
+    places = noted.places;
     hang = subst (λ ms. MatchOption x.hang (FlatSearchHasNoHang s ms (n + 1)) (FlatSearchHasHang s ms)) (sym is)
         (searched_state_skipped_hang x.hang (subst (λ ms. MatchOption x.hang (FlatSearchHasNoHang s ms n) (FlatSearchHasHang s ms)) is noted.hang));
   }
@@ -230,9 +261,9 @@ searched_state_hung s states n f at hangs (Some place) h = h
 
 pub searched_state_noted_hanging : (s : Plan) (x y : Search) (steps : List (Vec ScriptCall)) (n : ℕ) (f : FlatState) → MayNoteInFlatSearch s x steps n
     → slice_get (found_states x.found) n ≡ Some f → ((g : List Event) → MachineKnows s g f → ¬ Follows s g)
-    → found_states y.found ≡ found_states x.found → y.outcomes.keys ≡ x.outcomes.keys → y.hang ≡ Some (unwrap_or x.hang n)
-    → AreFlatSearchNotes s y (n + 1)
-searched_state_noted_hanging s x y steps n f may at unfinished found outcomes hang =
+    → found_states y.found ≡ found_states x.found → y.outcomes.keys ≡ x.outcomes.keys → y.shown_at.items ≡ x.shown_at.items
+    → y.hang ≡ Some (unwrap_or x.hang n) → AreFlatSearchNotes s y (n + 1)
+searched_state_noted_hanging s x y steps n f may at unfinished found outcomes shown_at hang =
     let is_hang : (g : List Event) → MachineKnows s g f → IsFlatBeginningHanging s g = λ g knows. record {
       beginning = knows.beginning;
       unfinished = unfinished g knows;
@@ -240,6 +271,10 @@ searched_state_noted_hanging s x y steps n f may at unfinished found outcomes ha
     } in
     record {
       shown = searched_state_unfinished_shown s (found_states x.found) n f at unfinished x y refl found outcomes may.noted.shown;
+      places =
+          subst (λ ms. AreFlatSearchPlaces s ms (map explored_outcome y.outcomes.keys) y.shown_at.items) (sym found)
+          (subst (λ ks. AreFlatSearchPlaces s (found_states x.found) (map explored_outcome ks) y.shown_at.items) (sym outcomes)
+          (subst (AreFlatSearchPlaces s (found_states x.found) (map explored_outcome x.outcomes.keys)) (sym shown_at) may.noted.places));
       hang =
           subst (λ ms. MatchOption y.hang (FlatSearchHasNoHang s ms (n + 1)) (FlatSearchHasHang s ms)) (sym found)
           (subst (λ o. MatchOption o (FlatSearchHasNoHang s (found_states x.found) (n + 1)) (FlatSearchHasHang s (found_states x.found))) (sym hang)
@@ -351,13 +386,64 @@ module _ (s : Plan) (x : Search) (steps : List (Vec ScriptCall)) (n : ℕ) (f : 
   ]
   searched_state_whole_hang_kept (Some place) h = h
 
+  -- it shows what its replies tell
+  searched_state_shows_at_place : IsShownAtFlatSearchPlace s (found_states x.found) (machine_rows f.replies.items) n
+  searched_state_shows_at_place = record {
+    within = slice_get_within (found_states x.found) n f at;
+    shows = λ m g here knows.
+        let same = same_Some f m (sym at ∙ here) in
+        subst (λ z. Follows s g × AreOutcomeTellingReplies s z.telling g (machine_rows f.replies.items)) same
+        (let of_f = subst (MachineKnows s g) (sym same) knows in
+        let follows = whole g of_f in
+        (follows, searched_state_kept_told s g f may.lawful.lawful.but_uneven.one_each follows of_f));
+  }
+
+  searched_state_among : (old new : List (List (List ℕ))) (before after : List ℕ)
+      → IsNotedInFlatSearch old new before after (machine_rows f.replies.items) n → IsAmongFlatSearched old new (machine_rows f.replies.items)
+  searched_state_among old new before after (inl was) = inl (was.0, was.1)
+  searched_state_among old new before after (inr pushed) = inr (pushed.0, pushed.1)
+
+  searched_state_places_next : (old new : List (List (List ℕ))) (before after : List ℕ) → AreFlatSearchPlaces s (found_states x.found) old before
+      → IsNotedInFlatSearch old new before after (machine_rows f.replies.items) n → AreFlatSearchPlaces s (found_states x.found) new after
+  searched_state_places_next old new before after of (inl was) =
+      subst (λ os. AreFlatSearchPlaces s (found_states x.found) os after) (sym was.1)
+      (subst (AreFlatSearchPlaces s (found_states x.found) old) (sym was.2) of)
+  searched_state_places_next old new before after of (inr pushed) =
+      subst (λ os. AreFlatSearchPlaces s (found_states x.found) os after) (sym pushed.1)
+      (subst (AreFlatSearchPlaces s (found_states x.found) (old ++ machine_rows f.replies.items ∷ [])) (sym pushed.2) (record {
+        long = (
+            let long = of.long in
+            let outcomes = length-append old (machine_rows f.replies.items ∷ []) in
+            let places = length-append before (n ∷ []) in
+            omega arith);
+        each = λ i place replies at_outcome at_place. (let long = of.long in
+            elim (slice_push_cases old (machine_rows f.replies.items) i replies at_outcome) [
+              | inl earlier ↦ elim (slice_push_cases before n i place at_place) [
+                | inl there ↦ of.each i place replies earlier.1 there.1
+                | inr now ↦ absurd (let lt = earlier.0 in let is = now.0 in omega arith)
+              ]
+              | inr last ↦ elim (slice_push_cases before n i place at_place) [
+                | inl there ↦ absurd (let lt = there.0 in let is = last.0 in omega arith)
+                | inr now ↦
+                    subst (IsShownAtFlatSearchPlace s (found_states x.found) replies) now.1
+                    (subst (λ rs. IsShownAtFlatSearchPlace s (found_states x.found) rs n) last.1 searched_state_shows_at_place)
+              ]
+            ]);
+      }))
+
   pub searched_state_noted_whole : (y : Search) → found_states y.found ≡ found_states x.found → y.hang ≡ x.hang
-      → IsAmongFlatSearched (map explored_outcome x.outcomes.keys) (map explored_outcome y.outcomes.keys) (machine_rows f.replies.items)
+      → IsNotedInFlatSearch (map explored_outcome x.outcomes.keys) (map explored_outcome y.outcomes.keys) x.shown_at.items y.shown_at.items
+      (machine_rows f.replies.items) n
       → AreFlatSearchNotes s y (n + 1)
-  searched_state_noted_whole y found hang among = record {
+  searched_state_noted_whole y found hang noted = record {
     shown =
         subst (λ ms. AreFlatSearchOutcomes s ms (n + 1) (map explored_outcome y.outcomes.keys)) (sym found)
-        (searched_states_shown_next (map explored_outcome x.outcomes.keys) (map explored_outcome y.outcomes.keys) may.noted.shown among);
+        (searched_states_shown_next (map explored_outcome x.outcomes.keys) (map explored_outcome y.outcomes.keys) may.noted.shown
+        (searched_state_among (map explored_outcome x.outcomes.keys) (map explored_outcome y.outcomes.keys) x.shown_at.items y.shown_at.items noted));
+    places =
+        subst (λ ms. AreFlatSearchPlaces s ms (map explored_outcome y.outcomes.keys) y.shown_at.items) (sym found)
+        (searched_state_places_next (map explored_outcome x.outcomes.keys) (map explored_outcome y.outcomes.keys) x.shown_at.items
+        y.shown_at.items may.noted.places noted);
     hang =
         subst (λ ms. MatchOption y.hang (FlatSearchHasNoHang s ms (n + 1)) (FlatSearchHasHang s ms)) (sym found)
         (subst (λ o. MatchOption o (FlatSearchHasNoHang s (found_states x.found) (n + 1)) (FlatSearchHasHang s (found_states x.found))) (sym hang)
@@ -469,7 +555,7 @@ module _ (s : Plan) (x : Search) (steps : List (Vec ScriptCall)) (lawful : AreLa
       soon_reached s steps (found_states x.found) T lasting
       (reached s steps lawful (IsFoundByFreeRun s steps (found_states x.found)) T lasting
       (soon_followed s steps (found_states x.found) searched_state_followed)
-      (soon_now s steps (found_states x.found) [] searched.found.first) g begins has)
+      (soon_now s steps (found_states x.found) [] (searched_states_first_found s x.found searched.found)) g begins has)
 
   pub searched_states_none_hangs : FlatSearchHasNoHang s (found_states x.found) (length (found_states x.found)) → (g : List Event) → ¬ IsFlatBeginningHanging s g
   searched_states_none_hangs none g hang =
@@ -489,7 +575,7 @@ module _ (s : Plan) (x : Search) (steps : List (Vec ScriptCall)) (lawful : AreLa
       (slice_get_within (found_states x.found) known.place known.state known.at) known.at known.knows c.first c.second c.apart
       c.conflict
 
-  pub searched_states_all_outcomes : (d : Detail) → x.found.telling ≡ outcome_telling_of_script s d
+  pub searched_states_all_outcomes : (d : Detail) → x.found.first.telling ≡ outcome_telling_of_script s d
       → AreAllOutcomesExplored s d (map explored_outcome x.outcomes.keys)
   searched_states_all_outcomes d tells replies outcome =
       let t = outcome_telling_of_script s d in
@@ -508,7 +594,7 @@ module _ (s : Plan) (x : Search) (steps : List (Vec ScriptCall)) (lawful : AreLa
       })
 
 pub searched_states_some_outcomes : (s : Plan) (d : Detail) (x : Search) (steps : List (Vec ScriptCall)) (n : ℕ)
-    → x.found.telling ≡ outcome_telling_of_script s d → FlatSearchedUpTo s x steps n
+    → x.found.first.telling ≡ outcome_telling_of_script s d → FlatSearchedUpTo s x steps n
     → AreExploredOutcomes s d (map explored_outcome x.outcomes.keys)
 searched_states_some_outcomes s d x steps n tells searched = record {
   each = λ replies has.

@@ -1,5 +1,5 @@
 -- What is kept of who waits for what and who holds a lock, and what of it is counted.
-use Rattle.std.proofs.Common.{◌≡◌, ◌≢◌, ℕ, ◌+◌, ◌<◌, ◌==◌, ◌&&◌, inl, inr, Bool, cond, List, [], ◌∷◌, length, Option, Some, slice_index_or, slice_set, refl, sym, ap, subst, ◌∙◌, get_or-set_same, get_or-set_other, arith}
+use Rattle.std.proofs.Common.{◌≡◌, ◌≢◌, ℕ, zero, suc, ◌+◌, ◌<◌, ◌==◌, ◌&&◌, inl, inr, Bool, cond, List, [], ◌∷◌, length, Option, Some, slice_index_or, slice_set, refl, sym, ap, subst, ◌∙◌, get_or-set_same, get_or-set_other, arith}
 use Rattle.std.specs.Prelude.{None}
 use Rattle.std.proofs.lemmas.Bool.{cases_eq, eq-eqb, ne_eqb}
 use Rattle.std.proofs.lemmas.Option.{none-some, same_Some}
@@ -13,8 +13,8 @@ use Rattle.journal.proofs.Order.EventPlacesAndCounts.{event_count-append}
 use Rattle.judge.specs.Why.{WhyWaitsFor}
 use Rattle.explore.specs.declared.wait_code.WaitCode.{WaitCode}
 use Rattle.explore.specs.declared.wait_code.WaitCode.TheVariants.{Lock, Barrier, Flag}
-use Rattle.explore.specs.declared.wait_code.Seat.{Seat}
-use Rattle.explore.specs.WaitCodes.{WaitCodesAreKept, wait_code_arrivals_open, wait_code_end_of, wait_code_ending, wait_code_seated}
+use Rattle.explore.specs.declared.wait_code.LockHolder.{LockHolder}
+use Rattle.explore.specs.WaitCodes.{WaitCodesAreKept, wait_code_arrivals_open, wait_code_end_of, wait_code_ending, wait_code_holder, wait_code_holder_of}
 
 -- who waits for a lock is kept as that
 pub wait_code_ending_lock : (o : Option WaitCode) (l : ℕ) → wait_code_ending o ≡ Some (kind.Acquire l) → o ≡ Some (Lock l)
@@ -41,19 +41,19 @@ wait_code_ending_once None (Some w) is = absurd (none-some (wait_code_end_of w) 
 wait_code_ending_once (Some v) None is = absurd (none-some (wait_code_end_of v) (sym is))
 wait_code_ending_once (Some v) (Some w) is = ap Some (wait_code_end_once v w (same_Some (wait_code_end_of v) (wait_code_end_of w) is))
 
--- and a seat is one with its processor
-wait_code_seat : ℕ → Seat
-wait_code_seat p = record { 0 = p }
+-- and a holder is one with its processor
+wait_code_holder_made : ℕ → LockHolder
+wait_code_holder_made n = record { 0 = n }
 
-wait_code_seat_once : (s t : Seat) → s.0 ≡ t.0 → s ≡ t
-unfolding wait_code_seat
-wait_code_seat_once s t is = ap wait_code_seat is
+wait_code_holder_of_once : (m n : ℕ) → wait_code_holder_of m ≡ wait_code_holder_of n → m ≡ n
+wait_code_holder_of_once zero zero is = refl
+wait_code_holder_of_once zero (suc q) is = absurd (none-some q is)
+wait_code_holder_of_once (suc p) zero is = absurd (none-some p (sym is))
+wait_code_holder_of_once (suc p) (suc q) is = ap (λ n. suc n) (same_Some p q is)
 
-pub wait_code_seated_once : (a b : Option Seat) → wait_code_seated a ≡ wait_code_seated b → a ≡ b
-wait_code_seated_once None None is = refl
-wait_code_seated_once None (Some t) is = absurd (none-some t.0 is)
-wait_code_seated_once (Some s) None is = absurd (none-some s.0 (sym is))
-wait_code_seated_once (Some s) (Some t) is = ap Some (wait_code_seat_once s t (same_Some s.0 t.0 is))
+pub wait_code_holder_once : (a b : LockHolder) → wait_code_holder a ≡ wait_code_holder b → a ≡ b
+unfolding wait_code_holder_made
+wait_code_holder_once a b is = ap wait_code_holder_made (wait_code_holder_of_once a.0 b.0 is)
 
 -- at the barrier one arrival is open, and else none
 wait_code_open_at : (o : Option WaitCode) (k : Kind) → wait_code_ending o ≡ Some k → wait_code_arrivals_open o ≡ cond (event_departs k) 1 0

@@ -12,6 +12,7 @@ use Rattle.explore.specs.declared.allowed.AllowedOutcomes.{AllowedOutcomes}
 use Rattle.explore.specs.AllowedRoom.{allowed_room_at_most}
 use Rattle.explore.specs.Explored.{explored_outcome}
 use Rattle.explore.specs.declared.outcome_telling.Detail.{Detail}
+use Rattle.explore.specs.declared.showing.ShownRun.{ShownRun}
 use Rattle.explore.specs.OutcomeTelling.{AreOutcomeTellingReplies, outcome_telling_of_script}
 
 -- processors have begun the script, each load answers a latest store of its past, and nothing is fetched
@@ -31,6 +32,15 @@ pub record IsAllowedRun (s : Plan) (g : List Event) : Type 0 where
 abbrev pub IsAllowedRunOutcome : Plan → Detail → List (List ℕ) → Type 0
 IsAllowedRunOutcome s d replies = (g : List Event) × IsAllowedRun s g × AreOutcomeTellingReplies s (outcome_telling_of_script s d) g replies
 
+-- this run does
+pub record IsAllowedRunShowing (s : Plan) (d : Detail) (g : List Event) (replies : List (List ℕ)) : Type 0 where
+  pub run : IsAllowedRun s g
+  pub told : AreOutcomeTellingReplies s (outcome_telling_of_script s d) g replies
+
+-- what a run that is told shows
+abbrev pub shown_run_outcome : ShownRun → List (List ℕ)
+shown_run_outcome x = explored_outcome x.outcome
+
 -- such runs have so many beginnings at least
 pub record HasAllowedRunBeginnings (s : Plan) (n : ℕ) : Type 0 where
   pub beginnings : List (List Event)
@@ -38,12 +48,12 @@ pub record HasAllowedRunBeginnings (s : Plan) (n : ℕ) : Type 0 where
   pub once : IsOnce beginnings
   pub each : (g : List Event) → Has beginnings g → IsAllowedRunBeginning s g
 
--- what an answer by this detail says, if so many beginnings were asked for: it looked at so many; the rules allow each outcome, and each is there
--- once; if they are said to be all, the rules allow nothing else; and if they aren't, there are more beginnings than were to be looked at
+-- what an answer by this detail says, if so many beginnings were asked for: it looked at so many; the rules allow each run, which shows
+-- its outcome, and each outcome is there once; if they are said to be all, the rules allow nothing else; and if they aren't, there are more beginnings than were to be looked at
 pub record AreAllowedRunOutcomes (s : Plan) (d : Detail) (most : ℕ) (answer : AllowedOutcomes) : Type 0 where
   pub looked_at : HasAllowedRunBeginnings s answer.beginnings
-  pub each : (replies : List (List ℕ)) → Has (map explored_outcome answer.outcomes.items) replies → IsAllowedRunOutcome s d replies
-  pub once : IsOnce (map explored_outcome answer.outcomes.items)
+  pub each : (x : ShownRun) → Has answer.outcomes.items x → IsAllowedRunShowing s d x.events.items (shown_run_outcome x)
+  pub once : IsOnce (map shown_run_outcome answer.outcomes.items)
   pub all : IsTrue answer.are_all → (replies : List (List ℕ)) → IsAllowedRunOutcome s d replies
-      → Has (map explored_outcome answer.outcomes.items) replies
+      → Has (map shown_run_outcome answer.outcomes.items) replies
   pub given_up : answer.are_all ≡ false → HasAllowedRunBeginnings s (allowed_room_at_most s most + 1)

@@ -57,6 +57,6 @@ are_ending_words_settled _ = true
 -- than were asked for, or than fit
 pub record IsExploredUntil (s : Plan) (d : Detail) (words : List (ℕ × ℕ)) (most : ℕ) (answer : ExploredUntil) : Type 0 where
   pub states : HasStatesOfScript s d answer.states
-  pub few : answer.states ≤ state_room_at_most s most + 16
+  pub few : answer.states ≤ state_room_at_most s d most + 16
   pub showing : IsEndingWordsShowing s d words answer.showing
-  pub given_up : are_ending_words_settled answer.showing ≡ false → state_room_at_most s most < answer.states
+  pub given_up : are_ending_words_settled answer.showing ≡ false → state_room_at_most s d most < answer.states

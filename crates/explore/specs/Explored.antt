@@ -10,12 +10,15 @@ use Rattle.explore.specs.declared.explored.Hang.{Hang}
 use Rattle.explore.specs.declared.explored.Hanging.{Hanging}
 use Rattle.explore.specs.declared.explored.Hanging.TheVariants as hanging
 use Rattle.explore.specs.declared.explored.ScriptOutcome.{ScriptOutcome}
+use Rattle.explore.specs.declared.explored.ShownOutcome.{ShownOutcome}
+use Rattle.explore.specs.declared.wait_code.ProcessorNumber.{ProcessorNumber}
 use Rattle.explore.specs.declared.explored.RacyEvents.{RacyEvents}
 use Rattle.explore.specs.declared.explored.Verdict.{Verdict}
 use Rattle.explore.specs.declared.explored.Verdict.TheVariants as verdict
 use Rattle.explore.specs.declared.outcome_telling.Detail.{Detail}
-use Rattle.explore.specs.Prefixes.FlatBeginnings.{IsFlatBeginning, AreFlatBeginningsRaceFree, IsFlatBeginningHanging}
+use Rattle.explore.specs.Prefixes.FlatBeginnings.{IsFlatBeginning, AreFlatBeginningsRaceFree, IsFlatBeginningHanging, IsFlatBeginningWhole}
 use Rattle.explore.specs.FlatOutcomes.{IsFlatOutcome}
+use Rattle.explore.specs.OutcomeTelling.{AreOutcomeTellingReplies, outcome_telling_of_script}
 use Rattle.explore.specs.StateRoom.{state_room_at_most}
 use Rattle.explore.specs.StatesOfScript.{HasStatesOfScript}
 use Rattle.explore.specs.KeptWaiting.{AreKeptWaitingKinds}
@@ -36,6 +39,17 @@ pub record IsExploredHang (s : Plan) (hang : Hang) : Type 0 where
 -- an outcome, as it lies outside of memory
 abbrev pub explored_outcome : ScriptOutcome → List (List ℕ)
 explored_outcome o = map (λ (v : Vec ℕ). v.items) o.replies.items
+
+-- the same of one with a run that shows it
+abbrev pub shown_outcome : ShownOutcome → List (List ℕ)
+shown_outcome x = explored_outcome x.outcome
+
+-- a whole run whose events these processors make shows it, told by this detail
+pub record IsRunOfShownOutcome (s : Plan) (d : Detail) (x : ShownOutcome) : Type 0 where
+  pub events : List Event
+  pub whole : IsFlatBeginningWhole s events
+  pub told : AreOutcomeTellingReplies s (outcome_telling_of_script s d) events (shown_outcome x)
+  pub makers : map (λ (e : Event). e.processor) events ≡ map (λ (n : ProcessorNumber). n.0) x.makers.items
 
 -- whole runs show each of these, told by this detail, and each is there once
 pub record AreExploredOutcomes (s : Plan) (d : Detail) (outcomes : List (List (List ℕ))) : Type 0 where
@@ -73,9 +87,10 @@ is_explored_settled answer = explored_settles answer.verdict answer.hanging answ
 -- states than were asked for, or than fit
 pub record IsExplored (s : Plan) (d : Detail) (most : ℕ) (answer : Explored) : Type 0 where
   pub states : HasStatesOfScript s d answer.states
-  pub few : answer.states ≤ state_room_at_most s most + 16
+  pub few : answer.states ≤ state_room_at_most s d most + 16
   pub verdict : IsExploredVerdict s answer.verdict
   pub hanging : IsExploredHanging s answer.hanging
-  pub outcomes : AreExploredOutcomes s d (map explored_outcome answer.outcomes.items)
-  pub all : IsTrue answer.are_all → AreAllOutcomesExplored s d (map explored_outcome answer.outcomes.items)
-  pub given_up : is_explored_settled answer ≡ false → state_room_at_most s most < answer.states
+  pub outcomes : AreExploredOutcomes s d (map shown_outcome answer.outcomes.items)
+  pub runs : (x : ShownOutcome) → Has answer.outcomes.items x → IsRunOfShownOutcome s d x
+  pub all : IsTrue answer.are_all → AreAllOutcomesExplored s d (map shown_outcome answer.outcomes.items)
+  pub given_up : is_explored_settled answer ≡ false → state_room_at_most s d most < answer.states

@@ -77,6 +77,18 @@ pub record AreFlatSearchOutcomes (s : Plan) (states : List FlatState) (n : ℕ) 
   pub each : (replies : List (List ℕ)) → Has outcomes replies ↔ IsShownByFlatSearch s states n replies
   pub once : IsOnce outcomes
 
+-- the state at this place is whole, and shows this
+pub record IsShownAtFlatSearchPlace (s : Plan) (states : List FlatState) (replies : List (List ℕ)) (place : ℕ) : Type 0 where
+  pub within : place < length states
+  pub shows : (m : FlatState) (g : List Event) → slice_get states place ≡ Some m → MachineKnows s g m
+      → Follows s g × AreOutcomeTellingReplies s m.telling g replies
+
+-- these are places of states that show these outcomes, one of each
+pub record AreFlatSearchPlaces (s : Plan) (states : List FlatState) (outcomes : List (List (List ℕ))) (places : List ℕ) : Type 0 where
+  pub long : length places ≡ length outcomes
+  pub each : (i place : ℕ) (replies : List (List ℕ)) → slice_get outcomes i ≡ Some replies → slice_get places i ≡ Some place
+      → IsShownAtFlatSearchPlace s states replies place
+
 -- none of the first n states is a hang
 abbrev pub FlatSearchHasNoHang : Plan → List FlatState → ℕ → Type 0
 FlatSearchHasNoHang s states n = (place : ℕ) (m : FlatState) (g : List Event) → place < n → slice_get states place ≡ Some m
@@ -87,9 +99,10 @@ pub record FlatSearchHasHang (s : Plan) (states : List FlatState) (place : ℕ) 
   pub within : place < length states
   pub hangs : (m : FlatState) (g : List Event) → slice_get states place ≡ Some m → MachineKnows s g m → IsFlatBeginningHanging s g
 
--- what is noted of the first n states: the outcomes, and a hang, if there is one
+-- what is noted of the first n states: the outcomes, with a place of each, and a hang, if there is one
 pub record AreFlatSearchNotes (s : Plan) (x : Search) (n : ℕ) : Type 0 where
   pub shown : AreFlatSearchOutcomes s (found_states x.found) n (map explored_outcome x.outcomes.keys)
+  pub places : AreFlatSearchPlaces s (found_states x.found) (map explored_outcome x.outcomes.keys) x.shown_at.items
   pub hang : MatchOption x.hang (FlatSearchHasNoHang s (found_states x.found) n) (FlatSearchHasHang s (found_states x.found))
 
 -- the state at this place, after which nothing may come next, may be noted
@@ -146,3 +159,8 @@ IsFlatSearchHangingOpen through _ = ⊤
 -- this is one of these, or put at their end
 abbrev pub IsAmongFlatSearched : List (List (List ℕ)) → List (List (List ℕ)) → List (List ℕ) → Type 0
 IsAmongFlatSearched old new x = (Has old x × (new ≡ old)) ⊎ ((¬ Has old x) × (new ≡ old ++ x ∷ []))
+
+-- the same, with its place put at the end of these
+abbrev pub IsNotedInFlatSearch : List (List (List ℕ)) → List (List (List ℕ)) → List ℕ → List ℕ → List (List ℕ) → ℕ → Type 0
+IsNotedInFlatSearch old new before after x place =
+    (Has old x × (new ≡ old) × (after ≡ before)) ⊎ ((¬ Has old x) × (new ≡ old ++ x ∷ []) × (after ≡ before ++ place ∷ []))

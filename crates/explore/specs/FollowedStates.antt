@@ -27,7 +27,7 @@ pub record IsFollowedState (s : Plan) (rows : List (Vec ScriptCall)) (x y : Foun
   pub known : (m : FlatState) (g : List Event) → slice_get (found_states x) place ≡ Some m → MachineKnows s g m
       → IsFoundByFreeRun s rows (found_states y) (did g p k)
   pub few : length (found_states y) ≤ length (found_states x) + 1
-  pub telling : y.telling ≡ x.telling
+  pub telling : y.first.telling ≡ x.first.telling
 
 -- of the state at this place of a lawful script each of these may come next
 pub record MayBeFollowedStateByEach (s : Plan) (rows : List (Vec ScriptCall)) (x : FoundStates) (place : ℕ) (nexts : List (Option Kind)) : Type 0 where
@@ -44,4 +44,9 @@ pub record AreFollowedStates (s : Plan) (rows : List (Vec ScriptCall)) (x y : Fo
   pub known : (m : FlatState) (g : List Event) (p : ℕ) (k : Kind) → p < n → slice_get (found_states x) place ≡ Some m
       → MachineKnows s g m → slice_index_or nexts p None ≡ Some k → IsFoundByFreeRun s rows (found_states y) (did g p k)
   pub few : length (found_states y) ≤ length (found_states x) + n
-  pub telling : y.telling ≡ x.telling
+  pub telling : y.first.telling ≡ x.first.telling
+
+-- p is the last of these that may do something
+pub record IsLastNext (nexts : List (Option Kind)) (p : ℕ) : Type 0 where
+  pub within : p < length nexts
+  pub last : (q : ℕ) (k : Kind) → slice_index_or nexts q None ≡ Some k → q ≤ p

@@ -1,7 +1,6 @@
 -- Which events are followed: one that commutes with all that other processors may do, the asks for one lock, or all.
 use Rattle.std.specs.Prelude.{ℕ, ◌≡◌, ◌<◌, ◌≤◌, ◌==◌, ◌⊎◌, Bool, true, false, if◌then◌else◌, IsTrue, Option, Some, None, List, [], slice_get, slice_index, slice_index_or}
 use Rattle.std.specs.Global.{Vec}
-use Rattle.journal.specs.declared.event.Event.{Event}
 use Rattle.journal.specs.declared.event.Kind.{Kind}
 use Rattle.journal.specs.declared.event.Kind.TheVariants.{Ask}
 use Rattle.journal.specs.Events.{event_address}
@@ -23,10 +22,6 @@ pub record IsFreeForChoice (rows : List (Vec ScriptCall)) (k : Kind) : Type 0 wh
 pub record IsFreeForChoiceByWords (words : List Bool) (k : Kind) : Type 0 where
   pub no_ask : is_ask_in_free_choice k ≡ false
   pub guarded : (w : ℕ) → event_address k ≡ Some w → IsTrue (slice_index_or words w false)
-
--- this event is one of those that may come next, and is free
-abbrev pub IsFreeChoiceFromNexts : List Bool → List (Option Kind) → Event → Type 0
-IsFreeChoiceFromNexts words nexts e = (slice_index_or nexts e.processor None ≡ Some e.kind) × IsFreeForChoiceByWords words e.kind
 
 -- the row's step at place i asks for the lock
 abbrev pub IsFreeChoiceAskAt : List ScriptCall → ℕ → ℕ → Type 0

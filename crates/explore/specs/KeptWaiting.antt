@@ -15,7 +15,9 @@ use Rattle.judge.specs.JudgedSizes.{AreJudgedSizesSmall}
 use Rattle.judge.specs.FrontTells.{FrontTellsFlagSet}
 use Rattle.judge.specs.Why.{WhyWaitsFor}
 use Rattle.explore.specs.declared.waiting.Waiting.{Waiting}
-use Rattle.explore.specs.WaitCodes.{WaitCodesAreKept, wait_code_arrivals_open, wait_code_seated}
+use Rattle.explore.specs.declared.waiting.WaitingAsks.{WaitingAsks}
+use Rattle.explore.specs.declared.waiting.WaitingGrants.{WaitingGrants}
+use Rattle.explore.specs.WaitCodes.{WaitCodesAreKept, wait_code_arrivals_open, wait_code_holder, wait_code_nobody}
 
 -- of each processor what it waits for, if it waits
 abbrev pub AreKeptWaitingKinds : List Event → List (Option Kind) → Type 0
@@ -40,7 +42,7 @@ pub record TellsKeptWaiting (j : List Event) (x : Waiting) : Type 0 where
   pub waits : WaitCodesAreKept j x.waits
   pub arrivals : (p : ℕ) → slice_index x.arrivals p ≡ event_count event_arrives j p
   pub departures : (p : ℕ) → event_count event_departs j p + wait_code_arrivals_open (slice_index_or x.waits p None) ≡ event_count event_arrives j p
-  pub holders : (l q : ℕ) → (wait_code_seated (slice_index_or x.holders l None) ≡ Some q) ↔ Holds j q l
+  pub holders : (l q : ℕ) → (wait_code_holder (slice_index_or x.holders l wait_code_nobody) ≡ Some q) ↔ Holds j q l
   pub flags : (f : ℕ) → IsTrue (slice_index_or x.flags f false) ↔ FrontTellsFlagSet j f
   pub asked : AreKeptWaitingAsks j x.asked.items
 
@@ -51,6 +53,11 @@ pub record IsLikeKeptWaiting (x y : Waiting) : Type 0 where
   pub holders : y.holders ≡ x.holders
   pub flags : y.flags ≡ x.flags
   pub asked : y.asked.items ≡ x.asked.items
+
+-- it waits for this, and that has come
+abbrev pub IsWaitingOfParts : WaitingAsks → WaitingGrants → Waiting → Type 0
+IsWaitingOfParts asks grants =
+    IsLikeKeptWaiting (record { waits = asks.waits; arrivals = grants.arrivals; holders = grants.holders; flags = grants.flags; asked = asks.asked })
 
 -- in a cluster of so many processors, p's event of this kind is in range, and this tells some events
 pub record IsKeptWaitingPossible (x : Waiting) (processors p : ℕ) (k : Kind) : Type 0 where

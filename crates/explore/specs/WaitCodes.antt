@@ -1,12 +1,13 @@
 -- What a processor waits for, and who holds a lock, as they are kept.
-use Rattle.std.specs.Prelude.{ℕ, ◌≡◌, ◌↔◌, Option, Some, None, List, slice_index_or}
+use Rattle.std.specs.Prelude.{ℕ, zero, suc, ◌≡◌, ◌↔◌, Option, Some, None, List, slice_index_or}
 use Rattle.journal.specs.declared.event.Event.{Event}
 use Rattle.journal.specs.declared.event.Kind.{Kind}
 use Rattle.journal.specs.declared.event.Kind.TheVariants as kind
 use Rattle.judge.specs.Why.{WhyWaitsFor}
 use Rattle.explore.specs.declared.wait_code.WaitCode.{WaitCode}
 use Rattle.explore.specs.declared.wait_code.WaitCode.TheVariants.{Lock, Barrier, Flag}
-use Rattle.explore.specs.declared.wait_code.Seat.{Seat}
+use Rattle.explore.specs.declared.wait_code.LockHolder.{LockHolder}
+use Rattle.explore.specs.declared.wait_code.ProcessorNumber.{ProcessorNumber}
 
 -- the event that ends a wait
 abbrev pub wait_code_end_of : WaitCode → Kind
@@ -28,7 +29,20 @@ abbrev pub wait_code_arrivals_open : Option WaitCode → ℕ
 wait_code_arrivals_open (Some Barrier) = 1
 wait_code_arrivals_open _ = 0
 
--- the processor that has a seat
-abbrev pub wait_code_seated : Option Seat → Option ℕ
+-- the processor that has this number
+abbrev pub wait_code_seated : Option ProcessorNumber → Option ℕ
 wait_code_seated None = None
 wait_code_seated (Some s) = Some s.0
+
+-- who holds a lock, by the number that is kept of that
+abbrev pub wait_code_holder_of : ℕ → Option ℕ
+wait_code_holder_of zero = None
+wait_code_holder_of (suc p) = Some p
+
+-- who holds a lock, if anybody does
+abbrev pub wait_code_holder : LockHolder → Option ℕ
+wait_code_holder h = wait_code_holder_of h.0
+
+-- nobody holds it
+abbrev pub wait_code_nobody : LockHolder
+wait_code_nobody = record { 0 = 0 }

@@ -3,8 +3,7 @@ ghost use Rattle.std.specs.Prelude.{◌≡◌, ◌↔◌, ◌<◌, ◌≤◌, �
 ghost use Rattle.std.specs.Global.{Vec as AVec};
 ghost use Rattle.journal.specs.declared.event.Event.{Event as AnEvent};
 ghost use Rattle.journal.specs.declared.event.Kind.{Kind as AKind};
-ghost use Rattle.conformance.specs.FlatRuns.{FlatRunHasNoFetch};
-ghost use Rattle.conformance.specs.Follows.{calls_of};
+ghost use Rattle.conformance.specs.Follows.{calls_of, is_fetch};
 ghost use Rattle.explore.specs.declared.prefixes.script_call.ScriptCall.{ScriptCall as AStep};
 ghost use Rattle.explore.specs.Prefixes.ScriptCalls.{FitsScriptCall, last_reply_of_script_calls, replyless_script_call, script_call_reply_after};
 ghost use Rattle.explore.specs.OutcomeTelling.{outcome_telling_replies};
@@ -58,27 +57,36 @@ pub fn allowed_calls_reply_before(events: &[Event], processor: usize) -> u32
     reply
 }
 
-/// Puts the event's kind at the end, if it is the processor's.
+/// Whether the event is a fetch, which is no call.
+fn is_allowed_fetch(kind: Kind) -> bool
+    ensures { result ≡ is_fetch kind }
+{
+    match kind {
+        Kind::Fetch { .. } => true,
+        _ => false,
+    }
+}
+
+/// Puts the event's kind at the end, if the processor called it.
 fn keep_allowed_call_of(
     calls: &mut Vec<Kind>,
     event: Event,
     processor: usize,
 ) -> Result<(), AllocError>
-    ensures { OnOk result (calls.new.items ≡ calls.old.items ++ cond (event.processor == processor) (event.kind ∷ []) []) }
+    ensures { OnOk result (calls.new.items ≡ calls.old.items ++ calls_of (event ∷ []) processor) }
 {
-    if event.processor == processor {
+    if event.processor == processor && !is_allowed_fetch(event.kind) {
         calls.push(event.kind)?;
     }
     Ok(())
 }
 
-/// What the processor called among these events, in order, if nothing was fetched. The only error is running out of memory.
+/// What the processor called among these events, in order. The only error is running out of memory.
 pub fn allowed_calls_of(
     alloc: Global,
     events: &[Event],
     processor: usize,
 ) -> Result<Vec<Kind>, AllocError>
-    requires { FlatRunHasNoFetch events.now }
     ensures { IfOk result (λ v. v.items ≡ calls_of events.now processor) }
 {
     let mut calls = Vec::new(alloc);
@@ -96,8 +104,7 @@ fn allowed_calls_replies_of(
     processor: usize,
     steps: &[ScriptCall],
 ) -> Result<Vec<u32>, AllocError>
-    requires fetchless { FlatRunHasNoFetch events.now }
-    requires few { length (calls_of events.now processor) ≤ length steps.now }
+    requires { length (calls_of events.now processor) ≤ length steps.now }
     ensures { IfOk result (λ v. v.items ≡ outcome_telling_replies telling processor steps.now 0 (calls_of events.now processor)) }
 {
     let calls = allowed_calls_of(alloc, events, processor)?;
@@ -112,8 +119,7 @@ pub fn allowed_calls_replies(
     events: &[Event],
     steps: &[Vec<ScriptCall>],
 ) -> Result<Vec<Vec<u32>>, AllocError>
-    requires fetchless { FlatRunHasNoFetch events.now }
-    requires few { (p : ℕ) (row : AVec AStep) → slice_get steps.now p ≡ Some row
+    requires { (p : ℕ) (row : AVec AStep) → slice_get steps.now p ≡ Some row
         → length (calls_of events.now p) ≤ length row.items }
     ensures long { IfOk result (λ v. length v.items ≡ length steps.now) }
     ensures each { IfOk result (λ v. (p : ℕ) (row : AVec AStep) (told : AVec ℕ) → slice_get steps.now p ≡ Some row

@@ -1,9 +1,12 @@
 //! The search by the rules of the memory alone: beginnings of runs are looked at, the longest first.
-ghost use Rattle.std.specs.Prelude.{◌≡◌, ◌⊎◌, [], IfOk, OnOk};
+ghost use Rattle.std.specs.Prelude.{◌≡◌, ◌⊎◌, [], IfOk, OnOk, map};
+ghost use Rattle.base.specs.InOrderOnce.{Has};
 ghost use Rattle.lrc_script.specs.Prelude.{IsLawful, Plan, plan_of};
-ghost use Rattle.explore.specs.AllowedRuns.{AreAllowedRunOutcomes};
+ghost use Rattle.explore.specs.AllowedRuns.{AreAllowedRunOutcomes, IsAllowedRunShowing, shown_run_outcome};
+ghost use Rattle.explore.specs.declared.showing.ShownRun.{ShownRun as AShownRun};
+ghost use Rattle.explore.specs.Explored.{explored_outcome};
 ghost use Rattle.explore.specs.AllowedBeginnings.{TellsAllowedBeginning, allowed_beginning_events};
-ghost use Rattle.explore.specs.AllowedSearch.{IsAllowedSearchFollowed, IsAllowedSearchStep, IsAllowedSearched, allowed_search_found};
+ghost use Rattle.explore.specs.AllowedSearch.{AreAllowedSearchRuns, IsAllowedSearchFollowed, IsAllowedSearchStep, IsAllowedSearched, IsNotedInAllowedSearch, allowed_search_found};
 ghost use Rattle.explore.specs.Machines.{AreLawfulMachineSteps};
 ghost use Rattle.explore.specs.declared.outcome_telling.Detail.{Detail as ADetail};
 
@@ -16,8 +19,10 @@ use crate::explored::ScriptOutcome;
 use crate::outcome_telling::{Detail, OutcomeTelling};
 use crate::prefixes::{ScriptCall, script_calls_of_all};
 use crate::progress::Progress;
-use crate::search::{add_search_outcome, search_outcomes_listed};
+use crate::search::search_outcomes_listed;
+use crate::showing::ShownRun;
 use indexmap::IndexSet;
+use journal::Event;
 use lrc_script::script::Script;
 use std::alloc::{AllocError, Global};
 use std::mem;
@@ -29,6 +34,46 @@ pub struct AllowedSearch {
     pub pending: Vec<AllowedBeginning>,
     /// What the whole runs show that were met.
     outcomes: IndexSet<ScriptOutcome>,
+    /// Of each of these the events of a run that shows it.
+    runs: Vec<Vec<Event>>,
+}
+
+/// Adds an outcome with the run that shows it, if it is a new one. The only error is running out of memory.
+fn note_allowed_outcome(
+    alloc: Global,
+    outcomes: &mut IndexSet<ScriptOutcome>,
+    runs: &mut Vec<Vec<Event>>,
+    outcome: ScriptOutcome,
+    events: &[Event],
+) -> Result<(), AllocError>
+    ensures { OnOk result (IsNotedInAllowedSearch (map explored_outcome outcomes.old.keys) (map explored_outcome outcomes.new.keys)
+        runs.old.items runs.new.items (explored_outcome outcome) events.now) }
+{
+    let (_, is_new) = outcomes.insert_full(outcome)?;
+    if is_new {
+        let run = Vec::from_slice(alloc, events)?;
+        runs.push(run)?;
+    }
+    Ok(())
+}
+
+/// These outcomes, each with its run. The only error is running out of memory.
+fn allowed_outcomes_with_runs(
+    alloc: Global,
+    outcomes: Vec<ScriptOutcome>,
+    runs: &[Vec<Event>],
+) -> Result<Vec<ShownRun>, AllocError>
+    requires { (s : Plan) × (d : ADetail) × AreAllowedSearchRuns s d (map explored_outcome outcomes.items) runs.now }
+    ensures listed { IfOk result (λ v. map shown_run_outcome v.items ≡ map explored_outcome outcomes.items) }
+    ensures runs { IfOk result (λ v. (s : Plan) (d : ADetail) → AreAllowedSearchRuns s d (map explored_outcome outcomes.items) runs.now
+        → (x : AShownRun) → Has v.items x → IsAllowedRunShowing s d x.events.items (shown_run_outcome x)) }
+{
+    let mut shown = Vec::with_capacity(alloc, outcomes.len())?;
+    for outcome in outcomes {
+        let events = Vec::from_slice(alloc, &runs[shown.len()])?;
+        shown.push(ShownRun { events, outcome })?;
+    }
+    Ok(shown)
 }
 
 impl AllowedSearch {
@@ -42,6 +87,7 @@ impl AllowedSearch {
         Ok(AllowedSearch {
             pending,
             outcomes: IndexSet::new(alloc),
+            runs: Vec::new(alloc),
         })
     }
 
@@ -80,7 +126,9 @@ impl AllowedSearch {
         if beginning.is_whole(steps) {
             let telling = OutcomeTelling::of_script(script, detail);
             let replies = beginning.replies(alloc, telling, steps)?;
-            return add_search_outcome(&mut self.outcomes, ScriptOutcome { replies });
+            let outcome = ScriptOutcome { replies };
+            let events = beginning.events();
+            return note_allowed_outcome(alloc, &mut self.outcomes, &mut self.runs, outcome, events);
         }
         self.follow(alloc, script, steps, beginning)
     }
@@ -111,15 +159,17 @@ impl AllowedSearch {
     }
 }
 
-/// Looks for all that runs of the script may show by the rules of the memory alone, told by this detail: each load answers a latest store of its past, or 0
-/// if its past has none. It gives up after `most` beginnings of runs, or after as many as are done in some seconds (`allowed_room_size`). The only error is running out of memory.
+/// Looks for all that runs of the script may show by the rules of the memory alone, told by this detail: each load answers
+/// a latest store of its past, or 0 if its past has none. It gives up after `most` beginnings of runs, or after as many as
+/// are done in some seconds (`allowed_room_size`). The only error is running out of memory.
 ///
-/// Nothing is said of which of it this memory shows: that applies the records of intervals in the order in which these were closed, and
-/// its processors fetch pages, which is left out here.
-/// While it looks, `progress` is told how many beginnings were looked at.
+/// Nothing is said of which of it this memory shows: that applies the records of intervals in the order in which these were
+/// closed, and its processors fetch pages, which is left out here. While it looks, `progress` is told how many beginnings
+/// were looked at.
 ///
-/// If some processor may do next what commutes with all that others may do, that alone is followed (`allowed_choice`): by swaps of
-/// neighbours each run becomes one in which it comes first, and each load's past stays what it was. So accesses are never ordered; what is, are asks, sets and awaits.
+/// If some processor may do next what commutes with all that others may do, that alone is followed (`allowed_choice`): by
+/// swaps of neighbours each run becomes one in which it comes first, and each load's past stays what it was. So accesses
+/// are never ordered; what is, are asks, sets and awaits.
 pub fn allowed_outcomes<P: Progress>(
     alloc: Global,
     script: &Script,
@@ -136,9 +186,10 @@ pub fn allowed_outcomes<P: Progress>(
     let beginnings = search.look_at_all(alloc, script, &steps, detail, most, progress)?;
     let are_all = search.pending.is_empty();
     let outcomes = mem::replace(&mut search.outcomes, IndexSet::new(alloc));
+    let outcomes = search_outcomes_listed(alloc, outcomes)?;
     Ok(AllowedOutcomes {
         beginnings,
-        outcomes: search_outcomes_listed(alloc, outcomes)?,
+        outcomes: allowed_outcomes_with_runs(alloc, outcomes, &search.runs)?,
         are_all,
     })
 }

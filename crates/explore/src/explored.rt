@@ -2,6 +2,7 @@
 ghost use Rattle.std.specs.Prelude.{◌≡◌};
 ghost use Rattle.explore.specs.Explored.{is_explored_settled};
 
+use crate::wait_code::ProcessorNumber;
 use journal::{Event, Kind};
 
 /// Whether two accesses of a script race in some order.
@@ -34,6 +35,14 @@ pub struct ScriptOutcome {
     pub replies: Vec<Vec<u32>>,
 }
 
+/// What a whole run shows, and one such run.
+#[derive(Drop)]
+pub struct ShownOutcome {
+    pub outcome: ScriptOutcome,
+    /// Of each event of the run, in order, the processor that makes it.
+    pub makers: Vec<ProcessorNumber>,
+}
+
 /// Events after which nothing can come, though not all processors are done.
 #[derive(Drop)]
 pub struct Hang {
@@ -58,7 +67,7 @@ pub struct Explored {
     pub verdict: Verdict,
     pub hanging: Hanging,
     /// What the whole runs show that were met, each outcome once.
-    pub outcomes: Vec<ScriptOutcome>,
+    pub outcomes: Vec<ShownOutcome>,
     /// Whether whole runs show nothing else.
     pub are_all: bool,
 }

@@ -26,20 +26,18 @@ use journal::Kind;
 use lrc_script::script::Script;
 use std::alloc::{AllocError, Global};
 
-/// A script's run on one flat memory, after some events. Machines that are equal go on alike.
+/// A script's run on one flat memory, after some events. Machines in the same state go on alike.
 #[derive(Drop)]
-#[derive_where(PartialEq, Eq, Hash)]
 pub struct FlatState {
-    /// What outcomes tell. It is one for all states of a search, so it isn't compared.
-    #[derive_where(skip(EqHashOrd))]
+    /// What outcomes tell. It is one for all states of a search.
     pub(crate) telling: OutcomeTelling,
     /// How many calls each processor has made.
-    done: [u16; MOST_PROCESSORS],
+    pub(crate) done: [u16; MOST_PROCESSORS],
     /// The replies of each that outcomes tell, in order, and then the one that its next step adds to.
-    replies: Vec<Vec<u32>>,
+    pub(crate) replies: Vec<Vec<u32>>,
     /// The words of the memory.
-    memory: Vec<u32>,
-    waiting: Waiting,
+    pub(crate) memory: Vec<u32>,
+    pub(crate) waiting: Waiting,
 }
 
 /// The call that the step says, after this reply, with the word of the memory if it loads.

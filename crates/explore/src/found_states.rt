@@ -1,166 +1,239 @@
 //! The states that a search has found, and where each was found first.
-ghost use Rattle.std.specs.Prelude.{◌≡◌, ◌<◌, ◌≤◌, ◌++◌, [], Some, IfOk, OnOk, length, reverse, slice_get};
-ghost use Rattle.lrc_script.specs.Prelude.{Plan};
+ghost use Rattle.std.specs.Prelude.{MatchOption, None, slice_index_or, ◌≢◌, ◌≡◌, ◌<◌, ◌≤◌, ◌++◌, [], ℕ, List, Some, IfOk, OnOk, length, map, reverse, slice_get};
+ghost use Rattle.base.specs.Prelude.{most_processors};
+ghost use Rattle.journal.specs.declared.event.Event.{Event as AnEvent};
+ghost use Rattle.lrc_script.specs.Prelude.{IsLawful, Plan};
 ghost use Rattle.explore.specs.declared.flat_state.FlatState.{FlatState as AMachine};
-ghost use Rattle.explore.specs.FoundStates.{AreFoundStates, FoundStateAdded, found_states};
-ghost use Rattle.explore.specs.FollowedStates.{AreFollowedStates, IsFollowedState, MayBeFollowedState, MayBeFollowedStateByEach};
+ghost use Rattle.explore.specs.declared.wait_code.ProcessorNumber.{ProcessorNumber as ANumber};
+ghost use Rattle.explore.specs.FoundStates.{AreEventsOfMakers, AreFoundStateMakers, AreFoundStates, AreFoundStatesKept, FoundStateAdded, IsFoundStateAt, found_states};
+ghost use Rattle.journal.specs.declared.event.Kind.{Kind as AKind};
+ghost use Rattle.explore.specs.FollowedStates.{AreFollowedStates, IsFollowedState, IsLastNext, MayBeFollowedState, MayBeFollowedStateByEach};
 ghost use Rattle.explore.specs.FreeChoice.{AreFreeChoiceTextFacts};
 ghost use Rattle.explore.specs.StatesOfScript.{HasStatesOfScript};
-ghost use Rattle.explore.specs.Machines.{MachineKnows};
+ghost use Rattle.explore.specs.Machines.{AreLawfulMachineSteps, MachineKnows, MachinesInSameState};
 ghost use Rattle.explore.specs.declared.outcome_telling.Detail.{Detail as ADetail};
 ghost use Rattle.explore.specs.OutcomeTelling.{outcome_telling_of_script};
 
 use crate::flat_state::FlatState;
-use crate::free_run::make_free_run;
-use crate::outcome_telling::OutcomeTelling;
+use crate::free_run::{MOST_BEHIND, make_free_run};
+use crate::kept_state::{KeptState, StateParts};
+use crate::origins::Origins;
 use crate::prefixes::ScriptCall;
+use crate::state_hasher::StateSet;
 use crate::text_facts::TextFacts;
+use crate::wait_code::ProcessorNumber;
 use indexmap::IndexSet;
 use journal::{Event, Kind};
 use std::alloc::{AllocError, Global};
-
-/// Where a state was found first: it is what an earlier state comes to by these events.
-#[derive(Drop)]
-pub struct Origin {
-    /// The place of the earlier state.
-    pub from: usize,
-    pub events: Vec<Event>,
-}
+use std::hash::BuildHasherDefault;
 
 /// States, each once, in the order in which they were found.
 #[derive(Drop)]
 pub struct FoundStates {
     alloc: Global,
-    /// What outcomes tell.
-    telling: OutcomeTelling,
-    states: IndexSet<FlatState>,
-    /// Of each state where it comes from; the first one comes from nowhere.
-    origins: Vec<Option<Origin>>,
+    /// The first state. By the makers of its events each other one can be made from it again.
+    first: FlatState,
+    parts: StateParts,
+    states: StateSet<KeptState>,
+    /// Where each state but the first one comes from.
+    origins: Origins,
 }
 
-/// Adds these events, the last one first.
-fn push_found_state_events(
+/// Adds these makers, the last one first.
+fn push_found_state_makers(
     alloc: Global,
-    events: &mut Vec<Event>,
-    more: &[Event],
+    makers: &mut Vec<ProcessorNumber>,
+    more: &[ProcessorNumber],
 ) -> Result<(), AllocError>
-    ensures { OnOk result (events.new.items ≡ events.old.items ++ reverse more.now) }
+    ensures { OnOk result (makers.new.items ≡ makers.old.items ++ reverse more.now) }
 {
     let mut back = Vec::from_slice(alloc, more)?;
     back.reverse();
-    events.extend_from_slice(&back)
+    makers.extend_from_slice(&back)
+}
+
+/// The events that these processors make from the first state on, one after the other. The only error is running out of memory.
+fn events_of_makers(
+    alloc: Global,
+    first: FlatState,
+    steps: &[Vec<ScriptCall>],
+    makers: &[ProcessorNumber],
+) -> Result<Vec<Event>, AllocError>
+    requires { (s : Plan) × (es : List AnEvent) × AreEventsOfMakers s steps.now first es makers.now }
+    ensures { IfOk result (λ v. (s : Plan) (es : List AnEvent) → AreEventsOfMakers s steps.now first es makers.now → v.items ≡ es) }
+{
+    let mut state = first;
+    let mut events = Vec::with_capacity(alloc, makers.len())?;
+    for maker in makers {
+        let processor = maker.processor();
+        let kind = state.next(steps, processor).unwrap();
+        state.step(steps, processor, kind)?;
+        events.push(Event { processor, kind })?;
+    }
+    Ok(events)
+}
+
+/// The last processor that may do something next.
+fn last_next(nexts: &[Option<Kind>]) -> Option<usize>
+    ensures { MatchOption result ((p : ℕ) (k : AKind) → slice_index_or nexts.now p None ≢ Some k) (IsLastNext nexts.now) }
+{
+    for behind in 0..nexts.len() {
+        let processor = nexts.len() - 1 - behind;
+        if let Some(_) = nexts[processor] {
+            return Some(processor);
+        }
+    }
+    None
 }
 
 impl FoundStates {
     /// The first state alone. The only error is running out of memory.
     pub fn new(alloc: Global, first: FlatState) -> Result<FoundStates, AllocError>
         ensures found { IfOk result (λ x. (s : Plan) → MachineKnows s [] first → AreFoundStates s x) }
-        ensures telling { IfOk result (λ x. x.telling ≡ first.telling) }
+        ensures telling { IfOk result (λ x. x.first.telling ≡ first.telling) }
         ensures few { IfOk result (λ x. length (found_states x) ≤ 1) }
     {
-        let mut found = FoundStates {
+        let mut parts = StateParts::new(alloc);
+        let kept = parts.keep(first.copy()?)?;
+        let mut states = IndexSet::with_hasher(alloc, BuildHasherDefault::new());
+        states.insert_full(kept)?;
+        Ok(FoundStates {
             alloc,
-            telling: first.telling,
-            states: IndexSet::new(alloc),
-            origins: Vec::new(alloc),
-        };
-        found.add(first, None)?;
-        Ok(found)
+            first,
+            parts,
+            states,
+            origins: Origins::new(alloc),
+        })
     }
 
     /// How many states there are. A script has as many at least, by the same detail.
     pub fn len(&self) -> usize
         ensures count { result ≡ length (found_states self.now) }
-        ensures states { (s : Plan) (d : ADetail) → AreFoundStates s self.now → self.now.telling ≡ outcome_telling_of_script s d
+        ensures states { (s : Plan) (d : ADetail) → AreFoundStates s self.now → self.now.first.telling ≡ outcome_telling_of_script s d
             → HasStatesOfScript s d result }
     {
         self.states.len()
     }
 
-    /// The state at this place.
-    pub fn at(&self, place: usize) -> &FlatState
-        requires { place < length (found_states self.now) }
-        ensures { slice_get (found_states self.now) place ≡ Some result.now }
+    /// The state at this place. The only error is running out of memory.
+    pub fn at(&self, place: usize) -> Result<FlatState, AllocError>
+        requires place { place < length (found_states self.now) }
+        requires kept { AreFoundStatesKept self.now }
+        ensures { IfOk result (IsFoundStateAt self.now place) }
     {
-        &self.states[place]
+        self.parts.open(&self.first, &self.states[place])
     }
 
-    /// Adds a state, if it is a new one. The only error is running out of memory, after which this may be of no use.
-    fn add(&mut self, state: FlatState, origin: Option<Origin>) -> Result<(), AllocError>
-        ensures { OnOk result (FoundStateAdded self.old self.new state origin) }
+    /// Adds a state, if it is a new one, which comes from the one at this place by events of these processors. The only error is
+    /// running out of memory, after which this may be of no use.
+    fn add(
+        &mut self,
+        state: FlatState,
+        from: usize,
+        makers: &[ProcessorNumber],
+    ) -> Result<(), AllocError>
+        requires { AreFoundStatesKept self.old }
+        ensures { OnOk result (FoundStateAdded self.old self.new state (record { from = from; makers = makers.now })) }
     {
-        let (_, is_new) = self.states.insert_full(state)?;
+        let kept = self.parts.keep(state)?;
+        let (_, is_new) = self.states.insert_full(kept)?;
         if is_new {
-            self.origins.push(origin)?;
+            self.origins.push(from, makers)?;
         }
         Ok(())
     }
 
-    /// Adds what the state at this place comes to by the event, and then by free ones (`make_free_run`). The only error is running
-    /// out of memory, after which this may be of no use.
-    pub fn follow(
+    /// Adds what the state at this place, which is given, comes to by the event, and then by free ones (`make_free_run`). The only
+    /// error is running out of memory, after which this may be of no use.
+    fn follow(
         &mut self,
+        state: FlatState,
         steps: &[Vec<ScriptCall>],
         facts: &TextFacts,
         place: usize,
         event: Event,
     ) -> Result<(), AllocError>
+        requires state { IsFoundStateAt self.old place state }
         requires facts { AreFreeChoiceTextFacts steps.now facts.now }
         requires may { (s : Plan) × MayBeFollowedState s steps.now self.old place event.processor event.kind }
         ensures { OnOk result ((s : Plan) → MayBeFollowedState s steps.now self.old place event.processor event.kind
             → IsFollowedState s steps.now self.old self.new place event.processor event.kind) }
     {
-        let mut state = self.at(place).copy()?;
+        let mut state = state;
         state.step(steps, event.processor, event.kind)?;
-        let mut events = Vec::new(self.alloc);
-        events.push(event)?;
-        make_free_run(&mut state, &mut events, steps, facts)?;
-        self.add(
-            state,
-            Some(Origin {
-                from: place,
-                events,
-            }),
-        )
+        let mut makers = Vec::with_capacity(self.alloc, MOST_BEHIND + 1)?;
+        makers.push(ProcessorNumber::of(event.processor))?;
+        make_free_run(&mut state, &mut makers, steps, facts)?;
+        self.add(state, place, &makers)
     }
 
-    /// Adds what the state at this place comes to by each of these events, one of each processor, as `follow` does. The only
-    /// error is running out of memory, after which this may be of no use.
+    /// Adds what the state at this place, which is given, comes to by each of these events, one of each processor, as `follow` does.
+    /// The only error is running out of memory, after which this may be of no use.
     pub fn follow_all(
         &mut self,
+        state: FlatState,
         steps: &[Vec<ScriptCall>],
         facts: &TextFacts,
         place: usize,
         nexts: &[Option<Kind>],
     ) -> Result<(), AllocError>
+        requires state { IsFoundStateAt self.old place state }
         requires facts { AreFreeChoiceTextFacts steps.now facts.now }
         requires may { (s : Plan) × MayBeFollowedStateByEach s steps.now self.old place nexts.now }
         ensures { OnOk result ((s : Plan) → MayBeFollowedStateByEach s steps.now self.old place nexts.now
             → AreFollowedStates s steps.now self.old self.new place nexts.now (length nexts.now)) }
     {
-        for processor in 0..nexts.len() {
+        let Some(last) = last_next(nexts) else {
+            return Ok(());
+        };
+        for processor in 0..last {
             if let Some(kind) = nexts[processor] {
                 let event = Event { processor, kind };
-                self.follow(steps, facts, place, event)?;
+                self.follow(state.copy()?, steps, facts, place, event)?;
             }
         }
-        Ok(())
+        let Some(kind) = nexts[last] else {
+            return Ok(());
+        };
+        let event = Event {
+            processor: last,
+            kind,
+        };
+        self.follow(state, steps, facts, place, event)
     }
 
-    /// The events after which the state at this place was found. The only error is running out of memory.
-    pub fn events_to(&self, alloc: Global, place: usize) -> Result<Vec<Event>, AllocError>
+    /// Of each event after which the state at this place was found, in order, the processor that makes it. The only error is
+    /// running out of memory.
+    pub fn makers_to(&self, alloc: Global, place: usize) -> Result<Vec<ProcessorNumber>, AllocError>
         requires place { place < length (found_states self.now) }
         requires found { (s : Plan) × AreFoundStates s self.now }
         ensures { IfOk result (λ v. (s : Plan) → AreFoundStates s self.now → (m : AMachine)
+            → slice_get (found_states self.now) place ≡ Some m → AreFoundStateMakers s m v.items) }
+    {
+        let mut makers = Vec::new(alloc);
+        let mut place = place;
+        while place > 0 {
+            push_found_state_makers(alloc, &mut makers, self.origins.makers(place - 1))?;
+            place = self.origins.from(place - 1);
+        }
+        makers.reverse();
+        Ok(makers)
+    }
+
+    /// The events after which the state at this place was found. The script's steps are these. The only error is running out of
+    /// memory.
+    pub fn events_to(
+        &self,
+        alloc: Global,
+        steps: &[Vec<ScriptCall>],
+        place: usize,
+    ) -> Result<Vec<Event>, AllocError>
+        requires place { place < length (found_states self.now) }
+        requires found { (s : Plan) × AreLawfulMachineSteps s steps.now × AreFoundStates s self.now }
+        ensures { IfOk result (λ v. (s : Plan) → AreLawfulMachineSteps s steps.now → AreFoundStates s self.now → (m : AMachine)
             → slice_get (found_states self.now) place ≡ Some m → MachineKnows s v.items m) }
     {
-        let mut events = Vec::new(alloc);
-        let mut place = place;
-        while let Some(origin) = &self.origins[place] {
-            push_found_state_events(alloc, &mut events, &origin.events)?;
-            place = origin.from;
-        }
-        events.reverse();
-        Ok(events)
+        let makers = self.makers_to(alloc, place)?;
+        events_of_makers(alloc, self.first.copy()?, steps, &makers)
     }
 }

@@ -1,29 +1,34 @@
 //! Free events, one after another: the states between them are passed over.
 ghost use Rattle.std.specs.Prelude.{◌≡◌, ◌++◌, List, MatchOption, OnOk, ⊤};
-ghost use Rattle.journal.specs.declared.event.Event.{Event as AnEvent};
-ghost use Rattle.lrc_script.specs.Prelude.{Plan};
-ghost use Rattle.explore.specs.FreeChoice.{AreFreeChoiceTextFacts, IsFreeChoiceFromNexts};
-ghost use Rattle.explore.specs.FreeRun.{IsFreeRun};
+ghost use Rattle.explore.specs.FreeChoice.{AreFreeChoiceTextFacts};
+ghost use Rattle.explore.specs.FreeRun.{IsFreeRunNoted, IsNextInFreeRun};
 ghost use Rattle.explore.specs.Machines.{IsMachineRunning};
 
 use crate::flat_state::FlatState;
 use crate::free_choice::is_free_choice;
-use crate::neighbours::neighbour_nexts_of;
+use crate::outcome_telling::outcome_telling_step;
 use crate::prefixes::ScriptCall;
 use crate::text_facts::TextFacts;
-use base::MOST_PROCESSORS;
+use crate::wait_code::ProcessorNumber;
 use journal::{Event, Kind};
 use std::alloc::AllocError;
 
-/// The most free events that are done behind another one. A state is kept with the events that lead to it, so they are few.
-const MOST_BEHIND: usize = 15;
+/// The most free events that are done behind another one. A state is kept with the makers of the events that lead to it, so
+/// they are few.
+pub const MOST_BEHIND: usize = 15;
 
-/// The first of these events that is free.
-fn free_run_first_among(nexts: &[Option<Kind>; MOST_PROCESSORS], guarded: &[bool]) -> Option<Event>
-    ensures { MatchOption result ⊤ (IsFreeChoiceFromNexts guarded.now nexts.now) }
+/// The first free event that may come next. What the processors behind its own may do isn't looked at, nor whether one that asks
+/// for a lock next may do so: an ask isn't free.
+fn free_run_next(state: &FlatState, steps: &[Vec<ScriptCall>], guarded: &[bool]) -> Option<Event>
+    requires { IsMachineRunning state.now steps.now }
+    ensures { MatchOption result ⊤ (IsNextInFreeRun steps.now guarded.now state.now) }
 {
-    for processor in 0..MOST_PROCESSORS {
-        if let Some(kind) = nexts[processor] {
+    for processor in 0..steps.len() {
+        let step = outcome_telling_step(&steps[processor], state.steps_done(processor));
+        if let Some(ScriptCall::Call(Kind::Ask(_))) = step {
+            continue;
+        }
+        if let Some(kind) = state.next(steps, processor) {
             if is_free_choice(guarded, kind) {
                 return Some(Event { processor, kind });
             }
@@ -32,26 +37,24 @@ fn free_run_first_among(nexts: &[Option<Kind>; MOST_PROCESSORS], guarded: &[bool
     None
 }
 
-/// Makes free events as long as there are any, 15 at most, and adds them to the events. The only error is running out of
+/// Makes free events as long as there are any, 15 at most, and adds their makers to these. The only error is running out of
 /// memory, after which the machine may be of no use.
 pub fn make_free_run(
     state: &mut FlatState,
-    events: &mut Vec<Event>,
+    makers: &mut Vec<ProcessorNumber>,
     steps: &[Vec<ScriptCall>],
     facts: &TextFacts,
 ) -> Result<(), AllocError>
     requires running { IsMachineRunning state.old steps.now }
     requires facts { AreFreeChoiceTextFacts steps.now facts.now }
-    ensures { OnOk result ((more : List AnEvent) × (events.new.items ≡ events.old.items ++ more)
-        × IsFreeRun steps.now state.old state.new more) }
+    ensures { OnOk result (IsFreeRunNoted steps.now state.old state.new makers.old.items makers.new.items) }
 {
     for _ in 0..MOST_BEHIND {
-        let nexts = neighbour_nexts_of(state, steps);
-        let Some(event) = free_run_first_among(&nexts, &facts.guarded) else {
+        let Some(event) = free_run_next(state, steps, &facts.guarded) else {
             return Ok(());
         };
         state.step(steps, event.processor, event.kind)?;
-        events.push(event)?;
+        makers.push(ProcessorNumber::of(event.processor))?;
     }
     Ok(())
 }

@@ -57,8 +57,8 @@ fn common_guards(first: &[bool; MOST_LOCKS], second: &[bool; MOST_LOCKS]) -> [bo
 }
 
 /// Whether there is a lock in the set.
-fn has_any_guard(locks: &[bool; MOST_LOCKS]) -> bool
-    ensures { IsTrue result → (l : ℕ) × IsTrue (slice_index_or locks.now l false) }
+pub(crate) fn has_any_guard(locks: &[bool; MOST_LOCKS]) -> bool
+    ensures { IsTrue result ↔ ((l : ℕ) × IsTrue (slice_index_or locks.now l false)) }
 {
     for lock in 0..32 {
         if locks[lock] {
@@ -154,7 +154,7 @@ fn guard_step_departs(step: ScriptCall) -> bool
 }
 
 /// Takes note of the lock that the step takes or gives up.
-fn track_held_guard(held: &mut [bool; MOST_LOCKS], step: ScriptCall)
+pub(crate) fn track_held_guard(held: &mut [bool; MOST_LOCKS], step: ScriptCall)
     requires { (size : ℕ) × IsUserStepWithin size step }
     ensures held { (l : ℕ) → slice_index_or held.new l false
         ≡ text_guard_held_after_step l (slice_index_or held.old l false) step }

@@ -35,8 +35,8 @@ fn racing_history_events(
         first,
         second,
     } = neighbours;
-    let mut events = found.events_to(alloc, place)?;
-    let mut state = found.at(place).copy()?;
+    let mut events = found.events_to(alloc, steps, place)?;
+    let mut state = found.at(place)?;
     state.step(steps, first.processor, first.kind)?;
     let kind = state.next(steps, second.processor).unwrap();
     events.push(first)?;

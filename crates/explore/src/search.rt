@@ -5,9 +5,12 @@ ghost use Rattle.base.specs.Prelude.{most_processors};
 ghost use Rattle.lrc_script.specs.Prelude.{IsLawful, Plan, plan_of};
 ghost use Rattle.lrc_script.specs.Lawful.{plan_addresses};
 ghost use Rattle.explore.specs.declared.prefixes.script_call.ScriptCall.{ScriptCall as AStep};
-ghost use Rattle.explore.specs.Prefixes.Prelude.{AreFlatBeginningsRaceFree};
+ghost use Rattle.explore.specs.Prefixes.Prelude.{AreFlatBeginningsRaceFree, IsFlatBeginningHanging};
+ghost use Rattle.journal.specs.declared.event.Event.{Event as AnEvent};
 ghost use Rattle.explore.specs.FreeChoice.{AreFreeChoiceTextFacts};
-ghost use Rattle.explore.specs.Explored.{IsExplored, IsExploredHang, IsExploredHanging, IsExploredVerdict, explored_outcome};
+ghost use Rattle.explore.specs.Explored.{IsExplored, IsExploredHang, IsExploredHanging, IsExploredVerdict, IsRunOfShownOutcome, explored_outcome, shown_outcome};
+ghost use Rattle.explore.specs.declared.explored.ShownOutcome.{ShownOutcome as AShownOutcome};
+ghost use Rattle.base.specs.InOrderOnce.{Has};
 ghost use Rattle.explore.specs.FoundStates.{AreFoundStates, KeepsFoundStates, found_states};
 ghost use Rattle.explore.specs.Machines.{AreLawfulMachineSteps};
 ghost use Rattle.explore.specs.Racing.{AreRacing};
@@ -15,9 +18,9 @@ ghost use Rattle.explore.specs.StateRoom.{state_room_at_most};
 ghost use Rattle.explore.specs.declared.outcome_telling.Detail.{Detail as ADetail};
 ghost use Rattle.explore.specs.OutcomeTelling.{outcome_telling_of_script};
 ghost use Rattle.explore.specs.FlatSearch.{FlatSearchHasHang, IsAmongFlatSearched, IsFlatSearchedAt, IsFlatSearchedThrough, AreFlatSearchNotes, FlatSearchedUpTo, HasMoreToFlatSearch};
-ghost use Rattle.explore.specs.FlatSearch.{IsFlatSearchHangingOpen, IsFlatSearchVerdictOpen, IsFlatSearched, MayNoteInFlatSearch};
+ghost use Rattle.explore.specs.FlatSearch.{AreFlatSearchPlaces, IsFlatSearchHangingOpen, IsFlatSearchVerdictOpen, IsFlatSearched, IsNotedInFlatSearch, MayNoteInFlatSearch};
 
-use crate::explored::{Explored, Hang, Hanging, ScriptOutcome, Verdict};
+use crate::explored::{Explored, Hang, Hanging, ScriptOutcome, ShownOutcome, Verdict};
 use crate::flat_state::FlatState;
 use crate::found_states::FoundStates;
 use crate::free_choice::free_choice;
@@ -29,6 +32,7 @@ use crate::progress::Progress;
 use crate::racing_history::racing_history;
 use crate::state_room::state_room_at_most;
 use crate::text_facts::{TextFacts, text_facts};
+use crate::whole_run::never_gets_stuck_by_text;
 use indexmap::IndexSet;
 use lrc_script::script::Script;
 use std::alloc::{AllocError, Global};
@@ -40,19 +44,26 @@ pub struct Search {
     pub(crate) found: FoundStates,
     /// What the whole runs among them show.
     outcomes: IndexSet<ScriptOutcome>,
+    /// Of each of these the place of a state that shows it.
+    shown_at: Vec<usize>,
     /// The place of a state that hangs.
     hang: Option<usize>,
 }
 
-/// Adds an outcome, if it is a new one. The only error is running out of memory.
-pub(crate) fn add_search_outcome(
+/// Adds an outcome with the place of a state that shows it, if it is a new one. The only error is running out of memory.
+fn note_search_outcome(
     outcomes: &mut IndexSet<ScriptOutcome>,
+    shown_at: &mut Vec<usize>,
     outcome: ScriptOutcome,
+    place: usize,
 ) -> Result<(), AllocError>
-    ensures { OnOk result (IsAmongFlatSearched (map explored_outcome outcomes.old.keys) (map explored_outcome outcomes.new.keys)
-        (explored_outcome outcome)) }
+    ensures { OnOk result (IsNotedInFlatSearch (map explored_outcome outcomes.old.keys) (map explored_outcome outcomes.new.keys)
+        shown_at.old.items shown_at.new.items (explored_outcome outcome) place) }
 {
-    outcomes.insert(outcome)?;
+    let (_, is_new) = outcomes.insert_full(outcome)?;
+    if is_new {
+        shown_at.push(place)?;
+    }
     Ok(())
 }
 
@@ -73,6 +84,24 @@ fn is_search_through(neighbours: Option<Neighbours>, states: usize, most: usize)
     }
 }
 
+/// Whether the text shows that each run comes to its end, if that is of use: no two events conflict, and not all states were
+/// looked at. The only error is running out of memory.
+fn never_gets_stuck(
+    alloc: Global,
+    script: &Script,
+    steps: &[Vec<ScriptCall>],
+    neighbours: Option<Neighbours>,
+    through: bool,
+) -> Result<bool, AllocError>
+    requires { AreLawfulMachineSteps (plan_of script.now) steps.now }
+    ensures { IfOk result (λ b. IsTrue b → (g : List AnEvent) → ¬ IsFlatBeginningHanging (plan_of script.now) g) }
+{
+    match neighbours {
+        None if !through => never_gets_stuck_by_text(alloc, script, steps),
+        _ => Ok(false),
+    }
+}
+
 /// The outcomes as a list. The only error is running out of memory.
 pub(crate) fn search_outcomes_listed(
     alloc: Global,
@@ -83,17 +112,40 @@ pub(crate) fn search_outcomes_listed(
     outcomes.into_iter().collect(alloc)
 }
 
+/// These outcomes, each with a run that comes to the state at its place. The only error is running out of memory.
+fn search_outcomes_with_runs(
+    alloc: Global,
+    found: &FoundStates,
+    outcomes: Vec<ScriptOutcome>,
+    shown_at: &[usize],
+) -> Result<Vec<ShownOutcome>, AllocError>
+    requires { (s : Plan) × IsLawful s × AreFoundStates s found.now
+        × AreFlatSearchPlaces s (found_states found.now) (map explored_outcome outcomes.items) shown_at.now }
+    ensures listed { IfOk result (λ v. map shown_outcome v.items ≡ map explored_outcome outcomes.items) }
+    ensures runs { IfOk result (λ v. (s : Plan) (d : ADetail) → AreFoundStates s found.now
+        → AreFlatSearchPlaces s (found_states found.now) (map explored_outcome outcomes.items) shown_at.now
+        → found.now.first.telling ≡ outcome_telling_of_script s d → (x : AShownOutcome) → Has v.items x → IsRunOfShownOutcome s d x) }
+{
+    let mut shown = Vec::with_capacity(alloc, outcomes.len())?;
+    for outcome in outcomes {
+        let makers = found.makers_to(alloc, shown_at[shown.len()])?;
+        shown.push(ShownOutcome { outcome, makers })?;
+    }
+    Ok(shown)
+}
+
 impl Search {
     /// The first state alone. The only error is running out of memory.
     pub(crate) fn new(alloc: Global, script: &Script, detail: Detail) -> Result<Search, AllocError>
         requires { IsLawful (plan_of script.now) }
         ensures searched { IfOk result (λ x. (rows : List (AVec AStep)) → FlatSearchedUpTo (plan_of script.now) x rows 0) }
         ensures few { IfOk result (λ x. length (found_states x.found) ≤ 1) }
-        ensures telling { IfOk result (λ x. x.found.telling ≡ outcome_telling_of_script (plan_of script.now) detail) }
+        ensures telling { IfOk result (λ x. x.found.first.telling ≡ outcome_telling_of_script (plan_of script.now) detail) }
     {
         Ok(Search {
             found: FoundStates::new(alloc, FlatState::new(alloc, script, detail)?)?,
             outcomes: IndexSet::new(alloc),
+            shown_at: Vec::new(alloc),
             hang: None,
         })
     }
@@ -104,10 +156,11 @@ impl Search {
         ensures found { OnOk result (self.new.found ≡ self.old.found) }
         ensures noted { OnOk result ((s : Plan) → MayNoteInFlatSearch s self.old steps.now place → AreFlatSearchNotes s self.new (place + 1)) }
     {
-        let state = self.found.at(place);
+        let state = self.found.at(place)?;
         if state.is_whole(steps) {
             let replies = state.replies()?;
-            return add_search_outcome(&mut self.outcomes, ScriptOutcome { replies });
+            let outcome = ScriptOutcome { replies };
+            return note_search_outcome(&mut self.outcomes, &mut self.shown_at, outcome, place);
         }
         self.hang = Some(self.hang.unwrap_or(place));
         Ok(())
@@ -128,10 +181,10 @@ impl Search {
         ensures found { IfOk result (λ _. (s : Plan) → HasMoreToFlatSearch s self.old steps.now place
             → KeepsFoundStates (found_states self.old.found) (found_states self.new.found)
             × (length (found_states self.new.found) ≤ length (found_states self.old.found) + most_processors)
-            × (self.new.found.telling ≡ self.old.found.telling)) }
+            × (self.new.found.first.telling ≡ self.old.found.first.telling)) }
     {
-        let state = self.found.at(place);
-        let nexts = neighbour_nexts_of(state, steps);
+        let state = self.found.at(place)?;
+        let nexts = neighbour_nexts_of(&state, steps);
         if let Some((first, second)) = neighbours_in(&nexts) {
             return Ok(Some(Neighbours {
                 place,
@@ -139,11 +192,12 @@ impl Search {
                 second,
             }));
         }
-        let followed = free_choice(state, &nexts, facts);
+        let followed = free_choice(&state, &nexts, facts);
         if are_neighbours_over(&nexts) {
             self.note_end(steps, place)?;
         }
-        self.found.follow_all(steps, facts, place, &followed)?;
+        self.found
+            .follow_all(state, steps, facts, place, &followed)?;
         Ok(None)
     }
 
@@ -162,7 +216,7 @@ impl Search {
         ensures few { IfOk result (λ _. (s : Plan) → AreLawfulMachineSteps s steps.now → FlatSearchedUpTo s self.old steps.now 0
             → length (found_states self.old.found) ≤ 1 → length (found_states self.new.found) ≤ most + most_processors) }
         ensures telling { IfOk result (λ _. (s : Plan) → AreLawfulMachineSteps s steps.now → FlatSearchedUpTo s self.old steps.now 0
-            → self.new.found.telling ≡ self.old.found.telling) }
+            → self.new.found.first.telling ≡ self.old.found.first.telling) }
     {
         for place in 0..most {
             let states = self.found.len();
@@ -181,29 +235,43 @@ impl Search {
     }
 
     /// The state at this place, as a hang. The only error is running out of memory.
-    fn hang_at(&self, alloc: Global, processors: usize, place: usize) -> Result<Hang, AllocError>
-        requires few { processors ≤ most_processors }
-        requires hangs { (s : Plan) × AreFoundStates s self.now.found × FlatSearchHasHang s (found_states self.now.found) place }
-        ensures { IfOk result (λ h. (s : Plan) → s.processors ≡ processors → AreFoundStates s self.now.found
-            → FlatSearchHasHang s (found_states self.now.found) place → IsExploredHang s h) }
+    fn hang_at(
+        &self,
+        alloc: Global,
+        script: &Script,
+        steps: &[Vec<ScriptCall>],
+        place: usize,
+    ) -> Result<Hang, AllocError>
+        requires steps { AreLawfulMachineSteps (plan_of script.now) steps.now }
+        requires found { AreFoundStates (plan_of script.now) self.now.found }
+        requires hangs { FlatSearchHasHang (plan_of script.now) (found_states self.now.found) place }
+        ensures { IfOk result (IsExploredHang (plan_of script.now)) }
     {
         Ok(Hang {
-            events: self.found.events_to(alloc, place)?,
-            waits: self.found.at(place).waits(alloc, processors)?,
+            events: self.found.events_to(alloc, steps, place)?,
+            waits: self.found.at(place)?.waits(alloc, script.processors)?,
         })
     }
 
-    /// Whether a state hangs, if all states have been looked at or not. The only error is running out of memory.
-    fn hanging(&self, alloc: Global, script: &Script, through: bool) -> Result<Hanging, AllocError>
-        requires lawful { IsLawful (plan_of script.now) }
-        requires searched { (rows : List (AVec AStep)) × AreLawfulMachineSteps (plan_of script.now) rows
-            × IsFlatSearched (plan_of script.now) self.now rows through }
+    /// Whether a state hangs, if all states have been looked at or not; it may be known that none does. The only error is running
+    /// out of memory.
+    fn hanging(
+        &self,
+        alloc: Global,
+        script: &Script,
+        steps: &[Vec<ScriptCall>],
+        through: bool,
+        never: bool,
+    ) -> Result<Hanging, AllocError>
+        requires steps { AreLawfulMachineSteps (plan_of script.now) steps.now }
+        requires never { IsTrue never → (g : List AnEvent) → ¬ IsFlatBeginningHanging (plan_of script.now) g }
+        requires searched { IsFlatSearched (plan_of script.now) self.now steps.now through }
         ensures hanging { IfOk result (IsExploredHanging (plan_of script.now)) }
         ensures opens { IfOk result (IsFlatSearchHangingOpen through) }
     {
         match self.hang {
-            Some(place) => Ok(Hanging::Hangs(self.hang_at(alloc, script.processors, place)?)),
-            None if through => Ok(Hanging::Never),
+            Some(place) => Ok(Hanging::Hangs(self.hang_at(alloc, script, steps, place)?)),
+            None if through | never => Ok(Hanging::Never),
             None => Ok(Hanging::Undecided),
         }
     }
@@ -241,6 +309,7 @@ impl Search {
         script: &Script,
         steps: &[Vec<ScriptCall>],
         facts: &TextFacts,
+        detail: Detail,
         most: usize,
         progress: &mut P,
     ) -> Result<Explored, AllocError>
@@ -249,18 +318,20 @@ impl Search {
         requires facts { AreFreeChoiceTextFacts steps.now facts.now }
         requires searched { FlatSearchedUpTo (plan_of script.now) self.old steps.now 0 }
         requires few { length (found_states self.old.found) ≤ 1 }
-        ensures { IfOk result (λ answer. (d : ADetail) → self.old.found.telling ≡ outcome_telling_of_script (plan_of script.now) d
-            → IsExplored (plan_of script.now) d most answer) }
+        requires telling { self.old.found.first.telling ≡ outcome_telling_of_script (plan_of script.now) detail }
+        ensures { IfOk result (IsExplored (plan_of script.now) detail most) }
     {
-        let most = state_room_at_most(script, most);
+        let most = state_room_at_most(script, detail, most);
         let neighbours = self.look_at_all(steps, facts, most, progress)?;
         let states = self.found.len();
         let through = is_search_through(neighbours, states, most);
         let race_free = through | are_all_guarded(&facts.guarded);
         let verdict = self.verdict(alloc, script, steps, neighbours, race_free)?;
-        let hanging = self.hanging(alloc, script, through)?;
+        let never = never_gets_stuck(alloc, script, steps, neighbours, through)?;
+        let hanging = self.hanging(alloc, script, steps, through, never)?;
         let outcomes = mem::replace(&mut self.outcomes, IndexSet::new(alloc));
         let outcomes = search_outcomes_listed(alloc, outcomes)?;
+        let outcomes = search_outcomes_with_runs(alloc, &self.found, outcomes, &self.shown_at)?;
         Ok(Explored {
             states,
             verdict,
@@ -285,16 +356,17 @@ fn search_steps<P: Progress>(
 {
     let facts = text_facts(alloc, script, steps)?;
     let mut search = Search::new(alloc, script, detail)?;
-    search.answer(alloc, script, steps, &facts, most, progress)
+    search.answer(alloc, script, steps, &facts, detail, most, progress)
 }
 
 /// Looks at the states of the script on one flat memory, and says whether it races, whether it can hang, and what it can
-/// show, told by this detail. If all words are guarded (`guarded_words`), it says race-free whatever it finds. It ends at the first two
-/// accesses that race, and gives up once it finds more than `most` states. Either way it says what it has found: a hang and
-/// outcomes that it met are there. The only error is running out of memory.
+/// show, told by this detail. If all words are guarded (`guarded_words`), it says race-free whatever it finds, and if the
+/// text shows that no schedule hangs (`never_gets_stuck_by_text`), it says that. It ends at the first two accesses that
+/// race, and gives up once it finds more than `most` states. Either way it says what it has found: a hang and outcomes that
+/// it met are there. The only error is running out of memory.
 ///
 /// It gives up, too, if it finds more states than fit (`state_room_size`): those of which each has as many words as the
-/// memory, and a reply to each load that the script's sections make, and which have 2^27 words together. So the memory that
+/// memory, and the replies of the script's loads that are told, and which have 2^27 words together. So the memory that
 /// it takes is bounded, whatever the script. While it looks, `progress` is told how many states were found.
 ///
 /// A state is what each processor has done, with the replies that are told or that its next step adds to, the words, and who

@@ -62,7 +62,7 @@ fn look_until<P: Progress>(
     ensures few { IfOk result (λ _. (s : Plan) → AreLawfulMachineSteps s steps.now → FlatSearchedUpTo s search.old steps.now 0
         → length (found_states search.old.found) ≤ 1 → length (found_states search.new.found) ≤ most + most_processors) }
     ensures telling { IfOk result (λ _. (s : Plan) → AreLawfulMachineSteps s steps.now → FlatSearchedUpTo s search.old steps.now 0
-        → search.new.found.telling ≡ search.old.found.telling) }
+        → search.new.found.first.telling ≡ search.old.found.first.telling) }
 {
     for place in 0..most {
         let states = search.found.len();
@@ -73,7 +73,8 @@ fn look_until<P: Progress>(
         if place == states {
             return Ok(None);
         }
-        if has_until_words(search.found.at(place), steps, words) {
+        let state = search.found.at(place)?;
+        if has_until_words(&state, steps, words) {
             return Ok(Some(Met::Ending(place)));
         }
         if let Some(neighbours) = search.look_at(steps, facts, place)? {
@@ -87,22 +88,23 @@ fn look_until<P: Progress>(
 fn run_until_words(
     alloc: Global,
     script: &Script,
+    steps: &[Vec<ScriptCall>],
     found: &FoundStates,
     place: usize,
 ) -> Result<Showing, AllocError>
-    requires lawful { IsLawful (plan_of script.now) }
+    requires steps { AreLawfulMachineSteps (plan_of script.now) steps.now }
     requires found { AreFoundStates (plan_of script.now) found.now }
     requires ends { (words : List (ℕ × ℕ)) × SearchUntilMeetsEnding (plan_of script.now) words (found_states found.now) place }
     ensures showing { IfOk result (λ showing. (words : List (ℕ × ℕ)) (d : ADetail)
         → SearchUntilMeetsEnding (plan_of script.now) words (found_states found.now) place
-        → found.now.telling ≡ outcome_telling_of_script (plan_of script.now) d → IsEndingWordsShowing (plan_of script.now) d words showing) }
+        → found.now.first.telling ≡ outcome_telling_of_script (plan_of script.now) d → IsEndingWordsShowing (plan_of script.now) d words showing) }
     ensures settled { IfOk result (λ showing. IsTrue (are_ending_words_settled showing)) }
 {
-    let events = found.events_to(alloc, place)?;
+    let events = found.events_to(alloc, steps, place)?;
     if let Some(race) = racing_history_race(alloc, script, &events)? {
         return Ok(Showing::Racy(cut_racing_history(events, race)));
     }
-    let replies = found.at(place).replies()?;
+    let replies = found.at(place)?.replies()?;
     let outcome = ScriptOutcome { replies };
     Ok(Showing::Shown(ShownRun { events, outcome }))
 }
@@ -120,11 +122,11 @@ fn until_showing_of(
     requires ended { (words : List (ℕ × ℕ)) × IsSearchUntilEnded (plan_of script.now) search.now steps.now words through met }
     ensures showing { IfOk result (λ showing. (words : List (ℕ × ℕ)) (d : ADetail)
         → IsSearchUntilEnded (plan_of script.now) search.now steps.now words through met
-        → search.now.found.telling ≡ outcome_telling_of_script (plan_of script.now) d → IsEndingWordsShowing (plan_of script.now) d words showing) }
+        → search.now.found.first.telling ≡ outcome_telling_of_script (plan_of script.now) d → IsEndingWordsShowing (plan_of script.now) d words showing) }
     ensures opens { IfOk result (IsSearchUntilOpen met through) }
 {
     match met {
-        Some(Met::Ending(place)) => run_until_words(alloc, script, &search.found, place),
+        Some(Met::Ending(place)) => run_until_words(alloc, script, steps, &search.found, place),
         Some(Met::Conflict(neighbours)) => {
             let racy = racing_history(alloc, script, steps, &search.found, neighbours)?;
             Ok(Showing::Racy(racy))
@@ -148,7 +150,7 @@ fn until_by_steps<P: Progress>(
     ensures { IfOk result (IsExploredUntil (plan_of script.now) detail words.now most) }
 {
     let facts = text_facts(alloc, script, steps)?;
-    let most = state_room_at_most(script, most);
+    let most = state_room_at_most(script, detail, most);
     let mut search = Search::new(alloc, script, detail)?;
     let met = look_until(&mut search, steps, &facts, words, most, progress)?;
     let states = search.found.len();
@@ -156,10 +158,10 @@ fn until_by_steps<P: Progress>(
     Ok(ExploredUntil { states, showing })
 }
 
-/// Looks at the states of the script on one flat memory as `explore` does, until a whole run ends with these words, each at its
-/// address: then it tells that run, and what it shows by this detail. It ends, too, at the first two accesses that race, and tells them: what a racy script shows
-/// isn't what runs on one flat memory show. If it comes to its end, no run ends with these words, and none races. It gives up
-/// as `explore` does. The only error is running out of memory.
+/// Looks at the states of the script on one flat memory as `explore` does, until a whole run ends with these words, each at
+/// its address: then it tells that run, and what it shows by this detail. It ends, too, at the first two accesses that
+/// race, and tells them: what a racy script shows isn't what runs on one flat memory show. If it comes to its end, no run
+/// ends with these words, and none races. It gives up as `explore` does. The only error is running out of memory.
 pub fn explore_until<P: Progress>(
     alloc: Global,
     script: &Script,

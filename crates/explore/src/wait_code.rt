@@ -1,16 +1,16 @@
 //! What a processor waits for, and who holds a lock: each in a few bytes, since each state has many.
-ghost use Rattle.std.specs.Prelude.{◌≡◌, ◌<◌, Some};
+ghost use Rattle.std.specs.Prelude.{◌≡◌, ◌<◌, Some, None};
 ghost use Rattle.base.specs.Prelude.{most_processors};
 ghost use Rattle.journal.specs.Sizes.{Sizes as TheSizes};
 ghost use Rattle.journal.specs.WellFormed.{WellFormedKindInRange};
 ghost use Rattle.journal.specs.Prelude.{awaited_next};
 ghost use Rattle.judge.specs.Prelude.{AreJudgedSizesSmall};
-ghost use Rattle.explore.specs.WaitCodes.{wait_code_end_of, wait_code_ending, wait_code_seated};
+ghost use Rattle.explore.specs.WaitCodes.{wait_code_end_of, wait_code_ending, wait_code_holder, wait_code_seated};
 
 use journal::Kind;
 
 /// What a processor waits for.
-#[derive(Clone, Copy, PartialEq, Eq)]
+#[derive(Clone, Copy, PartialEq, Eq, Hash)]
 pub enum WaitCode {
     /// A lock that it has asked for.
     Lock(u8),
@@ -56,23 +56,55 @@ pub fn wait_code_end_of(wait: Option<WaitCode>) -> Option<Kind>
     }
 }
 
-/// A processor, by its number.
-#[derive(Clone, Copy, PartialEq, Eq)]
-pub struct Seat(u8);
+/// A processor's number, below 16, in a byte.
+#[derive(Clone, Copy, PartialEq, Eq, PartialOrd, Ord, Hash)]
+pub struct ProcessorNumber(u8);
 
-impl Seat {
-    /// The seat of this processor.
-    pub fn of(processor: usize) -> Seat
+impl ProcessorNumber {
+    /// The number of this processor.
+    pub fn of(processor: usize) -> ProcessorNumber
         requires { processor < most_processors }
         ensures { wait_code_seated (Some result) ≡ Some processor }
     {
-        Seat(processor as u8)
+        ProcessorNumber(processor as u8)
     }
 
-    /// The processor whose seat this is.
+    /// The processor that has this number.
     pub fn processor(self) -> usize
         ensures { wait_code_seated (Some self) ≡ Some result }
     {
         self.0 as usize
+    }
+}
+
+/// Who holds a lock, if anybody does: 0 for nobody, and else one more than the processor's number. An `Option` takes two bytes,
+/// which take several times as long to compare, and of each state that is found the holders of all locks are compared.
+#[derive(Clone, Copy, PartialEq, Eq, Hash)]
+pub struct LockHolder(u8);
+
+impl LockHolder {
+    /// Nobody.
+    pub fn nobody() -> LockHolder
+        ensures { wait_code_holder result ≡ None }
+    {
+        LockHolder(0)
+    }
+
+    /// This processor.
+    pub fn of(processor: usize) -> LockHolder
+        requires { processor < most_processors }
+        ensures { wait_code_holder result ≡ Some processor }
+    {
+        LockHolder(processor as u8 + 1)
+    }
+
+    /// The processor that holds the lock.
+    pub fn processor(self) -> Option<usize>
+        ensures { result ≡ wait_code_holder self }
+    {
+        match self.0 {
+            0 => None,
+            number => Some(number as usize - 1),
+        }
     }
 }

@@ -9,33 +9,47 @@ ghost use Rattle.journal.specs.Sizes.{Sizes as TheSizes};
 ghost use Rattle.journal.specs.WellFormed.{WellFormedAllows, WellFormedKindInRange, LastIs, WellFormedGrant, WellFormedNext};
 ghost use Rattle.journal.specs.Prelude.{Holds, event_count, did, event, event_arrives, event_departs, event_takes};
 ghost use Rattle.judge.specs.Prelude.{AreJudgedSizesSmall, WhyWaitsFor, front_tells_holder_after, front_tells_flag_set_after};
-ghost use Rattle.explore.specs.KeptWaiting.{KeptWaitingAskedAfter, IsKeptWaitingForLock, MayFollowKeptWaiting, IsFirstKeptWaiting, IsLikeKeptWaiting, IsKeptWaitingPossible, TellsKeptWaiting, kept_waiting_without};
-ghost use Rattle.explore.specs.WaitCodes.{wait_code_seated};
+ghost use Rattle.explore.specs.KeptWaiting.{KeptWaitingAskedAfter, IsKeptWaitingForLock, MayFollowKeptWaiting, IsFirstKeptWaiting, IsLikeKeptWaiting, IsWaitingOfParts, IsKeptWaitingPossible, TellsKeptWaiting, kept_waiting_without};
+ghost use Rattle.explore.specs.WaitCodes.{wait_code_holder, wait_code_nobody};
 
-use crate::wait_code::{Seat, WaitCode, wait_code_end_of};
+use crate::wait_code::{LockHolder, WaitCode, wait_code_end_of};
 use base::{MOST_FLAGS, MOST_LOCKS, MOST_PROCESSORS};
 use journal::Kind;
 use std::alloc::{AllocError, Global};
 
-/// What the processors of a cluster wait for, and what of it has come. Which calls each has made tells all but the order of
-/// the asks, so that alone is hashed.
-#[derive(Drop, PartialEq, Eq)]
-#[derive_where(Hash)]
+/// What the processors of a cluster wait for, and what of it has come.
+#[derive(Drop)]
 pub struct Waiting {
     /// What each processor waits for.
-    #[derive_where(skip(Hash))]
     waits: [Option<WaitCode>; MOST_PROCESSORS],
     /// How often each has arrived at the barrier. It has departed as often, unless it waits there.
-    #[derive_where(skip(Hash))]
     arrivals: [u32; MOST_PROCESSORS],
     /// Who holds each lock.
-    #[derive_where(skip(Hash))]
-    holders: [Option<Seat>; MOST_LOCKS],
+    holders: [LockHolder; MOST_LOCKS],
     /// Which flags are set.
-    #[derive_where(skip(Hash))]
     flags: [bool; MOST_FLAGS],
     /// Who waits for a lock, in the order of their asks.
     asked: Vec<usize>,
+}
+
+/// What the processors wait for.
+#[derive(Drop, PartialEq, Eq, Hash)]
+pub struct WaitingAsks {
+    /// What each processor waits for.
+    waits: [Option<WaitCode>; MOST_PROCESSORS],
+    /// Who waits for a lock, in the order of their asks.
+    asked: Vec<usize>,
+}
+
+/// What has come.
+#[derive(Drop, PartialEq, Eq, Hash)]
+pub struct WaitingGrants {
+    /// How often each processor has arrived at the barrier.
+    arrivals: [u32; MOST_PROCESSORS],
+    /// Who holds each lock.
+    holders: [LockHolder; MOST_LOCKS],
+    /// Which flags are set.
+    flags: [bool; MOST_FLAGS],
 }
 
 /// Whether an event of this kind ends a wait.
@@ -69,16 +83,16 @@ fn count_waiting_arrival(arrivals: &mut [u32; MOST_PROCESSORS], processor: usize
 }
 
 /// Takes note of who acquires or releases a lock.
-fn hold_waiting_lock(holders: &mut [Option<Seat>; MOST_LOCKS], processor: usize, kind: Kind)
+fn hold_waiting_lock(holders: &mut [LockHolder; MOST_LOCKS], processor: usize, kind: Kind)
     requires processor { processor < most_processors }
     requires in_range { (s : TheSizes) × AreJudgedSizesSmall s × WellFormedKindInRange s kind }
-    ensures holders { (l : ℕ) → wait_code_seated (slice_index_or holders.new l None)
-        ≡ front_tells_holder_after (wait_code_seated (slice_index_or holders.old l None)) l processor kind }
+    ensures holders { (l : ℕ) → wait_code_holder (slice_index_or holders.new l wait_code_nobody)
+        ≡ front_tells_holder_after (wait_code_holder (slice_index_or holders.old l wait_code_nobody)) l processor kind }
     ensures long { length holders.new ≡ length holders.old }
 {
     match kind {
-        Kind::Acquire(lock) => holders[lock] = Some(Seat::of(processor)),
-        Kind::Release(lock) => holders[lock] = None,
+        Kind::Acquire(lock) => holders[lock] = LockHolder::of(processor),
+        Kind::Release(lock) => holders[lock] = LockHolder::nobody(),
         _ => {}
     }
 }
@@ -141,7 +155,7 @@ impl Waiting {
         Waiting {
             waits: [None; MOST_PROCESSORS],
             arrivals: [0; MOST_PROCESSORS],
-            holders: [None; MOST_LOCKS],
+            holders: [LockHolder::nobody(); MOST_LOCKS],
             flags: [false; MOST_FLAGS],
             asked: Vec::new(alloc),
         }
@@ -157,6 +171,39 @@ impl Waiting {
             holders: self.holders,
             flags: self.flags,
             asked: self.asked.clone()?,
+        })
+    }
+
+    /// What this waits for, and what has come.
+    pub fn into_parts(self) -> (WaitingAsks, WaitingGrants)
+        ensures asks { result.0 ≡ record { waits = self.waits; asked = self.asked } }
+        ensures grants { result.1 ≡ record { arrivals = self.arrivals; holders = self.holders; flags = self.flags } }
+    {
+        let Waiting {
+            waits,
+            arrivals,
+            holders,
+            flags,
+            asked,
+        } = self;
+        let grants = WaitingGrants {
+            arrivals,
+            holders,
+            flags,
+        };
+        (WaitingAsks { waits, asked }, grants)
+    }
+
+    /// What is waited for so, if that has come. The only error is running out of memory.
+    pub fn of_parts(asks: &WaitingAsks, grants: &WaitingGrants) -> Result<Waiting, AllocError>
+        ensures { IfOk result (IsWaitingOfParts asks.now grants.now) }
+    {
+        Ok(Waiting {
+            waits: asks.waits,
+            arrivals: grants.arrivals,
+            holders: grants.holders,
+            flags: grants.flags,
+            asked: asks.asked.clone()?,
         })
     }
 
@@ -176,7 +223,7 @@ impl Waiting {
         ensures { (j : List AnEvent) → TellsKeptWaiting j self.now → (i : ℕ)
             → LastIs j processor i (Ask lock) → IsTrue result ↔ WellFormedGrant j i lock }
     {
-        if let Some(_) = self.holders[lock] {
+        if let Some(_) = self.holders[lock].processor() {
             return false;
         }
         match first_waiting_of(&self.asked, &self.waits, lock) {
@@ -207,8 +254,8 @@ impl Waiting {
         requires { lock < most_locks }
         ensures { (j : List AnEvent) → TellsKeptWaiting j self.now → IsTrue result ↔ Holds j processor lock }
     {
-        match self.holders[lock] {
-            Some(holder) => holder.processor() == processor,
+        match self.holders[lock].processor() {
+            Some(holder) => holder == processor,
             None => false,
         }
     }

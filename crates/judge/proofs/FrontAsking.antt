@@ -1,13 +1,13 @@
 -- The first open ask of a lock, among the last events of all processors.
 use Rattle.std.proofs.Common.{◌≡◌, ℕ, ◌+◌, ◌<◌, ◌≤◌, inl, inr, List, length, Option, Some, MatchOption, slice_index_or, subst, sym, refl, ap, ◌∙◌, arith}
 use Rattle.std.specs.Prelude.{None}
-use Rattle.std.proofs.lemmas.Bool.{cases_eq, cases_lt}
-use Rattle.std.proofs.lemmas.List.{get_or_past}
-use Rattle.std.proofs.lemmas.Option.{same_Some, none-some}
+use Rattle.std.proofs.lemmas.Bool.{cases_eq}
+use Rattle.std.proofs.lemmas.Option.{same_Some}
 use Rattle.journal.specs.declared.event.Event.{Event}
 use Rattle.journal.specs.declared.event.Kind.{Kind}
 use Rattle.journal.specs.declared.event.Kind.TheVariants.{Ask}
 use Rattle.journal.specs.DidEvent.{event}
+use Rattle.journal.specs.EventsInRange.{EventProcessorsInRange}
 use Rattle.journal.specs.WellFormed.{LastIs}
 use Rattle.journal.proofs.Order.EventPlacesAndCounts.{event_place_inside}
 use Rattle.journal.proofs.Journals.WellFormedStays.{well_formed_stays_last_unique}
@@ -55,21 +55,13 @@ front_asking_last_kept j p i a (Some x) last is =
     ap (λ (y : LastEvent). Some y) (subst (λ n. x ≡ record { place = n; kind = a }) same.0
     (subst (λ k. x ≡ record { place = x.place; kind = k }) same.1 refl))
 
--- and stands within the list
-front_asking_within : (last : List (Option LastEvent)) (l q i : ℕ) → FrontAsksAt last l q i → q < length last
-front_asking_within last l q i asks = elim (cases_lt q (length last)) [
-  | inl lt ↦ lt
-  | inr le ↦ absurd (none-some _ (sym (get_or_past last q None le) ∙ asks))
-]
-
 module _ (j : List Event) (last : List (Option LastEvent)) (l limit : ℕ)
-    (lasts : (p : ℕ) → FrontTellsLastOf j p (slice_index_or last p None)) (from : AreFrontAskingFrom last l limit 16)
-    (long : length last ≡ 16) where
+    (lasts : (p : ℕ) → FrontTellsLastOf j p (slice_index_or last p None)) (count : ℕ)
+    (from : AreFrontAskingFrom last l limit count) (range : EventProcessorsInRange count j) where
   front_asking_all_from : (q k : ℕ) → LastIs j q k (Ask l) → limit ≤ k
   front_asking_all_from q k is =
       let asks = front_asking_last_kept j q k (Ask l) (slice_index_or last q None) (lasts q) is in
-      let lt = front_asking_within last l q k asks in
-      from q k (omega arith) asks
+      from q k (range k (event q (Ask l)) is.does) asks
 
   pub front_asking_first_found : (q : ℕ) → FrontAsksAt last l q limit → FrontTellsFirstAsk j l q limit
   front_asking_first_found q asks = record { asks = subst (FrontTellsLastOf j q) asks (lasts q); first = front_asking_all_from }

@@ -8,6 +8,7 @@ use Rattle.journal.specs.declared.event.Event.{Event}
 use Rattle.journal.specs.declared.event.Kind.{Kind}
 use Rattle.journal.specs.declared.event.Kind.TheVariants.{Acquire, Release, Set}
 use Rattle.journal.specs.DidEvent.{event}
+use Rattle.journal.specs.EventsInRange.{EventProcessorsInRange}
 use Rattle.journal.specs.Sizes.{Sizes}
 use Rattle.journal.specs.Events.{EventAt, event_count}
 use Rattle.journal.specs.WellFormed.{Holds, LastIs}
@@ -23,6 +24,14 @@ front_noting_one_away : (e : Event) (p : ℕ) → e.processor ≢ p → (m : ℕ
 front_noting_one_away e p isnt m f at is = elim (slice_push_cases [] e m f at) [
   | inl none ↦ absurd (omega (arith, none.0))
   | inr same ↦ isnt (ap (λ (x : Event). x.processor) same.1 ∙ is)
+]
+
+-- one processor of the range more
+pub front_noting_range_next : (j : List Event) (e : Event) (n : ℕ) → EventProcessorsInRange n j → e.processor < n
+    → EventProcessorsInRange n (j ++ e ∷ [])
+front_noting_range_next j e n range lt m f at = elim (slice_push_cases j e m f at) [
+  | inl old ↦ range m f old.1
+  | inr new ↦ subst (λ (x : Event). x.processor < n) new.1 lt
 ]
 
 -- another processor's event leaves the last one

@@ -7,12 +7,12 @@ use Rattle.journal.specs.Sizes.{Sizes}
 use Rattle.judge.specs.declared.gaps.Gaps.{Gaps}
 use Rattle.judge.specs.declared.sparse_table.SparseTable.{SparseTable}
 use Rattle.judge.specs.JudgedSizes.{judged_sizes_of}
-use Rattle.judge.specs.FetchGaps.{AreFetchGapsOf, FetchGapBroughtUpTo, FetchGapStoreAt, FetchGapStoreInPage, FetchGapStoreOfWord, fetch_gap_time}
+use Rattle.judge.specs.FetchGaps.{AreFetchGapsOf, FetchGapBroughtUpTo, FetchGapStoreInPage, fetch_gap_time}
 use Rattle.judge.specs.GapTally.{IsGapTallyOfValues, gap_tally_place_of}
 use Rattle.judge.proofs.TallyRows.{tally_rows_and_marks_same}
-use Rattle.judge.proofs.GapEvents.{gap_event_page_others, gap_event_store_others, gap_event_word_others}
+use Rattle.judge.proofs.GapEvents.{gap_event_page_others}
 
--- under an event that is no store the tallies stay
+-- under an event that is no store the tally stays
 pub keeping_gaps : (j : List Event) (e : Event) (g : Gaps) (fetched : SparseTable (List ℕ))
     → ((q a v : ℕ) → e ≢ event q (Store a v))
     → ((n p : ℕ) → p < 16 → FetchGapBroughtUpTo (judged_sizes_of g.sizes) (j ++ e ∷ []) p n (fetch_gap_time fetched (gap_tally_place_of n p)))
@@ -25,9 +25,6 @@ keeping_gaps j e g fetched none fetches few are = record {
       (tally_rows_and_marks_same (FetchGapStoreInPage s (j ++ e ∷ []))
       (FetchGapStoreInPage s (j ++ e ∷ [])) (gap_event_page_others s j e none) (gap_event_page_others s j e none)
       are.intervals);
-  words =
-      subst (λ x. IsGapTallyOfValues (FetchGapStoreOfWord s (j ++ e ∷ [])) (λ z. z.0) (FetchGapStoreAt (j ++ e ∷ [])) x g.words) long
-      (tally_rows_and_marks_same (FetchGapStoreOfWord s (j ++ e ∷ [])) (FetchGapStoreAt (j ++ e ∷ [])) (gap_event_word_others s j e none) (gap_event_store_others j e none) are.words);
   few = omega (arith, long, few);
 }
   where

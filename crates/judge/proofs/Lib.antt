@@ -2,6 +2,11 @@ pub mod Refusing
 pub mod SizesJudged
 pub mod VecItems
 pub mod LongerSparseTables
+pub mod StoredBefore
+pub mod StoredLimits
+pub mod StoredNext
+pub mod StoredTables
+pub mod DueGaps
 pub mod FrontNoting
 pub mod FrontAsking
 pub mod WellFormedFronts

@@ -1,11 +1,13 @@
 -- Rows of which some have a value, before the first one and as a history goes on.
-use Rattle.std.proofs.Common.{ℕ, ◌≡◌, ◌+◌, ◌/◌, ◌%◌, ◌≤◌, inl, inr, Option, Some, List, [], ◌∷◌, ◌++◌, length, slice_get, slice_index, vec_len, sym, refl, ap, ◌∙◌, arith, length-append}
+use Rattle.std.proofs.Common.{ℕ, zero, suc, ◌≢◌, slice_index_or, slice_set, ◌≡◌, ◌+◌, ◌/◌, ◌%◌, ◌≤◌, inl, inr, Option, Some, List, [], ◌∷◌, ◌++◌, length, slice_get, slice_index, vec_len, sym, refl, ap, ◌∙◌, arith, length-append}
 use Rattle.std.specs.Prelude.{None}
 use Rattle.std.specs.Global.{Vec}
+use Rattle.std.proofs.lemmas.Option.{slice_get_read}
+use Rattle.base.proofs.SliceSets.{slice_get-set_other}
 use Rattle.base.proofs.SlicesAndCounts.{slice_push_cases}
 use Rattle.journal.specs.declared.event.Event.{Event}
 use Rattle.judge.specs.declared.sparse_table.SparseTable.{SparseTable}
-use Rattle.judge.specs.SparseTables.{IsSparse, IsSparseFor, sparse_chunk, sparse_mark, sparse_room}
+use Rattle.judge.specs.SparseTables.{IsSparse, IsSparseFor, sparse_at, sparse_chunk, sparse_mark, sparse_room, sparse_table_value}
 
 -- a chunk more without a mark
 pub longer_sparse_mark : (chunks : List (Vec ℕ)) (chunk : Vec ℕ) (r : ℕ) → chunk.items ≡ [] → sparse_mark chunks r ≡ 0
@@ -39,3 +41,19 @@ longer_sparse_next j e old new sparse same more is = record {
   room = (let room = is.room in omega arith);
   few = (let few = is.few in let long = length-append j (e ∷ []) in omega arith);
 }
+
+-- the value that a mark leads to, as it is read
+pub longer_sparse_read : {A : Type 0} (t : SparseTable A) (r k : ℕ) (x : A) → IsSparse t → sparse_mark t.marks.items r ≡ suc k
+    → x ≡ slice_index_or t.kept.items k x → sparse_at t r ≡ Some x
+longer_sparse_read t r k x sparse is read = ap (sparse_table_value t.kept.items) is
+    ∙ slice_get_read t.kept.items (length t.kept.items) k x refl (let le = sparse.within r in omega (arith, t.kept.ok.0)) read
+
+-- after it was written there, other rows have what they had
+pub longer_sparse_others : {A : Type 0} (t : SparseTable A) (r q k : ℕ) (x : A) → IsSparse t → sparse_mark t.marks.items r ≡ suc k → q ≢ r
+    → sparse_table_value (slice_set t.kept.items k x) (sparse_mark t.marks.items q) ≡ sparse_at t q
+longer_sparse_others t r q k x sparse is other = go (sparse_mark t.marks.items q) refl
+  where
+    go : (m : ℕ) → sparse_mark t.marks.items q ≡ m → sparse_table_value (slice_set t.kept.items k x) m ≡ sparse_table_value t.kept.items m
+    go zero at = refl
+    go (suc i) at = slice_get-set_other t.kept.items k i x
+        (λ same. other (sym (sparse.apart r q (λ none. absurd (cc (none, is))) (is ∙ (ap suc (sym same) ∙ sym at)))))

@@ -1,43 +1,39 @@
 -- Each processor's last accesses, and the race that is nearest to an event.
-use Rattle.std.proofs.Common.{◌≡◌, ◌≢◌, ℕ, ◌+◌, ◌<◌, ◌≤◌, ◌⊎◌, inl, inr, ◌↔◌, Bool, IsTrue, List, [], ◌∷◌, ◌++◌, length, take, Option, Some, subst, sym, refl, ap, ◌∙◌, arith, length-append}
+use Rattle.std.proofs.Common.{◌≡◌, ◌≢◌, ℕ, ◌+◌, ◌/◌, ◌%◌, ◌<◌, ◌≤◌, ◌⊎◌, inl, inr, ◌↔◌, Bool, IsTrue, List, [], ◌∷◌, ◌++◌, length, Option, Some, subst, sym, refl, ap, ◌∙◌, arith, length-append}
 use Rattle.std.specs.Prelude.{None, IfSome}
 use Rattle.std.proofs.lemmas.Bool.{cases_eq, cases_lt, eq-eqb, eqb-true}
 use Rattle.std.proofs.lemmas.Option.{same_Some, none-some}
-use Rattle.std.proofs.Math.Seq.{take-append_seam}
+use Rattle.std.proofs.lemmas.Nat.{div-mul-add, mod-mul-add}
 use Rattle.base.proofs.SlicesAndCounts.{slice_push_cases}
 use Rattle.journal.specs.declared.event.Event.{Event}
 use Rattle.journal.specs.declared.event.Kind.{Kind}
 use Rattle.journal.specs.declared.event.Kind.TheVariants.{Load, Store}
 use Rattle.journal.specs.DidEvent.{did, event}
-use Rattle.journal.specs.Events.{EventAt, event_count, event_interval_at, event_address, event_closes, event_stores}
+use Rattle.journal.specs.Events.{EventAt, event_address, event_stores}
 use Rattle.journal.specs.WellFormed.{Does}
 use Rattle.journal.specs.EventsInRange.{EventProcessorsInRange}
-use Rattle.journal.specs.Times.{IsTimeOf}
 use Rattle.journal.specs.Races.{Conflict, Race, RaceFree}
-use Rattle.journal.proofs.Order.EventPlacesAndCounts.{event_place_inside, event_place_longer, event_place_shorter, event_place_at_end, event_count-front, event_count-mono}
+use Rattle.journal.proofs.Order.EventPlacesAndCounts.{event_place_inside, event_place_longer, event_place_shorter, event_place_at_end}
 use Rattle.journal.proofs.Order.HappensBefore.{happens_before_longer, happens_before_shorter}
-use Rattle.journal.proofs.Passes.NextRaces.{next_race_by_time, next_race_events}
-use Rattle.judge.specs.declared.nearest_races.Access.{Access}
-use Rattle.judge.specs.NearestRaces.{AreNearestRaceAccesses, IsNearestRaceAccess, IsNearestRaceAccessOf, IsNearestRaceLastUncounted, IsNearestRace, IsNearestRaceTo, IsNearestRaceUncounted, SomeNearestRaceUncounted, is_nearest_race_access, is_nearest_race_store}
-use Rattle.judge.specs.Sources.KeptSources.{kept_source_row}
+use Rattle.journal.proofs.Passes.NextRaces.{next_race_events}
+use Rattle.judge.specs.Cuts.{IsCutOf}
+use Rattle.judge.specs.NearestRaces.{AreNearestRaceAccesses, IsNearestRaceAccess, IsNearestRaceAccessOf, IsNearestRaceLastUnknown, IsNearestRace, IsNearestRaceTo, IsNearestRaceUnknown, SomeNearestRaceUnknown, is_nearest_race_access, is_nearest_race_store, nearest_race_row}
+use Rattle.judge.proofs.cuts.TellingCuts.{cut_tells_race}
 use Rattle.judge.specs.declared.sparse_table.SparseTable.{SparseTable}
 use Rattle.judge.specs.SparseTables.{IsSparseWith, sparse_at}
 
 -- an event of another processor or kind leaves the last access
-pub nearest_race_access_others : (j : List Event) (e : Event) (is : Kind → Bool) (q : ℕ) (o : Option Access)
+pub nearest_race_access_others : (j : List Event) (e : Event) (is : Kind → Bool) (q : ℕ) (o : Option ℕ)
     → (e.processor ≡ q → ¬ IsTrue (is e.kind)) → IsNearestRaceAccessOf j is q o → IsNearestRaceAccessOf (j ++ e ∷ []) is q o
 nearest_race_access_others j e is q None away none = λ i k does counts. elim (slice_push_cases j e i (event q k) does) [
   | inl old ↦ none i k old.1 counts
   | inr new ↦ away (ap (λ (x : Event). x.processor) new.1)
       (subst (λ z. IsTrue (is z)) (sym (ap (λ (x : Event). x.kind) new.1)) counts)
 ]
-nearest_race_access_others j e is q (Some x) away last = record {
+nearest_race_access_others j e is q (Some place) away last = record {
   kind = last.kind;
-  does = event_place_longer j (e ∷ []) x.place (event q last.kind) last.does;
+  does = event_place_longer j (e ∷ []) place (event q last.kind) last.does;
   counts = last.counts;
-  interval =
-      (let lt = event_place_inside j x.place (event q last.kind) last.does in
-      last.interval ∙ sym (event_count-front event_closes j (e ∷ []) x.place q (omega arith)));
   last = λ i k does counts. elim (slice_push_cases j e i (event q k) does) [
     | inl old ↦ last.last i k old.1 counts
     | inr new ↦ absurd (away (ap (λ (z : Event). z.processor) new.1)
@@ -46,54 +42,57 @@ nearest_race_access_others j e is q (Some x) away last = record {
 }
 
 -- an event of these kinds is its processor's last one
-pub nearest_race_access_next : (j : List Event) (p : ℕ) (k : Kind) (is : Kind → Bool) (x : Access) → IsTrue (is k)
-    → x.place ≡ length j → x.interval ≡ event_count event_closes j p → IsNearestRaceAccess (did j p k) is p x
-nearest_race_access_next j p k is x counts place interval = record {
+pub nearest_race_access_next : (j : List Event) (p : ℕ) (k : Kind) (is : Kind → Bool) (place : ℕ) → IsTrue (is k)
+    → place ≡ length j → IsNearestRaceAccess (did j p k) is p place
+nearest_race_access_next j p k is place counts at = record {
   kind = k;
-  does = subst (λ n. Does (did j p k) n p k) (sym place) (event_place_at_end j (event p k));
+  does = subst (λ n. Does (did j p k) n p k) (sym at) (event_place_at_end j (event p k));
   counts = counts;
-  interval = interval ∙ sym (ap (λ (xs : List Event). event_count event_closes xs p) front);
   last = λ i b does here.
       (let lt = event_place_inside (did j p k) i (event p b) does in
       let long = length-append j (event p k ∷ []) in
       omega arith);
 }
-  where
-    front : take x.place (did j p k) ≡ j
-    front = ap (λ n. take n (did j p k)) place ∙ take-append_seam j (event p k ∷ [])
 
 -- an event of no such kind leaves the rows
-pub nearest_race_rows_left : (j : List Event) (e : Event) (of : ℕ → Kind → Bool) (rows : ℕ → Option Access)
-    → ((a : ℕ) → ¬ IsTrue (of a e.kind)) → AreNearestRaceAccesses j of rows → AreNearestRaceAccesses (j ++ e ∷ []) of rows
-nearest_race_rows_left j e of rows away are a q lt =
-    nearest_race_access_others j e (of a) q (rows (kept_source_row a q)) (λ same. away a) (are a q lt)
+pub nearest_race_rows_left : (n : ℕ) (j : List Event) (e : Event) (of : ℕ → Kind → Bool) (rows : ℕ → Option ℕ)
+    → ((a : ℕ) → ¬ IsTrue (of a e.kind)) → AreNearestRaceAccesses n j of rows → AreNearestRaceAccesses n (j ++ e ∷ []) of rows
+nearest_race_rows_left n j e of rows away are a q lt =
+    nearest_race_access_others j e (of a) q (rows (nearest_race_row n a q)) (λ same. away a) (are a q lt)
+
+-- a row is of one address and one processor
+pub nearest_race_row_one : (n a b p q : ℕ) → p < n → q < n → nearest_race_row n b q ≡ nearest_race_row n a p → (a ≡ b) × (p ≡ q)
+nearest_race_row_one n a b p q few lt same = (
+  sym (div-mul-add a n p few) ∙ (ap (λ m. m / n) (sym same) ∙ div-mul-add b n q lt),
+  sym (mod-mul-add a n p few) ∙ (ap (λ m. m % n) (sym same) ∙ mod-mul-add b n q lt),
+)
 
 -- an access of a is kept in its row
-pub nearest_race_rows_kept : (j : List Event) (p : ℕ) (a : ℕ) (k : Kind) (of : ℕ → Kind → Bool) {old new : SparseTable Access} {x : Access}
-    → ((b : ℕ) → IsTrue (of b k) → a ≡ b) → IsNearestRaceAccess (did j p k) (of a) p x
-    → IsSparseWith old new (kept_source_row a p) x → p < 16 → AreNearestRaceAccesses j of (sparse_at old)
-    → AreNearestRaceAccesses (did j p k) of (sparse_at new)
-nearest_race_rows_kept j p a k of {old = old} {new = new} {x = x} one last written few are b q lt =
-    elim (cases_eq (kept_source_row b q) (kept_source_row a p)) [
+pub nearest_race_rows_kept : {n : ℕ} (j : List Event) (p : ℕ) (a : ℕ) (k : Kind) (of : ℕ → Kind → Bool) {old new : SparseTable ℕ} {place : ℕ}
+    → ((b : ℕ) → IsTrue (of b k) → a ≡ b) → IsNearestRaceAccess (did j p k) (of a) p place
+    → IsSparseWith old new (nearest_race_row n a p) place → p < n → AreNearestRaceAccesses n j of (sparse_at old)
+    → AreNearestRaceAccesses n (did j p k) of (sparse_at new)
+nearest_race_rows_kept {n = n} j p a k of {old = old} {new = new} {place = place} one last written few are b q lt =
+    elim (cases_eq (nearest_race_row n b q) (nearest_race_row n a p)) [
       | inl same ↦
-          (let address : a ≡ b = omega arith in
-          let processor : p ≡ q = omega arith in
-          let is : Some x ≡ sparse_at new (kept_source_row b q) = sym (ap (sparse_at new) same ∙ written.now) in
+          (let both = nearest_race_row_one n a b p q few lt same in
+          let is : Some place ≡ sparse_at new (nearest_race_row n b q) = sym (ap (sparse_at new) same ∙ written.now) in
           subst (IsNearestRaceAccessOf (did j p k) (of b) q) is
-          (subst (λ n. IsNearestRaceAccess (did j p k) (of n) q x) address
-          (subst (λ n. IsNearestRaceAccess (did j p k) (of a) n x) processor last)))
+          (subst (λ m. IsNearestRaceAccess (did j p k) (of m) q place) both.0
+          (subst (λ m. IsNearestRaceAccess (did j p k) (of a) m place) both.1 last)))
       | inr other ↦
-          subst (IsNearestRaceAccessOf (did j p k) (of b) q) (sym (written.others (kept_source_row b q) other))
-          (nearest_race_access_others j (event p k) (of b) q (sparse_at old (kept_source_row b q))
-          (λ processor yes_is. (let address = one b yes_is in other (omega arith)))
+          subst (IsNearestRaceAccessOf (did j p k) (of b) q) (sym (written.others (nearest_race_row n b q) other))
+          (nearest_race_access_others j (event p k) (of b) q (sparse_at old (nearest_race_row n b q))
+          (λ processor yes_is. other
+          (ap (λ m. nearest_race_row n m q) (sym (one b yes_is)) ∙ ap (λ m. nearest_race_row n a m) (sym processor)))
           (are b q lt))
     ]
 
 -- before the first event there is none
-pub nearest_race_rows_start : (of : ℕ → Kind → Bool) (rows : ℕ → Option Access) → ((r : ℕ) → rows r ≡ None)
-    → AreNearestRaceAccesses [] of rows
-nearest_race_rows_start of rows none a q lt =
-    subst (IsNearestRaceAccessOf [] (of a) q) (sym (none (kept_source_row a q))) (λ i k does counts. none-some (event q k) does)
+pub nearest_race_rows_start : (n : ℕ) (of : ℕ → Kind → Bool) (rows : ℕ → Option ℕ) → ((r : ℕ) → rows r ≡ None)
+    → AreNearestRaceAccesses n [] of rows
+nearest_race_rows_start n of rows none a q lt =
+    subst (IsNearestRaceAccessOf [] (of a) q) (sym (none (nearest_race_row n a q))) (λ i k does counts. none-some (event q k) does)
 
 -- ---- the kinds
 
@@ -162,104 +161,89 @@ nearest_race_store_conflicts f p a v = (there f.kind refl, back f.kind refl)
     }
     back _ is counts = absurd (cc counts)
 
--- ---- the last access whose interval a timestamp doesn't count
+-- ---- the last access that isn't in a cut
 
 -- one processor more
-pub nearest_race_uncounted_none : (rows : ℕ → Option Access) (row : ℕ) (t : ℕ → ℕ) (p n : ℕ) (o : Option ℕ)
-    → IsNearestRaceLastUncounted rows row t p n o → ((i : ℕ) → ¬ IsNearestRaceUncounted rows row t p n i)
-    → IsNearestRaceLastUncounted rows row t p (n + 1) o
-nearest_race_uncounted_none rows row t p n None before none = λ i x. elim (cases_lt x.by n) [
+pub nearest_race_unknown_none : (rows : ℕ → Option ℕ) (row : ℕ) (t : ℕ → ℕ) (p n : ℕ) (o : Option ℕ)
+    → IsNearestRaceLastUnknown rows row t p n o → ((i : ℕ) → ¬ IsNearestRaceUnknown rows row t p n i)
+    → IsNearestRaceLastUnknown rows row t p (n + 1) o
+nearest_race_unknown_none rows row t p n None before none = λ i x. elim (cases_lt x.by n) [
   | inl lt ↦ before i (record { by = x.by; below = lt; is = x.is })
   | inr le ↦ (let same : x.by ≡ n = (let b = x.below in omega arith) in
-      none i (subst (λ q. IsNearestRaceUncounted rows row t p q i) same x.is))
+      none i (subst (λ q. IsNearestRaceUnknown rows row t p q i) same x.is))
 ]
-nearest_race_uncounted_none rows row t p n (Some k) before none = (
+nearest_race_unknown_none rows row t p n (Some k) before none = (
   record { by = before.0.by; below = (let b = before.0.below in omega arith); is = before.0.is },
   λ m x. elim (cases_lt x.by n) [
     | inl lt ↦ before.1 m (record { by = x.by; below = lt; is = x.is })
     | inr le ↦ (let same : x.by ≡ n = (let b = x.below in omega arith) in
-        absurd (none m (subst (λ q. IsNearestRaceUncounted rows row t p q m) same x.is)))
+        absurd (none m (subst (λ q. IsNearestRaceUnknown rows row t p q m) same x.is)))
   ],
 )
 
 -- two of one row are one
-nearest_race_uncounted_one : (rows : ℕ → Option Access) (row : ℕ) (t : ℕ → ℕ) (p q i m : ℕ) → IsNearestRaceUncounted rows row t p q i
-    → IsNearestRaceUncounted rows row t p q m → i ≡ m
-nearest_race_uncounted_one rows row t p q i m x y =
-    let same : x.access ≡ y.access = same_Some x.access y.access (sym x.at ∙ y.at) in
-    sym x.place ∙ (ap (λ (z : Access). z.place) same ∙ y.place)
+nearest_race_unknown_one : (rows : ℕ → Option ℕ) (row : ℕ) (t : ℕ → ℕ) (p q i m : ℕ) → IsNearestRaceUnknown rows row t p q i
+    → IsNearestRaceUnknown rows row t p q m → i ≡ m
+nearest_race_unknown_one rows row t p q i m x y = same_Some i m (sym x.at ∙ y.at)
 
-pub nearest_race_uncounted_some : {rows : ℕ → Option Access} {row : ℕ} {t : ℕ → ℕ} {p n place : ℕ} (k : ℕ) (o : Option ℕ)
-    → IsNearestRaceLastUncounted rows row t p n o → IsNearestRaceUncounted rows row t p n place → place ≤ k → IfSome o (λ m. m ≤ k)
-    → (k ≡ place) ⊎ (o ≡ Some k) → IsNearestRaceLastUncounted rows row t p (n + 1) (Some k)
-nearest_race_uncounted_some {rows = rows} {row = row} {t = t} {p = p} {n = n} {place = place} k None before here le old one = (
-  record { by = n; below = omega arith; is = subst (IsNearestRaceUncounted rows row t p n) (sym is) here },
+pub nearest_race_unknown_some : {rows : ℕ → Option ℕ} {row : ℕ} {t : ℕ → ℕ} {p n place : ℕ} (k : ℕ) (o : Option ℕ)
+    → IsNearestRaceLastUnknown rows row t p n o → IsNearestRaceUnknown rows row t p n place → place ≤ k → IfSome o (λ m. m ≤ k)
+    → (k ≡ place) ⊎ (o ≡ Some k) → IsNearestRaceLastUnknown rows row t p (n + 1) (Some k)
+nearest_race_unknown_some {rows = rows} {row = row} {t = t} {p = p} {n = n} {place = place} k None before here le old one = (
+  record { by = n; below = omega arith; is = subst (IsNearestRaceUnknown rows row t p n) (sym is) here },
   λ m x. elim (cases_lt x.by n) [
     | inl lt ↦ absurd (before m (record { by = x.by; below = lt; is = x.is }))
     | inr below ↦ (let same : x.by ≡ n = (let b = x.below in omega arith) in
-        let at = nearest_race_uncounted_one rows row t p n m place (subst (λ q. IsNearestRaceUncounted rows row t p q m) same x.is) here in
+        let at = nearest_race_unknown_one rows row t p n m place (subst (λ q. IsNearestRaceUnknown rows row t p q m) same x.is) here in
         omega arith)
   ],
 )
   where
     is : k ≡ place
     is = elim one [ inl same ↦ same | inr other ↦ absurd (none-some k other) ]
-nearest_race_uncounted_some {rows = rows} {row = row} {t = t} {p = p} {n = n} {place = place} k (Some m) before here le old one = (
+nearest_race_unknown_some {rows = rows} {row = row} {t = t} {p = p} {n = n} {place = place} k (Some m) before here le old one = (
   elim one [
-    | inl same ↦ record { by = n; below = omega arith; is = subst (IsNearestRaceUncounted rows row t p n) (sym same) here }
+    | inl same ↦ record { by = n; below = omega arith; is = subst (IsNearestRaceUnknown rows row t p n) (sym same) here }
     | inr other ↦ record {
       by = before.0.by;
       below = (let b = before.0.below in omega arith);
-      is = subst (IsNearestRaceUncounted rows row t p before.0.by) (same_Some m k other) before.0.is;
+      is = subst (IsNearestRaceUnknown rows row t p before.0.by) (same_Some m k other) before.0.is;
     }
   ],
   λ i x. elim (cases_lt x.by n) [
     | inl lt ↦ (let top = before.1 i (record { by = x.by; below = lt; is = x.is }) in omega arith)
     | inr below ↦ (let same : x.by ≡ n = (let b = x.below in omega arith) in
-        let at = nearest_race_uncounted_one rows row t p n i place (subst (λ q. IsNearestRaceUncounted rows row t p q i) same x.is) here in
+        let at = nearest_race_unknown_one rows row t p n i place (subst (λ q. IsNearestRaceUnknown rows row t p q i) same x.is) here in
         omega arith)
   ],
 )
 
 -- ---- it is the nearest race
 
--- what is given: the row has the last accesses of the first n processors, all there are, that conflict with e, and t is the
--- timestamp before it
-pub record IsNearestRaceRow (j : List Event) (e : Event) (is : Kind → Bool) (t : ℕ → ℕ) (rows : ℕ → Option Access) (row n : ℕ) : Type 0 where
+-- what is given: the rows from this one on have the last accesses of the first n processors, all there are, that conflict
+-- with e, and t is the cut of e's processor before it
+pub record IsNearestRaceRow (j : List Event) (e : Event) (is : Kind → Bool) (t : ℕ → ℕ) (rows : ℕ → Option ℕ) (row n : ℕ) : Type 0 where
   pub conflicts : (f : Event) → Conflict f e ↔ IsTrue (is f.kind)
   pub range : EventProcessorsInRange n j
-  pub time : IsTimeOf j e.processor t
+  pub cut : IsCutOf j e.processor t
   pub last : (q : ℕ) → q < n → IsNearestRaceAccessOf j is q (rows (row + q))
 
-nearest_race_by_interval : (j : List Event) (e f : Event) (t : ℕ → ℕ) (i : ℕ) → EventAt j i f → f.processor ≢ e.processor → Conflict f e
-    → IsTimeOf j e.processor t → Race (j ++ e ∷ []) i (length j) ↔ (t f.processor ≤ event_interval_at j f.processor i)
-nearest_race_by_interval j e f t i at apart conflict time =
-    let lt = event_place_inside j i f at in
-    let front = take-append_seam j (e ∷ []) in
-    let tells = next_race_by_time (event_place_at_end j e) (event_place_longer j (e ∷ []) i f at) lt apart conflict
-    (subst (λ xs. IsTimeOf xs e.processor t) (sym front) time) in
-    let same = event_count-front event_closes j (e ∷ []) i f.processor (omega arith) in
-    ((λ r. (let le = tells.0 r in omega arith)), (λ le. tells.1 (omega arith)))
-
--- an access whose interval isn't counted races
-nearest_race_uncounted_races : {j : List Event} {e : Event} {is : Kind → Bool} {t : ℕ → ℕ} {rows : ℕ → Option Access} {row n q i : ℕ}
-    → IsNearestRaceRow j e is t rows row n → q < n → IsNearestRaceUncounted rows row t e.processor q i → Race (j ++ e ∷ []) i (length j)
-nearest_race_uncounted_races {j = j} {e = e} {is = is} {t = t} {q = q} given lt x =
-    let last : IsNearestRaceAccess j is q x.access = subst (IsNearestRaceAccessOf j is q) x.at (given.last q lt) in
+-- an access that isn't known races
+nearest_race_unknown_races : {j : List Event} {e : Event} {is : Kind → Bool} {t : ℕ → ℕ} {rows : ℕ → Option ℕ} {row n q i : ℕ}
+    → IsNearestRaceRow j e is t rows row n → q < n → IsNearestRaceUnknown rows row t e.processor q i → Race (j ++ e ∷ []) i (length j)
+nearest_race_unknown_races {j = j} {e = e} {is = is} {t = t} {q = q} {i = i} given lt x =
+    let last : IsNearestRaceAccess j is q i = subst (IsNearestRaceAccessOf j is q) x.at (given.last q lt) in
     let f : Event = event q last.kind in
-    let tells = nearest_race_by_interval j e f t x.access.place last.does x.apart ((given.conflicts f).1 last.counts) given.time in
-    let same = last.interval in
-    let later = x.later in
-    subst (λ m. Race (j ++ e ∷ []) m (length j)) x.place (tells.1 (omega arith))
+    (cut_tells_race given.cut last.does x.apart ((given.conflicts f).1 last.counts)).1 x.unknown
 
 -- and what races is up to such an access
-record NearestRaceUpToUncounted (rows : ℕ → Option Access) (row : ℕ) (t : ℕ → ℕ) (p n i : ℕ) : Type 0 where
+record NearestRaceUpToUnknown (rows : ℕ → Option ℕ) (row : ℕ) (t : ℕ → ℕ) (p n i : ℕ) : Type 0 where
   place : ℕ
-  some : SomeNearestRaceUncounted rows row t p n place
+  some : SomeNearestRaceUnknown rows row t p n place
   up_to : i ≤ place
 
-nearest_race_up_to : {j : List Event} {e : Event} {is : Kind → Bool} {t : ℕ → ℕ} {rows : ℕ → Option Access} {row n i : ℕ}
-    → IsNearestRaceRow j e is t rows row n → Race (j ++ e ∷ []) i (length j) → NearestRaceUpToUncounted rows row t e.processor n i
+nearest_race_up_to : {j : List Event} {e : Event} {is : Kind → Bool} {t : ℕ → ℕ} {rows : ℕ → Option ℕ} {row n i : ℕ}
+    → IsNearestRaceRow j e is t rows row n → Race (j ++ e ∷ []) i (length j) → NearestRaceUpToUnknown rows row t e.processor n i
 nearest_race_up_to {j = j} {e = e} {is = is} {t = t} {rows = rows} {row = row} {n = n} {i = i} given r = go (rows (row + f.processor)) refl
   where
     f : Event
@@ -280,29 +264,27 @@ nearest_race_up_to {j = j} {e = e} {is = is} {t = t} {rows = rows} {row = row} {
     counts : IsTrue (is f.kind)
     counts = (given.conflicts f).0 both.1
 
-    go : (o : Option Access) → rows (row + f.processor) ≡ o → NearestRaceUpToUncounted rows row t e.processor n i
+    go : (o : Option ℕ) → rows (row + f.processor) ≡ o → NearestRaceUpToUnknown rows row t e.processor n i
     go None none = absurd (subst (IsNearestRaceAccessOf j is f.processor) none (given.last f.processor few) i f.kind at counts)
-    go (Some x) some =
-        let last : IsNearestRaceAccess j is f.processor x = subst (IsNearestRaceAccessOf j is f.processor) some (given.last f.processor few) in
-        let le : i ≤ x.place = last.last i f.kind at counts in
-        let low = (nearest_race_by_interval j e f t i at both.0 both.1 given.time).0 r in
-        let up = event_count-mono event_closes j i x.place f.processor le in
-        let same = last.interval in
+    go (Some place) some =
+        let last : IsNearestRaceAccess j is f.processor place = subst (IsNearestRaceAccessOf j is f.processor) some (given.last f.processor few) in
+        let le : i ≤ place = last.last i f.kind at counts in
+        let low = (cut_tells_race given.cut at both.0 both.1).0 r in
         record {
-          place = x.place;
+          place = place;
           some = record {
             by = f.processor;
             below = few;
-            is = record { access = x; apart = both.0; at = some; later = omega arith; place = refl };
+            is = record { apart = both.0; at = some; unknown = omega arith };
           };
           up_to = le;
         }
 
-pub nearest_race_is : {j : List Event} {e : Event} {is : Kind → Bool} {t : ℕ → ℕ} {rows : ℕ → Option Access} {row n : ℕ} (o : Option ℕ) → IsNearestRaceRow j e is t rows row n → IsNearestRaceLastUncounted rows row t e.processor n o → IsNearestRaceTo j e o
+pub nearest_race_is : {j : List Event} {e : Event} {is : Kind → Bool} {t : ℕ → ℕ} {rows : ℕ → Option ℕ} {row n : ℕ} (o : Option ℕ) → IsNearestRaceRow j e is t rows row n → IsNearestRaceLastUnknown rows row t e.processor n o → IsNearestRaceTo j e o
 nearest_race_is None given none =
     λ i r. let x = nearest_race_up_to given r in none x.place x.some
 nearest_race_is {is = is} (Some k) given last = (
-  nearest_race_uncounted_races given last.0.below last.0.is,
+  nearest_race_unknown_races given last.0.below last.0.is,
   λ m r. (let x = nearest_race_up_to given r in
       let top = last.1 x.place x.some in
       let le = x.up_to in

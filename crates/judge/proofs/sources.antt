@@ -4,4 +4,3 @@ pub mod ChoosingSources
 pub mod KeepingStored
 pub mod LoadRows
 pub mod Answering
-pub mod UnorderedLoads

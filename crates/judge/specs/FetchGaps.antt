@@ -1,5 +1,5 @@
--- What is kept of a history to count the gaps of fetches.
-use Rattle.std.specs.Prelude.{ℕ, ◌≡◌, ◌≢◌, ◌*◌, ◌/◌, ◌^◌, ◌<◌, ◌≤◌, ◌↔◌, Option, Some, None, List, length, replicate, slice_index, vec_len}
+-- What is kept of a history to tell what copies of pages lack.
+use Rattle.std.specs.Prelude.{ℕ, ◌≡◌, ◌≢◌, ◌*◌, ◌/◌, ◌<◌, ◌≤◌, ◌↔◌, Option, Some, None, List, length, replicate, slice_index, vec_len}
 use Rattle.journal.specs.declared.event.Event.{Event}
 use Rattle.journal.specs.declared.event.Kind.TheVariants.{Store}
 use Rattle.journal.specs.Sizes.{Sizes}
@@ -8,8 +8,6 @@ use Rattle.journal.specs.WellFormed.{Does}
 use Rattle.journal.specs.EventsInRange.{EventProcessorsInRange}
 use Rattle.journal.specs.Clocks.{AreClocks}
 use Rattle.journal.specs.BroughtCopy.{BroughtToCopy}
-use Rattle.journal.specs.PageImages.{HasPageImageCount, StoredInGapOfPageImage}
-use Rattle.judge.specs.declared.gaps.GapAmounts.{GapAmounts}
 use Rattle.judge.specs.declared.gaps.Gaps.{Gaps}
 use Rattle.judge.specs.JudgedSizes.{AreJudgedSizes, judged_sizes_of}
 use Rattle.judge.specs.GapTally.{IsGapTallyOfValues, IsGapTallyFor, gap_tally_place_of}
@@ -48,22 +46,14 @@ pub record AreFetchGapsOf (j : List Event) (g : Gaps) : Type 0 where
   pub fetched : (n p : ℕ) → p < 16 → FetchGapBroughtUpTo (judged_sizes_of g.sizes) j p n (fetch_gap_time g.fetched (gap_tally_place_of n p))
   pub intervals : IsGapTallyOfValues (FetchGapStoreInPage (judged_sizes_of g.sizes) j) (λ k. k) (FetchGapStoreInPage (judged_sizes_of g.sizes) j) (length j)
       g.intervals
-  pub words : IsGapTallyOfValues (FetchGapStoreOfWord (judged_sizes_of g.sizes) j) (λ x. x.0) (FetchGapStoreAt j) (length j) g.words
   pub few : vec_len g.fetched.kept ≤ length j
 
--- there is room for a row for each page and processor, and for a mark of words for each address and processor
+-- there is room for a row for each page and processor
 pub record AreFetchGapsLong (g : Gaps) : Type 0 where
   pub sizes : AreJudgedSizes (judged_sizes_of g.sizes)
   pub fetched : IsSparse g.fetched
   pub fetched_room : g.sizes.pages * 16 ≤ sparse_room g.fetched
   pub intervals : IsGapTallyFor (g.sizes.pages * 16) (g.sizes.pages * 16) g.intervals
-  pub words : IsGapTallyFor (g.sizes.pages * 16) ((g.sizes.pages * g.sizes.words) * 16) g.words
-
--- no more than that many processors can have
-pub record AreFetchGapAmountsFew (parts : ℕ) (c : GapAmounts) : Type 0 where
-  pub writers : c.writers ≤ parts
-  pub records : c.records ≤ parts * 2 ^ 22
-  pub words : c.words ≤ parts * 2 ^ 22
 
 -- the gaps tell this history so far
 pub record TellsFetchGaps (j : List Event) (g : Gaps) : Type 0 where
@@ -72,10 +62,3 @@ pub record TellsFetchGaps (j : List Event) (g : Gaps) : Type 0 where
   pub processors : EventProcessorsInRange g.sizes.processors j
   pub long : AreFetchGapsLong g
   pub are : AreFetchGapsOf j g
-
--- what a fetch of the page says of those of the gap's stores whose processor is among these
-pub record FetchGapAmountsAmong (s : Sizes) (j : List Event) (p n : ℕ) (among : ℕ → Type 0) (writers records words : ℕ) : Type 0
-  where
-    pub writers_are : HasPageImageCount (λ (q : ℕ). among q × ((k : ℕ) × (a : ℕ) × StoredInGapOfPageImage s j p n (q, k, a))) writers
-    pub records_are : HasPageImageCount (λ (x : ℕ × ℕ). among x.0 × ((a : ℕ) × StoredInGapOfPageImage s j p n (x.0, x.1, a))) records
-    pub words_are : HasPageImageCount (λ (x : ℕ × ℕ × ℕ). among x.0 × StoredInGapOfPageImage s j p n x) words

@@ -3,11 +3,12 @@ use Rattle.std.specs.Prelude.{ℕ, ◌≡◌, ◌≢◌, ◌≤◌, ◌↔◌, �
 use Rattle.journal.specs.declared.event.Event.{Event}
 use Rattle.journal.specs.declared.event.Kind.{Kind}
 use Rattle.journal.specs.declared.event.Kind.TheVariants.{Ask, Acquire, Release, Set}
+use Rattle.journal.specs.EventsInRange.{EventProcessorsInRange}
 use Rattle.journal.specs.Events.{EventAt, event_count, event_arrives, event_departs}
 use Rattle.journal.specs.WellFormed.{Does, Holds, LastIs}
 use Rattle.judge.specs.declared.frontier.LastEvent.{LastEvent}
 use Rattle.judge.specs.declared.frontier.Frontier.{Frontier}
-use Rattle.judge.specs.JudgedSizes.{AreJudgedSizes, judged_sizes_of}
+use Rattle.judge.specs.JudgedSizes.{AreStreamedSizes, judged_sizes_of, most_judged_processors}
 
 -- p has done nothing
 abbrev pub FrontTellsNothingDone : List Event → ℕ → Type 0
@@ -23,9 +24,10 @@ FrontTellsFlagSet j f = (k : ℕ) × (q : ℕ) × Does j k q (Set f)
 
 -- the front tells this history so far
 pub record FrontTellsHistory (j : List Event) (x : Frontier) : Type 0 where
-  pub sizes : AreJudgedSizes (judged_sizes_of x.sizes)
+  pub sizes : AreStreamedSizes (judged_sizes_of x.sizes)
+  pub processors : EventProcessorsInRange x.sizes.processors j
   pub place : x.place ≡ length j
-  pub long : length x.last ≡ 16
+  pub long : length x.last ≡ most_judged_processors
   pub lasts : (p : ℕ) → FrontTellsLastOf j p (slice_index_or x.last p None)
   pub arrivals : (p : ℕ) → slice_index x.arrivals p ≡ event_count event_arrives j p
   pub departures : (p : ℕ) → slice_index x.departures p ≡ event_count event_departs j p

@@ -1,5 +1,5 @@
 -- The sizes that a history is judged by.
-use Rattle.std.specs.Prelude.{ℕ, ◌*◌, ◌^◌, ◌≤◌}
+use Rattle.std.specs.Prelude.{ℕ, ◌*◌, ◌-◌, ◌^◌, ◌≤◌}
 use Rattle.base.specs.Limits.{most_processors}
 use Rattle.journal.specs.Sizes.{Sizes}
 use Rattle.judge.specs.declared.sizes.Sizes.{Sizes as Given}
@@ -28,11 +28,24 @@ judged_sizes_most_locks = 2 ^ 16
 abbrev pub judged_sizes_most_flags : ℕ
 judged_sizes_most_flags = 2 ^ 16
 
--- sizes of a history that is judged: up to 16 processors, 2^20 addresses, 2^16 locks and 2^16 flags
-pub record AreJudgedSizes (s : Sizes) : Type 0 where
-  pub processors : s.processors ≤ most_processors
+-- processors of a history that is judged as it comes
+abbrev pub most_judged_processors : ℕ
+most_judged_processors = 64
+
+-- events of a history that is judged as it comes
+abbrev pub most_judged_events : ℕ
+most_judged_events = 2 ^ 31 - 1
+
+-- sizes of a history that is judged as it comes: up to 64 processors, 2^20 addresses, 2^16 locks and 2^16 flags
+pub record AreStreamedSizes (s : Sizes) : Type 0 where
+  pub processors : s.processors ≤ most_judged_processors
   pub pages : s.pages ≤ judged_sizes_most_addresses
   pub words : s.words ≤ judged_sizes_most_addresses
   pub addresses : s.pages * s.words ≤ judged_sizes_most_addresses
   pub locks : s.locks ≤ judged_sizes_most_locks
   pub flags : s.flags ≤ judged_sizes_most_flags
+
+-- sizes of a history that is judged in any way: these, with up to 16 processors
+pub record AreJudgedSizes (s : Sizes) : Type 0 where
+  pub processors : s.processors ≤ most_processors
+  pub streamed : AreStreamedSizes s

@@ -7,17 +7,6 @@ use Rattle.judge.specs.declared.flat_memory.FlatMemory.{FlatMemory}
 use Rattle.judge.specs.declared.flat_memory.FlatStore.{FlatStore}
 use Rattle.judge.specs.SparseTables.{IsSparseFor, sparse_at}
 
--- the last store to a stands at place i
-pub record LastFlatStoreTo (j : List Event) (a i : ℕ) : Type 0 where
-  pub by : ℕ
-  pub value : ℕ
-  pub stores : Does j i by (Store a value)
-  pub last : (m q w : ℕ) → Does j m q (Store a w) → m ≤ i
-
--- that place, if there is a store to a
-abbrev pub IsLastFlatStoreTo : List Event → ℕ → Option ℕ → Type 0
-IsLastFlatStoreTo j a o = MatchOption o ((m q w : ℕ) → ¬ Does j m q (Store a w)) (LastFlatStoreTo j a)
-
 -- x is the last store to a
 pub record IsLastFlatStore (j : List Event) (a : ℕ) (x : FlatStore) : Type 0 where
   pub stores : Does j x.place x.by (Store a x.value)

@@ -1,15 +1,26 @@
 -- The words that contracts name, passed on from one place. Declares nothing.
-pub use Rattle.judge.specs.JudgedSizes.{AreJudgedSizes, AreJudgedSizesSmall, judged_sizes_most_addresses, judged_sizes_of}
-pub use Rattle.judge.specs.SparseTables.{IsSparse, IsSparseFor, IsSparseRowWith, IsSparseWith, most_sparse_values, sparse_at, sparse_chunk_rows, sparse_mark, sparse_room, sparse_row}
+pub use Rattle.judge.specs.JudgedSizes.{AreJudgedSizes, AreJudgedSizesSmall, AreStreamedSizes, judged_sizes_most_addresses, judged_sizes_of, most_judged_events, most_judged_processors}
+pub use Rattle.judge.specs.SparseTables.{IsSparse, IsSparseFor, IsSparseRowFrom, IsSparseRowWith, IsSparseWith, most_sparse_values, sparse_at, sparse_chunk_rows, sparse_mark, sparse_room, sparse_row}
 pub use Rattle.judge.specs.LaxWellFormed.{LaxLaw, LaxMayFollow, WellFormedOrLax}
 pub use Rattle.judge.specs.Why.{IsFirstWhyIllFormed, WhyIsInTurn, IsWhyVerdict, WhyWaitsFor, WhyLaw}
 pub use Rattle.judge.specs.FrontTells.{FrontTellsFirstAsk, FrontTellsNobodyAsks, FrontTellsHistory, front_tells_holder_after, front_tells_flag_set_after}
 pub use Rattle.judge.specs.HistoryRanges.{HistoryRangeLaw}
 pub use Rattle.judge.specs.GapTally.{GapTallyAdds, IsGapTallyFor, is_gap_tally_between, gap_tally_mark, gap_tally_numbers, gap_tally_place_of}
-pub use Rattle.judge.specs.FetchGaps.{AreFetchGapAmountsFew, AreFetchGapsOf, AreFetchGapsLong, FetchGapAmountsAmong, FetchGapBroughtUpTo, FetchGapStoreInPage, TellsFetchGaps, fetch_gap_time}
+pub use Rattle.judge.specs.FetchGaps.{AreFetchGapsOf, AreFetchGapsLong, FetchGapBroughtUpTo, FetchGapStoreInPage, TellsFetchGaps, fetch_gap_time}
 pub use Rattle.judge.specs.Miscounted.{IsNotMiscounted, IsFirstMiscounted, IsEventInSizes, Miscounts}
 pub use Rattle.judge.specs.Models.{ExplainedUnderModel, IsFlatModelWord, IsModelAnswer, ModelAnswersStayLaw, ModelConcurrentStore, ModelsAgreeLaw}
-pub use Rattle.judge.specs.NearestRaces.{NearestRaceAccessesAreKept, AreNearestRacesOf, IsNearestRaceLastUncounted, IsNearestRace, IsNearestRaceTo, IsNearestRaceUncounted}
-pub use Rattle.judge.specs.LastFlatStores.{HasLastFlatStores, IsLastFlatStoreTo, KeepsLastFlatStore}
-pub use Rattle.judge.specs.Owed.{AreOwedBy, IsOwedLastStore, IsOwedRacy, PermitsOwed}
+pub use Rattle.judge.specs.CutEntries.{CutEntriesJoinedAt, CutEntriesMarkedAt}
+pub use Rattle.judge.specs.NumberedCuts.{numbered_cut_at}
+pub use Rattle.judge.specs.Cuts.{AreCuts, CutsAfterArrival, IsCutOf}
+pub use Rattle.judge.specs.NearestRaces.{NearestRaceAccessesAreKept, AreNearestRacesOf, IsNearestRaceLastUnknown, IsNearestRace, IsNearestRaceTo, IsNearestRaceUnknown, nearest_race_row}
+pub use Rattle.judge.specs.LastFlatStores.{HasLastFlatStores, KeepsLastFlatStore}
+pub use Rattle.judge.specs.Owed.{AreOwedBy, IsOwedRacy, PermitsOwed}
 pub use Rattle.judge.specs.SizedHistory.{IsHistoryInSizes, IsSizedHistoryOfJournal, IsHistoryOfSizes, IsSizedHistory, most_in_sized_history, whole_sized_history}
+pub use Rattle.judge.specs.KeptStores.{AreKeptStoresOf, KeptStoresAreOf, kept_store_row, kept_stores_of}
+pub use Rattle.judge.specs.KeptInPasts.{AreLastKeptInPast, AreUnknownFrom, HasUnknownOfValue, IsKeptStoreFollowed, IsKeptStoreIndex, IsKeptStoreUnfollowed, IsLastKeptInPastOf, IsLastKeptStoreBelow, IsUnknownWithin, NoKeptStoreBelow}
+pub use Rattle.judge.specs.PermittedStores.{AreLatestStores, IsUnorderedStore}
+pub use Rattle.judge.specs.StoresInPasts.{IsHiddenInPast}
+pub use Rattle.judge.specs.MovedCuts.{AreMovedCuts, AreMovedRows, AreMovedStores, IsMovedCut, KeepsCuts}
+pub use Rattle.judge.specs.StoredSteps.{AreStoredAmounts, IsStoredLimit, stored_before, stored_total, stored_total_next}
+pub use Rattle.judge.specs.StoredCounts.{AreStoredCountsOf, StoredStepAdds, stored_row}
+pub use Rattle.judge.specs.DueCounts.{AreDueAmountsBetween, AreDueAmountsFew, AreDueFetchedCuts, DueAmountsAmong, IsDueFetchedCut, TellsDueCounts}

@@ -1,5 +1,5 @@
 -- Rows numbered from 0, of which some have a value.
-use Rattle.std.specs.Prelude.{ℕ, zero, suc, ◌≡◌, ◌≢◌, ◌*◌, ◌/◌, ◌%◌, ◌^◌, ◌<◌, ◌≤◌, Option, Some, None, List, [], ◌∷◌, ◌++◌, slice_get, slice_index, vec_len}
+use Rattle.std.specs.Prelude.{ℕ, zero, suc, ◌≡◌, ◌≢◌, ◌-◌, ◌*◌, ◌/◌, ◌%◌, ◌^◌, ◌<◌, ◌≤◌, Option, Some, None, List, [], ◌∷◌, ◌++◌, drop, slice_get, slice_index, vec_len}
 use Rattle.std.specs.Global.{Vec}
 use Rattle.judge.specs.declared.sparse_table.SparseTable.{SparseTable}
 
@@ -9,7 +9,7 @@ sparse_chunk_rows = 1024
 
 -- how many values a table takes at most
 abbrev pub most_sparse_values : ℕ
-most_sparse_values = 2 ^ 24
+most_sparse_values = 2 ^ 32 - 1
 
 -- the marks of a chunk, none past the last one
 abbrev pub sparse_chunk : Option (Vec ℕ) → List ℕ
@@ -58,6 +58,12 @@ sparse_items (Some row) = row.items
 
 abbrev pub sparse_row : {A : Type 0} → SparseTable (Vec A) → ℕ → List A
 sparse_row t r = sparse_items (sparse_at t r)
+
+-- the row has its items from this one on, and each other what it had
+pub record IsSparseRowFrom {A : Type 0} (old new : SparseTable (Vec A)) (row from : ℕ) : Type 0 where
+  pub sparse : IsSparse new
+  pub now : sparse_row new row ≡ drop from (sparse_row old row)
+  pub others : (r : ℕ) → r ≢ row → sparse_row new r ≡ sparse_row old r
 
 -- the row has the item at its end now, and each other what it had
 pub record IsSparseRowWith {A : Type 0} (old new : SparseTable (Vec A)) (row : ℕ) (item : A) : Type 0 where

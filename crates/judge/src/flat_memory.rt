@@ -2,21 +2,21 @@
 ghost use Rattle.std.specs.Prelude.{◌≡◌, ◌↔◌, ℕ, ◌<◌, ◌≤◌, ◌^◌, [], ◌∷◌, ◌++◌, IfOk, IsTrue, List, OnOk, Some, length, replicate, slice_get};
 ghost use Rattle.journal.specs.declared.event.Event.{Event};
 ghost use Rattle.journal.specs.Prelude.{EventAddressInRange, memory_after};
-ghost use Rattle.judge.specs.Prelude.{HasLastFlatStores, IsLastFlatStoreTo, KeepsLastFlatStore};
+ghost use Rattle.judge.specs.Prelude.{HasLastFlatStores, KeepsLastFlatStore, most_judged_events};
 
 use crate::sparse_table::SparseTable;
 use journal::{Event, Kind};
 use std::alloc::{AllocError, Global};
 
 /// The last store to an address.
-#[derive(Clone, Copy)]
-pub(crate) struct FlatStore {
+#[derive(Clone, Copy, Debug, PartialEq, Eq)]
+pub struct FlatStore {
     /// Whose it is.
-    pub(crate) by: usize,
+    pub by: usize,
     /// The place of its event.
-    pub(crate) place: u32,
+    pub place: u32,
     /// What it stored.
-    pub(crate) value: u32,
+    pub value: u32,
 }
 
 /// One memory of zeros, to which the events of a history are done in their order, and which event wrote each of its words. It
@@ -37,7 +37,7 @@ impl FlatMemory {
     }
 
     /// The last store to the address.
-    pub(crate) fn last(&self, address: usize) -> Option<FlatStore>
+    pub fn last(&self, address: usize) -> Option<FlatStore>
         requires { (j : List Event) × (n : ℕ) × HasLastFlatStores j n self.now × (address < n) }
         ensures { (j : List Event) (n : ℕ) → HasLastFlatStores j n self.now → address < n → KeepsLastFlatStore j address result }
     {
@@ -56,20 +56,9 @@ impl FlatMemory {
         }
     }
 
-    /// The place of the last store to the address.
-    pub fn last_store(&self, address: usize) -> Option<usize>
-        requires { (j : List Event) × (n : ℕ) × HasLastFlatStores j n self.now × (address < n) }
-        ensures { (j : List Event) (n : ℕ) → HasLastFlatStores j n self.now → address < n → IsLastFlatStoreTo j address result }
-    {
-        match self.last(address) {
-            Some(store) => Some(store.place as usize),
-            None => None,
-        }
-    }
-
     /// Does the event, which comes at this place. The only error is running out of memory, after which it may tell no history.
     pub fn note(&mut self, event: Event, place: usize) -> Result<(), AllocError>
-        requires few { place < 2 ^ 22 }
+        requires few { place < most_judged_events }
         requires so_far { (j : List Event) × (n : ℕ) × HasLastFlatStores j n self.old × EventAddressInRange n event.kind × (length j ≡ place) }
         ensures { OnOk result ((j : List Event) (n : ℕ) → HasLastFlatStores j n self.old → EventAddressInRange n event.kind
             → length j ≡ place → HasLastFlatStores (j ++ event ∷ []) n self.new) }

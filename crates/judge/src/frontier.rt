@@ -1,20 +1,18 @@
 //! What a history so far says of what may come next.
-ghost use Rattle.std.specs.Prelude.{◌≡◌, ◌↔◌, ℕ, ◌+◌, ◌<◌, ◌≤◌, ◌^◌, ◌==◌, ◌&&◌, [], ◌∷◌, ◌++◌, Bool, IsTrue};
+ghost use Rattle.std.specs.Prelude.{◌≡◌, ◌↔◌, ℕ, ◌+◌, ◌-◌, ◌<◌, ◌≤◌, ◌^◌, ◌==◌, ◌&&◌, [], ◌∷◌, ◌++◌, Bool, IsTrue};
 ghost use Rattle.std.specs.Prelude.{IfOk, List, MatchOption, cond, false, length, slice_index, slice_index_or, vec_len};
-ghost use Rattle.base.specs.Prelude.{most_held, most_processors};
 ghost use Rattle.journal.specs.declared.event.Event.{Event};
 ghost use Rattle.journal.specs.declared.event.Kind.{Kind as AKind};
 ghost use Rattle.journal.specs.declared.event.Kind.TheVariants.{Acquire, Ask, Await, Depart};
 ghost use Rattle.journal.specs.Sizes.{Sizes as TheSizes};
 ghost use Rattle.journal.specs.WellFormed.{WellFormedKindInRange};
 ghost use Rattle.journal.specs.Prelude.{Holds, event, event_arrives, event_departs};
-ghost use Rattle.judge.specs.Prelude.{AreJudgedSizes, FrontTellsFirstAsk, WhyIsInTurn, IsWhyVerdict, LaxMayFollow, FrontTellsNobodyAsks, FrontTellsHistory};
-ghost use Rattle.judge.specs.Prelude.{WhyWaitsFor, front_tells_holder_after, front_tells_flag_set_after, judged_sizes_of};
+ghost use Rattle.judge.specs.Prelude.{AreStreamedSizes, FrontTellsFirstAsk, WhyIsInTurn, IsWhyVerdict, LaxMayFollow, FrontTellsNobodyAsks, FrontTellsHistory};
+ghost use Rattle.judge.specs.Prelude.{WhyWaitsFor, front_tells_holder_after, front_tells_flag_set_after, judged_sizes_of, most_judged_events, most_judged_processors};
 
 use crate::kinds::{is_same_kind, kind_awaited_after};
-use crate::sizes::Sizes;
+use crate::sizes::{MOST_JUDGED_PROCESSORS, Sizes};
 use crate::why::Why;
-use base::MOST_PROCESSORS;
 use journal::{Event, Kind};
 use std::alloc::{AllocError, Global};
 
@@ -32,11 +30,11 @@ pub struct Frontier {
     /// How many events there are.
     pub(crate) place: usize,
     /// The last event of each processor.
-    pub(crate) last: [Option<LastEvent>; MOST_PROCESSORS],
+    pub(crate) last: [Option<LastEvent>; MOST_JUDGED_PROCESSORS],
     /// How often each processor has arrived.
-    pub(crate) arrivals: [u32; MOST_PROCESSORS],
+    pub(crate) arrivals: [u32; MOST_JUDGED_PROCESSORS],
     /// How often it has departed.
-    pub(crate) departures: [u32; MOST_PROCESSORS],
+    pub(crate) departures: [u32; MOST_JUDGED_PROCESSORS],
     /// Who holds each lock.
     pub(crate) holders: Vec<Option<usize>>,
     /// Which flags are set.
@@ -57,13 +55,13 @@ fn frontier_ask_at(last: Option<LastEvent>, lock: usize) -> Option<usize>
 
 /// Counts the event where it is an arrival or a departure.
 fn update_frontier_episodes(
-    arrivals: &mut [u32; MOST_PROCESSORS],
-    departures: &mut [u32; MOST_PROCESSORS],
+    arrivals: &mut [u32; MOST_JUDGED_PROCESSORS],
+    departures: &mut [u32; MOST_JUDGED_PROCESSORS],
     event: Event,
 )
-    requires processor { event.processor < most_processors }
-    requires arrivals_room { slice_index arrivals.old event.processor < 2 ^ 22 }
-    requires departures_room { slice_index departures.old event.processor < 2 ^ 22 }
+    requires processor { event.processor < most_judged_processors }
+    requires arrivals_room { slice_index arrivals.old event.processor < 2 ^ 32 - 1 }
+    requires departures_room { slice_index departures.old event.processor < 2 ^ 32 - 1 }
     ensures arrivals { (q : ℕ) → slice_index arrivals.new q
         ≡ slice_index arrivals.old q + cond ((event.processor == q) && event_arrives event.kind) 1 0 }
     ensures departures { (q : ℕ) → slice_index departures.new q
@@ -106,24 +104,31 @@ impl Frontier {
     /// Before the first event of a history of these sizes. It takes 16 bytes a lock and a byte a flag. The only error is
     /// running out of memory.
     pub fn new(alloc: Global, sizes: Sizes) -> Result<Frontier, AllocError>
-        requires { AreJudgedSizes (judged_sizes_of sizes) }
+        requires { AreStreamedSizes (judged_sizes_of sizes) }
         ensures tells { IfOk result (FrontTellsHistory []) }
         ensures sizes { IfOk result (λ x. x.sizes ≡ sizes) }
     {
         Ok(Frontier {
             sizes,
             place: 0,
-            last: [None; MOST_PROCESSORS],
-            arrivals: [0; MOST_PROCESSORS],
-            departures: [0; MOST_PROCESSORS],
+            last: [None; MOST_JUDGED_PROCESSORS],
+            arrivals: [0; MOST_JUDGED_PROCESSORS],
+            departures: [0; MOST_JUDGED_PROCESSORS],
             holders: vec![in alloc; None; sizes.locks]?,
             flags: vec![in alloc; false; sizes.flags]?,
         })
     }
 
+    /// How many events there are.
+    pub fn count(&self) -> usize
+        ensures { result ≡ self.now.place }
+    {
+        self.place
+    }
+
     /// What the processor waits for.
     fn awaited(&self, processor: usize) -> Option<Kind>
-        requires { processor < most_processors }
+        requires { processor < most_judged_processors }
         ensures { (j : List Event) → FrontTellsHistory j self.now → (k : AKind)
             → (result ≡ Some k) ↔ WhyWaitsFor j processor k }
     {
@@ -133,12 +138,13 @@ impl Frontier {
 
     /// Of the open asks of the lock, whose is the first one, and its place.
     fn first_ask(&self, lock: usize) -> Option<(usize, usize)>
+        requires { (j : List Event) × FrontTellsHistory j self.now }
         ensures { (j : List Event) → FrontTellsHistory j self.now
             → MatchOption result (FrontTellsNobodyAsks j lock) (λ x. FrontTellsFirstAsk j lock x.0 x.1) }
     {
         let mut first = None;
         let mut limit = self.place;
-        for processor in 0..MOST_PROCESSORS {
+        for processor in 0..self.sizes.processors {
             if let Some(place) = frontier_ask_at(self.last[processor], lock) {
                 if place < limit {
                     limit = place;
@@ -151,7 +157,8 @@ impl Frontier {
 
     /// Why the lock is not granted to the processor, whose ask of it is open.
     fn not_granted(&self, processor: usize, lock: usize, lax: bool) -> Option<Why>
-        requires { lock < vec_len self.now.holders }
+        requires lock { lock < vec_len self.now.holders }
+        requires tells { (j : List Event) × FrontTellsHistory j self.now }
         ensures { (j : List Event) → FrontTellsHistory j self.now
             → WhyIsInTurn (judged_sizes_of self.now.sizes) j (event processor (Acquire lock))
             → WhyWaitsFor j processor (Acquire lock)
@@ -173,8 +180,8 @@ impl Frontier {
 
     /// Why the processor, which has arrived, does not depart.
     fn not_departed(&self, processor: usize) -> Option<Why>
-        requires processor { processor < most_processors }
-        requires processors { self.now.sizes.processors ≤ most_processors }
+        requires processor { processor < most_judged_processors }
+        requires processors { self.now.sizes.processors ≤ most_judged_processors }
         ensures { (j : List Event) → FrontTellsHistory j self.now
             → WhyIsInTurn (judged_sizes_of self.now.sizes) j (event processor Depart)
             → WhyWaitsFor j processor Depart → (lax : Bool)
@@ -275,7 +282,7 @@ impl Frontier {
 
     /// Takes note of the event, which may come next.
     pub fn note(&mut self, event: Event)
-        requires few { self.old.place < most_held }
+        requires few { self.old.place < most_judged_events }
         requires may_follow { (j : List Event) × FrontTellsHistory j self.old
             × LaxMayFollow (judged_sizes_of self.old.sizes) j event }
         ensures tells { (j : List Event) → FrontTellsHistory j self.old

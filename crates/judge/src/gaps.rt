@@ -1,12 +1,11 @@
-//! What fetches have to count.
+//! What copies of pages lack.
 ghost use Rattle.std.specs.Prelude.{◌≡◌, ℕ, ◌+◌, ◌*◌, ◌<◌, ◌≤◌, ◌^◌, [], ◌∷◌, ◌++◌, IfOk, OnOk, List, Some, length};
 ghost use Rattle.std.specs.Prelude.{cond, nat_lt, slice_get, slice_index, take};
 ghost use Rattle.base.specs.Prelude.{most_processors};
 ghost use Rattle.journal.specs.declared.event.Event.{Event};
-ghost use Rattle.journal.specs.PageImages.{GapCounts};
 ghost use Rattle.journal.specs.declared.event.Kind.TheVariants.{Fetch, Store};
 ghost use Rattle.journal.specs.Prelude.{HasPageImageCount, IsTimeOf, did};
-ghost use Rattle.judge.specs.Prelude.{AreFetchGapAmountsFew, AreFetchGapsOf, AreFetchGapsLong, AreJudgedSizes, FetchGapAmountsAmong, IsEventInSizes, TellsFetchGaps, judged_sizes_of};
+ghost use Rattle.judge.specs.Prelude.{AreFetchGapsOf, AreFetchGapsLong, AreJudgedSizes, IsEventInSizes, TellsFetchGaps, judged_sizes_of};
 ghost use Rattle.judge.specs.Prelude.{FetchGapBroughtUpTo, FetchGapStoreInPage, gap_tally_place_of, most_in_sized_history, judged_sizes_most_addresses};
 
 use crate::gap_tally::GapTally;
@@ -16,19 +15,11 @@ use base::MOST_PROCESSORS;
 use journal::{Clock, Event, EventClocks, Kind};
 use std::alloc::{AllocError, Global};
 
-/// What a fetch counts: processors whose stores it brings, intervals of these stores, and words in them.
-#[derive(Clone, Copy)]
-pub(crate) struct GapAmounts {
-    pub(crate) writers: usize,
-    pub(crate) records: usize,
-    pub(crate) words: usize,
-}
-
-/// A history, taken an event at a time, of which it tells what copies of pages lack: what a fetch that comes next has to
-/// count, and in which of its intervals a processor stores in a page.
+/// A history, taken an event at a time, of which it tells what copies of pages lack: up to which intervals of others the fetches
+/// of a page have brought, and in how many of its intervals a processor stores in it.
 ///
-/// It takes memory for the words that are stored to and the pages that are fetched, by processor, and four bytes for each first
-/// store of an interval to a page or to a word.
+/// It takes memory for the pages that are stored in and fetched, by processor, and four bytes for each first store of an interval
+/// to a page.
 #[derive(Drop)]
 pub struct Gaps {
     pub(crate) sizes: Sizes,
@@ -37,56 +28,15 @@ pub struct Gaps {
     pub(crate) fetched: SparseTable<Clock>,
     /// Of each page and processor the intervals in which it stores in the page, each once.
     pub(crate) intervals: GapTally,
-    /// The same, each once for each word.
-    pub(crate) words: GapTally,
 }
 
-impl GapAmounts {
-    /// Of nothing.
-    fn none() -> GapAmounts
-        ensures { result ≡ record { writers = 0; records = 0; words = 0 } }
-    {
-        GapAmounts {
-            writers: 0,
-            records: 0,
-            words: 0,
-        }
-    }
-
-    /// With those of one more processor, after that many.
-    fn and(self, other: GapAmounts, parts: usize) -> GapAmounts
-        requires parts { parts < most_processors }
-        requires few { AreFetchGapAmountsFew parts self }
-        requires other_few { AreFetchGapAmountsFew 1 other }
-        ensures few { AreFetchGapAmountsFew (parts + 1) result }
-        ensures sum { result ≡ record {
-          writers = self.writers + other.writers;
-          records = self.records + other.records;
-          words = self.words + other.words;
-        } }
-    {
-        GapAmounts {
-            writers: self.writers + other.writers,
-            records: self.records + other.records,
-            words: self.words + other.words,
-        }
-    }
-}
-
-/// Where it is kept what there is of a page or address and a processor.
-fn gap_row_at(number: usize, processor: usize) -> usize
+/// Where it is kept what there is of a page and a processor.
+fn gap_row_at(page: usize, processor: usize) -> usize
     requires processor { processor < most_processors }
-    requires number { number ≤ judged_sizes_most_addresses }
-    ensures { result ≡ gap_tally_place_of number processor }
+    requires page { page ≤ judged_sizes_most_addresses }
+    ensures { result ≡ gap_tally_place_of page processor }
 {
-    number * MOST_PROCESSORS + processor
-}
-
-/// How many processors have that many records, where one has all of them.
-fn gap_writers_of(records: usize) -> usize
-    ensures { result ≡ cond (nat_lt 0 records) 1 0 }
-{
-    usize::from(records > 0)
+    page * MOST_PROCESSORS + processor
 }
 
 impl Gaps {
@@ -97,13 +47,11 @@ impl Gaps {
         ensures sizes { IfOk result (λ g. g.sizes ≡ sizes) }
     {
         let rows = sizes.pages * MOST_PROCESSORS;
-        let marks = sizes.pages * sizes.words * MOST_PROCESSORS;
         Ok(Gaps {
             sizes,
             clocks: EventClocks::new(alloc, sizes.processors)?,
             fetched: SparseTable::new(alloc, rows)?,
             intervals: GapTally::new(alloc, rows, rows)?,
-            words: GapTally::new(alloc, rows, marks)?,
         })
     }
 
@@ -149,47 +97,6 @@ impl Gaps {
         self.intervals.count(gap_row_at(page, by), from, to)
     }
 
-    /// What a fetch of the page by this processor has to count of one's stores.
-    fn part(&self, processor: usize, page: usize, by: usize) -> GapAmounts
-        requires tells { (j : List Event) × TellsFetchGaps j self.now × (length j < 2 ^ 22) }
-        requires processor { processor < most_processors }
-        requires page { page < self.now.sizes.pages }
-        requires by { by < most_processors }
-        ensures few { AreFetchGapAmountsFew 1 result }
-        ensures counts { (j : List Event) → TellsFetchGaps j self.now
-            → FetchGapAmountsAmong (judged_sizes_of self.now.sizes) j processor page (λ q. q ≡ by)
-            result.writers result.records result.words }
-    {
-        if by == processor {
-            return GapAmounts::none();
-        }
-        let row = gap_row_at(page, by);
-        let from = self.last_fetch(processor, page)[by];
-        let to = self.clocks.of(processor)[by];
-        let records = self.intervals.count(row, from, to);
-        let words = self.words.count(row, from, to);
-        GapAmounts {
-            writers: gap_writers_of(records),
-            records,
-            words,
-        }
-    }
-
-    /// What a fetch of the page by this processor has to count, if it comes next.
-    pub(crate) fn due(&self, processor: usize, page: usize) -> GapAmounts
-        requires tells { (j : List Event) × TellsFetchGaps j self.now × (length j < 2 ^ 22) }
-        requires processor { processor < most_processors }
-        requires page { page < self.now.sizes.pages }
-        ensures { (j : List Event) → TellsFetchGaps j self.now → GapCounts (judged_sizes_of self.now.sizes) j processor page
-            result.writers result.records result.words }
-    {
-        let mut due = GapAmounts::none();
-        for by in 0..self.sizes.processors {
-            due = due.and(self.part(processor, page, by), by);
-        }
-        due
-    }
-
     /// Tallies a store of the processor to the address, the next event.
     fn tally(&mut self, processor: usize, address: usize) -> Result<(), AllocError>
         requires tells { (j : List Event) × TellsFetchGaps j self.old × (length j < 2 ^ 22) }
@@ -203,9 +110,7 @@ impl Gaps {
     {
         let interval = self.clocks.of(processor)[processor];
         let row = gap_row_at(address / self.sizes.words, processor);
-        self.intervals.add(row, row, interval)?;
-        self.words
-            .add(row, gap_row_at(address, processor), interval)
+        self.intervals.add(row, row, interval)
     }
 
     /// Takes note of a fetch of the page by the processor, the next event.

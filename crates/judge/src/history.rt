@@ -3,7 +3,7 @@ ghost use Rattle.std.specs.Prelude.{◌≡◌, ◌↔◌, ◌≤◌, ◌*◌, If
 ghost use Rattle.base.specs.Prelude.{most_held, most_processors};
 ghost use Rattle.journal.specs.Sizes.{addresses};
 ghost use Rattle.journal.specs.Prelude.{EventAddressesInRange, IsFirstRace, EventProcessorsInRange, RaceFree};
-ghost use Rattle.judge.specs.Prelude.{AreJudgedSizes, AreJudgedSizesSmall, IsHistoryInSizes, IsSizedHistoryOfJournal, IsHistoryOfSizes, IsSizedHistory};
+ghost use Rattle.judge.specs.Prelude.{AreJudgedSizes, IsHistoryInSizes, IsSizedHistoryOfJournal, IsHistoryOfSizes, IsSizedHistory};
 ghost use Rattle.judge.specs.Prelude.{most_in_sized_history, judged_sizes_of, whole_sized_history};
 
 use crate::sizes::Sizes;
@@ -12,8 +12,8 @@ use journal::{Event, Journal, first_race_of};
 use std::alloc::{AllocError, Global};
 use std::marker::Model;
 
-/// A history of a cluster of some sizes: events whose numbers are within them, and no more than a journal holds. It need not be
-/// one that a cluster can make.
+/// A history of some sizes that are judged: events whose numbers are within them, and no more than a journal holds. It need not
+/// be one that a cluster can make.
 ///
 /// If events were cut off before it, an arrival of each processor stands in front for them.
 ///
@@ -41,22 +41,22 @@ impl<'a> Model for History<'a> {
     ghost invariant = { HistoryInvariant };
 }
 
-/// Whether the numbers of each event are within the sizes, which are small.
+/// Whether the numbers of each event are within the sizes, which are judged.
 fn is_history_within(sizes: Sizes, events: &[Event]) -> bool
-    requires { AreJudgedSizesSmall (judged_sizes_of sizes) }
+    requires { AreJudgedSizes (judged_sizes_of sizes) }
     ensures { IsTrue result ↔ IsHistoryInSizes (judged_sizes_of sizes) events.now }
 {
     events.iter().all(|event| sizes.have_event(*event))
 }
 
 impl<'a> History<'a> {
-    /// The history of these events, of which nothing was cut off. None if the sizes aren't small, if the events are more than
-    /// `MOST_HELD`, or if one of them names a number past the sizes; else there is one.
+    /// The history of these events, of which nothing was cut off. None if the sizes aren't judged, if the events are more
+    /// than `MOST_HELD`, or if one of them names a number past the sizes; else there is one.
     pub fn new(sizes: Sizes, events: &'a [Event]) -> Option<History<'a>>
         ensures fits { IsSome result ↔ IsSizedHistory (whole_sized_history sizes events.now) }
         ensures value { IfSome result (λ h. h ≡ whole_sized_history sizes events.now) }
     {
-        if !sizes.are_small() || events.len() > MOST_HELD || !is_history_within(sizes, events) {
+        if !sizes.are_judged() || events.len() > MOST_HELD || !is_history_within(sizes, events) {
             return None;
         }
         Some(History {
@@ -67,14 +67,14 @@ impl<'a> History<'a> {
         })
     }
 
-    /// The history that the journal has, with what stands for events that were cut off. None if the sizes aren't small, or if
-    /// it isn't one of them; else there is one.
+    /// The history that the journal has, with what stands for events that were cut off. None if the sizes aren't judged, or
+    /// if it isn't one of them; else there is one.
     pub fn of_journal(sizes: Sizes, journal: &'a Journal) -> Option<History<'a>>
         ensures fits { IsSome result ↔ IsHistoryOfSizes (judged_sizes_of sizes) journal.now }
         ensures value { IfSome result (IsSizedHistoryOfJournal sizes journal.now) }
     {
         let events = journal.history();
-        if !sizes.are_small() || !is_history_within(sizes, events) {
+        if !sizes.are_judged() || !is_history_within(sizes, events) {
             return None;
         }
         Some(History {
@@ -85,16 +85,15 @@ impl<'a> History<'a> {
         })
     }
 
-    /// The sizes of the cluster.
+    /// Its sizes.
     pub fn sizes(&self) -> Sizes
         ensures value { result ≡ self.now.sizes }
-        ensures small { AreJudgedSizesSmall (judged_sizes_of result) }
         ensures judged { AreJudgedSizes (judged_sizes_of result) }
     {
         self.sizes
     }
 
-    /// How many addresses the cluster has.
+    /// How many addresses there are.
     pub fn addresses(&self) -> usize
         ensures { result ≡ addresses (judged_sizes_of self.now.sizes) }
     {

@@ -4,13 +4,14 @@
 //! **What contracts see.** `WellFormedNext` and `WellFormed` of journal's specs/WellFormed: each event may follow what
 //! stands before it. `WellFormedOrLax` of specs/LaxWellFormed is the same but for the order in which a lock's asks are granted.
 //! `IsWhy` of specs/Why says of each reason what it means. What fetches count is `FetchesCountGaps` of journal's
-//! specs/Counted. A `History` is a `SizedHistory` of specs/SizedHistory: sizes, and events whose numbers are within them.
+//! specs/FetchesCountGaps. A `History` is a `SizedHistory` of specs/SizedHistory: sizes, and events whose numbers are within them.
 //!
 //! **What is proved.** `first_ill_formed` answers None exactly where the history is well formed, else the first event
 //! that may not follow what stands before it, with the first reason that applies, in the order of `Why`. The history
 //! may be anyone's: nothing is asked of the numbers in its events. Of a well formed history, lax or not,
 //! `first_miscounted` answers None exactly where each fetch counts its gap, else the first one that does not, with the
-//! counts of its gap. `Gaps` tells the same of any history, an event at a time: what each processor's copies of pages lack.
+//! counts of its gap. `DueCounts` and `miscount` tell it of any history, an event at a time. `Gaps` tells what each processor's
+//! copies of pages lack, also an event at a time.
 //! There is a `History` of some events, or of a journal, exactly if they are within its sizes; so whoever is handed one need
 //! not ask that.
 //!
@@ -18,35 +19,50 @@
 //! by hand; and that `first_ill_formed` judges 2^20 events in a test's time.
 #![tactic(auto)]
 
+mod cut;
+mod cuts;
+mod due_counts;
 mod flat_memory;
 mod frontier;
 mod gap_tally;
 mod gaps;
 mod history;
 mod ill_formed;
+mod kept_store;
+mod kept_stores;
 mod kinds;
+mod known_cuts;
 mod laws;
 pub mod locksets;
 mod miscounted;
 mod models;
+mod moved_cuts;
 mod nearest_races;
+mod numbered_cuts;
 mod owed;
 mod permitted;
 mod sizes;
 pub mod sources;
 mod sparse_table;
+mod stored_counts;
+mod stored_steps;
 mod why;
 
-pub use flat_memory::FlatMemory;
+pub use due_counts::DueCounts;
+pub use flat_memory::{FlatMemory, FlatStore};
 pub use frontier::Frontier;
 pub use gaps::Gaps;
 pub use history::History;
 pub use ill_formed::{IllFormed, first_ill_formed};
+pub use kept_stores::KeptStores;
 pub use laws::{history_range_law, lax_law, models_agree_law, owed_stays_law, why_law};
 pub use miscounted::{Miscounted, first_miscounted, miscount};
 pub use models::MemoryModel;
 pub use nearest_races::NearestRaces;
 pub use owed::Owed;
 pub use permitted::Permitted;
-pub use sizes::{MOST_ADDRESSES, MOST_JUDGED_FLAGS, MOST_JUDGED_LOCKS, Sizes};
+pub use sizes::{
+    MOST_ADDRESSES, MOST_JUDGED_EVENTS, MOST_JUDGED_FLAGS, MOST_JUDGED_LOCKS,
+    MOST_JUDGED_PROCESSORS, Sizes,
+};
 pub use why::Why;

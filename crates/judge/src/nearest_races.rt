@@ -1,59 +1,53 @@
 //! The race that is nearest to an event.
-ghost use Rattle.std.specs.Prelude.{◌≡◌, ◌↔◌, ◌⊎◌, ℕ, ◌+◌, ◌<◌, ◌≤◌, ◌^◌, [], ◌∷◌, ◌++◌, IfOk, IfSome, OnOk, List};
-ghost use Rattle.std.specs.Prelude.{Some, length, slice_index, take};
-ghost use Rattle.base.specs.Prelude.{most_held, most_processors};
+ghost use Rattle.std.specs.Prelude.{◌≡◌, ◌↔◌, ◌⊎◌, ℕ, ◌+◌, ◌-◌, ◌*◌, ◌<◌, ◌≤◌, ◌^◌, [], ◌∷◌, ◌++◌, IfOk, IfSome, OnOk, List};
+ghost use Rattle.std.specs.Prelude.{Some, slice_index};
 ghost use Rattle.journal.specs.declared.event.Event.{Event};
-ghost use Rattle.journal.specs.Prelude.{EventAddressInRange, EventAddressesInRange, EventProcessorsInRange};
-ghost use Rattle.judge.specs.Prelude.{NearestRaceAccessesAreKept, AreNearestRacesOf, IsNearestRaceLastUncounted, IsNearestRaceTo, IsSparse, IsNearestRaceUncounted};
-ghost use Rattle.judge.specs.Prelude.{sparse_at};
+ghost use Rattle.journal.specs.Prelude.{EventAddressInRange};
+ghost use Rattle.judge.specs.Prelude.{NearestRaceAccessesAreKept, AreNearestRacesOf, IsNearestRaceLastUnknown, IsNearestRaceTo, IsSparse, IsNearestRaceUnknown};
+ghost use Rattle.judge.specs.Prelude.{most_judged_events, most_judged_processors, nearest_race_row, sparse_at};
 
+use crate::cut::Cut;
+use crate::cuts::Cuts;
 use crate::sparse_table::SparseTable;
-use base::MOST_PROCESSORS;
-use journal::{Clock, Event, EventClocks, Kind};
+use journal::{Event, Kind};
 use std::alloc::{AllocError, Global};
-
-/// A processor's last access of some kinds to an address.
-#[derive(Clone, Copy)]
-pub(crate) struct Access {
-    /// The place of its event.
-    pub(crate) place: u32,
-    /// How many intervals its processor had closed before it.
-    pub(crate) interval: u32,
-}
 
 /// A history, taken an event at a time, of which it tells which of its accesses race with one that comes next.
 ///
 /// Of two accesses of a processor the later one is known to less. So each processor's last store to an address and its
-/// last access of it tell all. It takes memory in the order of the accesses that are kept, and a byte for each address at most.
+/// last access of it tell all. It takes memory in the order of the accesses that are kept, at most two for each address and
+/// processor, however long the history is.
 #[derive(Drop)]
 pub struct NearestRaces {
     processors: usize,
     addresses: usize,
-    clocks: EventClocks,
-    /// Of each address and processor the last store.
-    stores: SparseTable<Access>,
-    /// The last load or store.
-    accesses: SparseTable<Access>,
+    /// What each processor knows of the others.
+    cuts: Cuts,
+    /// Of each address and processor the place of the last store.
+    stores: SparseTable<u32>,
+    /// That of the last load or store.
+    accesses: SparseTable<u32>,
 }
 
-/// The place of the access, if it is another processor's and the timestamp doesn't count its interval.
+/// The place of the access, if it is another processor's and isn't in the cut.
 fn nearest_race_candidate(
-    rows: &SparseTable<Access>,
+    rows: &SparseTable<u32>,
     row: usize,
-    time: &Clock,
+    cut: &Cut,
     processor: usize,
     by: usize,
 ) -> Option<usize>
     requires sparse { IsSparse rows.now }
     requires within { row + by < 2 ^ 64 }
-    requires by { by < most_processors }
-    ensures { (i : ℕ) → (result ≡ Some i) ↔ IsNearestRaceUncounted (sparse_at rows.now) row (slice_index time.now) processor by i }
+    requires by { by < most_judged_processors }
+    ensures { (i : ℕ) → (result ≡ Some i)
+        ↔ IsNearestRaceUnknown (sparse_at rows.now) row (slice_index cut.now) processor by i }
 {
-    let access = rows.get(row + by)?;
-    if by == processor || access.interval < time[by] {
+    let place = rows.get(row + by)?;
+    if by == processor || place < cut[by] {
         None
     } else {
-        Some(access.place as usize)
+        Some(place as usize)
     }
 }
 
@@ -69,23 +63,23 @@ fn later_nearest_race(nearest: Option<usize>, place: usize) -> usize
     }
 }
 
-/// The last access of the row's first `count` processors that is another processor's, and whose interval the timestamp
-/// doesn't count.
+/// Of the last accesses of the first `count` processors, which are kept from this row on, the last one that is another
+/// processor's and isn't in the cut.
 fn nearest_race_in_row(
-    rows: &SparseTable<Access>,
+    rows: &SparseTable<u32>,
     row: usize,
     count: usize,
-    time: &Clock,
+    cut: &Cut,
     processor: usize,
 ) -> Option<usize>
     requires sparse { IsSparse rows.now }
     requires within { row + count < 2 ^ 64 }
-    requires count { count ≤ most_processors }
-    ensures { IsNearestRaceLastUncounted (sparse_at rows.now) row (slice_index time.now) processor count result }
+    requires count { count ≤ most_judged_processors }
+    ensures { IsNearestRaceLastUnknown (sparse_at rows.now) row (slice_index cut.now) processor count result }
 {
     let mut nearest = None;
     for by in 0..count {
-        if let Some(place) = nearest_race_candidate(rows, row, time, processor, by) {
+        if let Some(place) = nearest_race_candidate(rows, row, cut, processor, by) {
             nearest = Some(later_nearest_race(nearest, place));
         }
     }
@@ -93,26 +87,37 @@ fn nearest_race_in_row(
 }
 
 impl NearestRaces {
-    /// Before the first event, of a history of `processors` processors, at most `MOST_PROCESSORS`, and `addresses`
+    /// Before the first event, of a history of `processors` processors, at most `MOST_JUDGED_PROCESSORS`, and `addresses`
     /// addresses. The only error is running out of memory.
     pub fn new(
         alloc: Global,
         processors: usize,
         addresses: usize,
     ) -> Result<NearestRaces, AllocError>
-        requires { processors ≤ most_processors }
+        requires { processors ≤ most_judged_processors }
         ensures tells { IfOk result (AreNearestRacesOf []) }
         ensures processors { IfOk result (λ x. x.processors ≡ processors) }
         ensures addresses { IfOk result (λ x. x.addresses ≡ addresses) }
     {
-        let rows = addresses.checked_mul(MOST_PROCESSORS).ok_or(AllocError)?;
+        let rows = addresses.checked_mul(processors).ok_or(AllocError)?;
         Ok(NearestRaces {
             processors,
             addresses,
-            clocks: EventClocks::new(alloc, processors)?,
+            cuts: Cuts::new(alloc, processors)?,
             stores: SparseTable::new(alloc, rows)?,
             accesses: SparseTable::new(alloc, rows)?,
         })
+    }
+
+    /// Where the place of the processor's last access of the address is kept.
+    fn row(&self, address: usize, processor: usize) -> usize
+        requires fits { self.now.addresses * self.now.processors < 2 ^ 64 }
+        requires address { address < self.now.addresses }
+        requires processor { processor < self.now.processors }
+        ensures is { result ≡ nearest_race_row self.now.processors address processor }
+        ensures within { result + (self.now.processors - processor) ≤ self.now.addresses * self.now.processors }
+    {
+        address * self.processors + processor
     }
 
     /// The place of the last event that races with this one, which comes next; None where none does. It takes time in the
@@ -124,23 +129,23 @@ impl NearestRaces {
         ensures { (j : List Event) → AreNearestRacesOf j self.now → IsNearestRaceTo j event result }
     {
         let processor = event.processor;
-        let time = self.clocks.of(processor);
+        let cut = self.cuts.of(processor);
         match event.kind {
             Kind::Load(address, _) => {
                 nearest_race_in_row(
                     &self.stores,
-                    address * MOST_PROCESSORS,
+                    self.row(address, 0),
                     self.processors,
-                    time,
+                    cut,
                     processor,
                 )
             }
             Kind::Store(address, _) => {
                 nearest_race_in_row(
                     &self.accesses,
-                    address * MOST_PROCESSORS,
+                    self.row(address, 0),
                     self.processors,
-                    time,
+                    cut,
                     processor,
                 )
             }
@@ -148,51 +153,46 @@ impl NearestRaces {
         }
     }
 
-    /// Keeps the event, which comes at this place, but for the timestamps so far. The only error is running out of memory.
-    fn keep(&mut self, event: Event, place: usize) -> Result<(), AllocError>
-        requires tells { (j : List Event) × AreNearestRacesOf j self.old × (length j ≡ place) }
+    /// Keeps the place of the event, which comes next, if it is an access. The only error is running out of memory.
+    fn keep(&mut self, event: Event) -> Result<(), AllocError>
+        requires few { self.old.cuts.place < most_judged_events }
         requires processor { event.processor < self.old.processors }
         requires address { EventAddressInRange self.old.addresses event.kind }
-        requires few { place < 2 ^ 22 }
-        ensures clocks { self.new.clocks ≡ self.old.clocks }
+        requires so_far { (j : List Event) × AreNearestRacesOf j self.old }
+        ensures cuts { self.new.cuts ≡ self.old.cuts }
         ensures processors { self.new.processors ≡ self.old.processors }
         ensures addresses { self.new.addresses ≡ self.old.addresses }
-        ensures kept { OnOk result ((j : List Event) → AreNearestRacesOf j self.old → length j ≡ place
+        ensures kept { OnOk result ((j : List Event) → AreNearestRacesOf j self.old
             → NearestRaceAccessesAreKept (j ++ event ∷ []) self.new) }
     {
-        let processor = event.processor;
-        let access = Access {
-            place: place as u32,
-            interval: self.clocks.of(processor)[processor],
-        };
+        let place = self.cuts.place as u32;
         match event.kind {
             Kind::Load(address, _) => {
-                self.accesses
-                    .set(address * MOST_PROCESSORS + processor, access)
+                let row = self.row(address, event.processor);
+                self.accesses.set(row, place)
             }
             Kind::Store(address, _) => {
-                self.accesses
-                    .set(address * MOST_PROCESSORS + processor, access)?;
-                self.stores
-                    .set(address * MOST_PROCESSORS + processor, access)
+                let row = self.row(address, event.processor);
+                self.accesses.set(row, place)?;
+                self.stores.set(row, place)
             }
             _ => Ok(()),
         }
     }
 
-    /// Takes note of the event at this place, the next one. The only error is running out of memory, after which it may
-    /// tell no history.
-    pub fn note(&mut self, events: &[Event], place: usize) -> Result<(), AllocError>
-        requires place { place < length events.now }
-        requires few { length events.now ≤ most_held + most_processors }
-        requires processors { EventProcessorsInRange self.old.processors events.now }
-        requires addresses { EventAddressesInRange self.old.addresses events.now }
-        requires so_far { AreNearestRacesOf (take place events.now) self.old }
-        ensures tells { OnOk result (AreNearestRacesOf (take (place + 1) events.now) self.new) }
+    /// Takes note of the event, which comes next. The only error is running out of memory, after which it may tell no
+    /// history.
+    pub fn note(&mut self, event: Event) -> Result<(), AllocError>
+        requires few { self.old.cuts.place < most_judged_events }
+        requires processor { event.processor < self.old.processors }
+        requires address { EventAddressInRange self.old.addresses event.kind }
+        requires so_far { (j : List Event) × AreNearestRacesOf j self.old }
+        ensures tells { OnOk result ((j : List Event) → AreNearestRacesOf j self.old
+            → AreNearestRacesOf (j ++ event ∷ []) self.new) }
         ensures processors { self.new.processors ≡ self.old.processors }
         ensures addresses { self.new.addresses ≡ self.old.addresses }
     {
-        self.keep(events[place], place)?;
-        self.clocks.note(events, place)
+        self.keep(event)?;
+        self.cuts.note(event)
     }
 }

@@ -1,6 +1,5 @@
 //! What the loads of a history owe under a model.
-ghost use Rattle.std.specs.Prelude.{◌≡◌, ◌↔◌, ℕ, ◌+◌, ◌<◌, ◌≤◌, [], ◌∷◌, ◌++◌, Bool, IfOk, IfSome, IsTrue, List, OnOk, Some, length, slice_get, take};
-ghost use Rattle.base.specs.Prelude.{most_held, most_processors};
+ghost use Rattle.std.specs.Prelude.{◌≡◌, ◌↔◌, ℕ, ◌<◌, [], ◌∷◌, ◌++◌, Bool, IfOk, IsTrue, List, OnOk, length};
 ghost use Rattle.journal.specs.declared.event.Event.{Event};
 ghost use Rattle.journal.specs.declared.event.Kind.TheVariants.{Load};
 ghost use Rattle.journal.specs.Sizes.{Sizes as TheSizes, addresses};
@@ -8,14 +7,13 @@ ghost use Rattle.journal.specs.Prelude.{did, event as an_event};
 ghost use Rattle.journal.specs.Races.{RaceFree};
 ghost use Rattle.judge.specs.declared.models.MemoryModel.{MemoryModel as AModel};
 ghost use Rattle.judge.specs.declared.models.MemoryModel.TheVariants as model;
-ghost use Rattle.judge.specs.Prelude.{AreOwedBy, PermitsOwed, AreJudgedSizes, IsModelAnswer, IsOwedLastStore, IsOwedRacy, IsEventInSizes, judged_sizes_of};
+ghost use Rattle.judge.specs.Prelude.{AreOwedBy, AreStreamedSizes, IsEventInSizes, IsModelAnswer, IsOwedRacy, PermitsOwed, judged_sizes_of, most_judged_events};
 
-use crate::flat_memory::{FlatMemory, FlatStore};
+use crate::flat_memory::FlatMemory;
+use crate::kept_stores::KeptStores;
 use crate::models::MemoryModel;
 use crate::permitted::Permitted;
 use crate::sizes::Sizes;
-use crate::sources::ReadableSources;
-use base::MOST_PROCESSORS;
 use journal::{Event, Kind};
 use std::alloc::{AllocError, Global};
 
@@ -25,84 +23,64 @@ pub enum Owed {
     /// Under `MemoryModel::RaceFree`: up to the first race what a load owes is the word of one flat memory.
     RaceFree(FlatMemory),
     /// Under `MemoryModel::HappensBefore`.
-    HappensBefore(ReadableSources),
+    HappensBefore(KeptStores),
     /// Under `MemoryModel::LazyRelease`.
-    LazyRelease(ReadableSources),
+    LazyRelease(KeptStores),
     /// Under `MemoryModel::Sequential`.
     Sequential(FlatMemory),
-}
-
-/// Of each processor, the place of this store, if it is this processor's.
-fn owed_latest(last: Option<FlatStore>) -> [Option<usize>; MOST_PROCESSORS]
-    requires { IfSome last (λ x. x.by < most_processors) }
-    ensures { (q i : ℕ) → (slice_get result q ≡ Some (Some i)) ↔ IsOwedLastStore last q i }
-{
-    let mut latest = [None; MOST_PROCESSORS];
-    if let Some(store) = last {
-        latest[store.by] = Some(store.place as usize);
-    }
-    latest
 }
 
 impl Owed {
     /// Before the first event of a history of these sizes. The only error is running out of memory.
     pub fn new(alloc: Global, model: MemoryModel, sizes: Sizes) -> Result<Owed, AllocError>
-        requires { AreJudgedSizes (judged_sizes_of sizes) }
+        requires { AreStreamedSizes (judged_sizes_of sizes) }
         ensures { IfOk result (AreOwedBy model (judged_sizes_of sizes) []) }
     {
         let addresses = sizes.pages * sizes.words;
         match model {
             MemoryModel::RaceFree => FlatMemory::new(alloc, addresses).map(Owed::RaceFree),
             MemoryModel::HappensBefore => {
-                ReadableSources::new(alloc, sizes.processors, addresses).map(Owed::HappensBefore)
+                KeptStores::new(alloc, sizes.processors, addresses).map(Owed::HappensBefore)
             }
             MemoryModel::LazyRelease => {
-                ReadableSources::new(alloc, sizes.processors, addresses).map(Owed::LazyRelease)
+                KeptStores::new(alloc, sizes.processors, addresses).map(Owed::LazyRelease)
             }
             MemoryModel::Sequential => FlatMemory::new(alloc, addresses).map(Owed::Sequential),
         }
     }
 
-    /// Whether a load of the address by this processor that comes next may answer the value. `is_racy` says whether there
-    /// is a race then.
-    fn may_answer(
-        &self,
-        events: &[Event],
-        processor: usize,
-        address: usize,
-        value: u32,
-        is_racy: bool,
-    ) -> bool
-        requires { (m : AModel) × (s : TheSizes) × AreOwedBy m s events.now self.now
+    /// Whether a load of the address by this processor that comes next may answer the value. `is_racy` says whether there is a
+    /// race then.
+    fn may_answer(&self, processor: usize, address: usize, value: u32, is_racy: bool) -> bool
+        requires { (m : AModel) × (s : TheSizes) × (j : List Event) × AreOwedBy m s j self.now
             × (processor < s.processors) × (address < addresses s) }
-        ensures { (m : AModel) (s : TheSizes) → AreOwedBy m s events.now self.now
+        ensures { (m : AModel) (s : TheSizes) (j : List Event) → AreOwedBy m s j self.now
             → processor < s.processors → address < addresses s
-            → IsOwedRacy events.now (an_event processor (Load address value)) is_racy
-            → IsTrue result ↔ IsModelAnswer m s (did events.now processor (Load address value)) (length events.now) address value }
+            → IsOwedRacy j (an_event processor (Load address value)) is_racy
+            → IsTrue result ↔ IsModelAnswer m s (did j processor (Load address value)) (length j) address value }
     {
         match self {
             Owed::RaceFree(memory) => is_racy || memory.has(address, value),
-            Owed::HappensBefore(sources) => {
-                sources.may_answer(events, processor, address, value)
-                    || sources.has_unordered(events, processor, address, value)
+            Owed::HappensBefore(stores) => {
+                stores.may_answer(processor, address, value)
+                    || stores.has_unordered(processor, address, value)
             }
-            Owed::LazyRelease(sources) => sources.may_answer(events, processor, address, value),
+            Owed::LazyRelease(stores) => stores.may_answer(processor, address, value),
             Owed::Sequential(memory) => memory.has(address, value),
         }
     }
 
-    /// Whether the event, which comes next after these, answers what it owes, if it is a load. `is_racy` says whether there
-    /// is a race with it.
-    pub fn is_paid(&self, events: &[Event], event: Event, is_racy: bool) -> bool
-        requires { (m : AModel) × (s : TheSizes) × AreOwedBy m s events.now self.now × IsEventInSizes s event }
-        ensures { (m : AModel) (s : TheSizes) → AreOwedBy m s events.now self.now → IsEventInSizes s event
-            → IsOwedRacy events.now event is_racy
-            → IsTrue result ↔ ((a v : ℕ) → event.kind ≡ Load a v
-            → IsModelAnswer m s (events.now ++ event ∷ []) (length events.now) a v) }
+    /// Whether the event, which comes next, answers what it owes, if it is a load. `is_racy` says whether there is a race with
+    /// it.
+    pub fn is_paid(&self, event: Event, is_racy: bool) -> bool
+        requires { (m : AModel) × (s : TheSizes) × (j : List Event) × AreOwedBy m s j self.now × IsEventInSizes s event }
+        ensures { (m : AModel) (s : TheSizes) (j : List Event) → AreOwedBy m s j self.now
+            → IsEventInSizes s event → IsOwedRacy j event is_racy
+            → IsTrue result ↔ ((a v : ℕ) → event.kind ≡ Load a v → IsModelAnswer m s (j ++ event ∷ []) (length j) a v) }
     {
         match event.kind {
             Kind::Load(address, value) => {
-                self.may_answer(events, event.processor, address, value, is_racy)
+                self.may_answer(event.processor, address, value, is_racy)
             }
             _ => true,
         }
@@ -124,39 +102,34 @@ impl Owed {
             → PermitsOwed m (did j processor (Load address v)) (length j) address x) }
     {
         match self {
-            Owed::RaceFree(memory) => {
-                let latest = owed_latest(memory.last(address));
+            Owed::RaceFree(memory) => Ok(Permitted::One(memory.last(address))),
+            Owed::LazyRelease(stores) => {
+                let latest = stores.latest(alloc, processor, address)?;
                 Ok(Permitted::Latest(latest))
             }
-            Owed::LazyRelease(sources) => {
-                let latest = sources.before(processor, address);
-                Ok(Permitted::Latest(latest))
-            }
-            Owed::HappensBefore(sources) => {
-                let latest = sources.before(processor, address);
-                let unordered = sources.unordered(alloc, processor, address)?;
+            Owed::HappensBefore(stores) => {
+                let latest = stores.latest(alloc, processor, address)?;
+                let unordered = stores.unordered(alloc, processor, address)?;
                 Ok(Permitted::Heard(latest, unordered))
             }
-            Owed::Sequential(memory) => Ok(Permitted::Last(memory.last_store(address))),
+            Owed::Sequential(memory) => Ok(Permitted::Last(memory.last(address))),
         }
     }
 
-    /// Takes note of the event at this place, the next one. The only error is running out of memory, after which it may
-    /// tell no history.
-    pub fn note(&mut self, events: &[Event], place: usize) -> Result<(), AllocError>
-        requires place { place < length events.now }
-        requires few { length events.now ≤ most_held + most_processors }
-        requires so_far { (m : AModel) × (s : TheSizes) × AreOwedBy m s (take place events.now) self.old
-            × ((k : ℕ) (e : Event) → slice_get events.now k ≡ Some e → IsEventInSizes s e) }
-        ensures { OnOk result ((m : AModel) (s : TheSizes) → AreOwedBy m s (take place events.now) self.old
-            → ((k : ℕ) (e : Event) → slice_get events.now k ≡ Some e → IsEventInSizes s e)
-            → AreOwedBy m s (take (place + 1) events.now) self.new) }
+    /// Takes note of the event, the next one, which comes at this place. The only error is running out of memory, after which it
+    /// may tell no history.
+    pub fn note(&mut self, event: Event, place: usize) -> Result<(), AllocError>
+        requires few { place < most_judged_events }
+        requires so_far { (m : AModel) × (s : TheSizes) × (j : List Event) × AreOwedBy m s j self.old × (length j ≡ place)
+            × IsEventInSizes s event }
+        ensures { OnOk result ((m : AModel) (s : TheSizes) (j : List Event) → AreOwedBy m s j self.old → length j ≡ place
+            → IsEventInSizes s event → AreOwedBy m s (j ++ event ∷ []) self.new) }
     {
         match self {
-            Owed::RaceFree(memory) => memory.note(events[place], place),
-            Owed::HappensBefore(sources) => sources.note(events, place),
-            Owed::LazyRelease(sources) => sources.note(events, place),
-            Owed::Sequential(memory) => memory.note(events[place], place),
+            Owed::RaceFree(memory) => memory.note(event, place),
+            Owed::HappensBefore(stores) => stores.note(event),
+            Owed::LazyRelease(stores) => stores.note(event),
+            Owed::Sequential(memory) => memory.note(event, place),
         }
     }
 }

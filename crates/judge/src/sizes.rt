@@ -1,7 +1,7 @@
 //! The sizes of a cluster.
 ghost use Rattle.std.specs.Prelude.{◌↔◌, IsTrue};
 ghost use Rattle.journal.specs.WellFormed.{WellFormedKindInRange};
-ghost use Rattle.judge.specs.Prelude.{AreJudgedSizes, AreJudgedSizesSmall, IsEventInSizes, judged_sizes_of};
+ghost use Rattle.judge.specs.Prelude.{AreJudgedSizes, AreJudgedSizesSmall, AreStreamedSizes, IsEventInSizes, judged_sizes_of};
 
 use base::{MOST_FLAGS, MOST_LOCKS, MOST_PAGES, MOST_WORDS};
 use journal::{Event, Kind, MOST_PROCESSORS};
@@ -15,8 +15,14 @@ pub const MOST_JUDGED_LOCKS: usize = 1 << 16;
 /// The most flags of a history that is judged.
 pub const MOST_JUDGED_FLAGS: usize = 1 << 16;
 
-/// The sizes of the cluster whose history is judged: at most 16 processors, `MOST_ADDRESSES` addresses, `MOST_JUDGED_LOCKS`
-/// locks and `MOST_JUDGED_FLAGS` flags.
+/// The most processors of a history that is judged as it comes.
+pub const MOST_JUDGED_PROCESSORS: usize = 64;
+
+/// The most events of a history that is judged as it comes.
+pub const MOST_JUDGED_EVENTS: usize = (1 << 31) - 1;
+
+/// The sizes of the cluster whose history is judged: at most 16 processors, or `MOST_JUDGED_PROCESSORS` if it is judged as it
+/// comes, `MOST_ADDRESSES` addresses, `MOST_JUDGED_LOCKS` locks and `MOST_JUDGED_FLAGS` flags.
 #[derive(Clone, Copy, Debug, PartialEq, Eq)]
 pub struct Sizes {
     /// How many processors it has.
@@ -32,16 +38,23 @@ pub struct Sizes {
 }
 
 impl Sizes {
-    /// Whether a history of these sizes can be judged: whether they are no larger than that.
-    pub fn are_judged(&self) -> bool
-        ensures { IsTrue result ↔ AreJudgedSizes (judged_sizes_of self.now) }
+    /// Whether a history of these sizes can be judged as it comes: whether they are no larger than that.
+    pub fn are_streamed(&self) -> bool
+        ensures { IsTrue result ↔ AreStreamedSizes (judged_sizes_of self.now) }
     {
-        self.processors <= MOST_PROCESSORS
+        self.processors <= MOST_JUDGED_PROCESSORS
             && self.pages <= MOST_ADDRESSES
             && self.words <= MOST_ADDRESSES
             && self.pages * self.words <= MOST_ADDRESSES
             && self.locks <= MOST_JUDGED_LOCKS
             && self.flags <= MOST_JUDGED_FLAGS
+    }
+
+    /// Whether a history of these sizes can be judged in any way: whether they are no larger than that, with 16 processors.
+    pub fn are_judged(&self) -> bool
+        ensures { IsTrue result ↔ AreJudgedSizes (judged_sizes_of self.now) }
+    {
+        self.processors <= MOST_PROCESSORS && self.are_streamed()
     }
 
     /// Whether they are the product's own: at most 16 processors, 64 pages of 64 words, 32 locks and 32 flags.
@@ -57,7 +70,7 @@ impl Sizes {
 
     /// Whether the numbers that the event names are within the sizes.
     pub(crate) fn have(&self, kind: Kind) -> bool
-        requires { AreJudgedSizes (judged_sizes_of self.now) }
+        requires { AreStreamedSizes (judged_sizes_of self.now) }
         ensures { IsTrue result ↔ WellFormedKindInRange (judged_sizes_of self.now) kind }
     {
         match kind {
@@ -68,9 +81,10 @@ impl Sizes {
             Kind::Arrive | Kind::Depart => true,
         }
     }
+
     /// Whether the event's processor and the numbers that it names are within the sizes.
     pub fn have_event(&self, event: Event) -> bool
-        requires { AreJudgedSizes (judged_sizes_of self.now) }
+        requires { AreStreamedSizes (judged_sizes_of self.now) }
         ensures { IsTrue result ↔ IsEventInSizes (judged_sizes_of self.now) event }
     {
         event.processor < self.processors && self.have(event.kind)

@@ -15,7 +15,6 @@ mod readable;
 mod rows_of_latest;
 mod stored_intervals;
 mod unexplained;
-mod unordered;
 
 pub use self::answer_laws::{answer_stays_law, answers_law};
 pub use self::readable::ReadableSources;

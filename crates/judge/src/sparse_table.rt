@@ -1,11 +1,14 @@
 //! Tables of rows, of which few may have a value.
-ghost use Rattle.std.specs.Prelude.{◌≡◌, ◌≢◌, ℕ, ◌+◌, ◌*◌, ◌<◌, ◌≤◌, suc, None, IfOk, MatchOption, OnOk, slice_index, vec_len};
-ghost use Rattle.judge.specs.Prelude.{IsSparse, IsSparseFor, IsSparseRowWith, IsSparseWith, most_sparse_values, sparse_at, sparse_chunk_rows, sparse_mark, sparse_room, sparse_row};
+ghost use Rattle.std.specs.Prelude.{◌≡◌, ◌≢◌, ℕ, ◌+◌, ◌*◌, ◌<◌, ◌≤◌, suc, None, IfOk, MatchOption, OnOk, length, slice_index, vec_len};
+ghost use Rattle.judge.specs.Prelude.{IsSparse, IsSparseFor, IsSparseRowFrom, IsSparseRowWith, IsSparseWith, most_sparse_values, sparse_at, sparse_chunk_rows, sparse_mark, sparse_room, sparse_row};
 
 use std::alloc::{AllocError, Global};
 
 /// How many rows' marks stand together.
 const CHUNK: usize = 1024;
+
+/// A row that was full has room for twice as many items at least.
+const FEW: usize = 4;
 
 /// Rows, numbered from 0, and a value for each of some of them. It takes memory for the values, four bytes at most for each row
 /// of a chunk that has one, and 24 bytes a chunk: a chunk is 1,024 rows in a row.
@@ -177,4 +180,37 @@ pub(crate) fn push_in_sparse_table_row<T: Drop>(
             table.add(row, items)
         }
     }
+}
+
+/// Whether the row has no room for one item more.
+pub(crate) fn is_sparse_table_row_full<T>(table: &SparseTable<Vec<T>>, row: usize) -> bool
+    requires { IsSparse table.now }
+{
+    match table.place(row) {
+        Some(place) => table.kept[place].len() == table.kept[place].capacity(),
+        None => false,
+    }
+}
+
+/// Lets go of the row's items before this one, and makes room for as many again as are left, and for a few at least. The only
+/// error is running out of memory.
+pub(crate) fn shorten_sparse_table_row<T: Copy + Drop>(
+    table: &mut SparseTable<Vec<T>>,
+    row: usize,
+    from: usize,
+) -> Result<(), AllocError>
+    requires sparse { IsSparse table.old }
+    requires from { from ≤ length (sparse_row table.old row) }
+    ensures room { sparse_room table.new ≡ sparse_room table.old }
+    ensures few { vec_len table.new.kept ≡ vec_len table.old.kept }
+    ensures shortened { OnOk result (IsSparseRowFrom table.old table.new row from) }
+{
+    if let Some(place) = table.place(row) {
+        let left = &table.kept[place][from..];
+        let room = left.len().max(FEW).saturating_mul(2);
+        let mut items = Vec::with_capacity(*table.kept.allocator(), room)?;
+        items.extend_from_slice(left)?;
+        table.kept[place] = items;
+    }
+    Ok(())
 }

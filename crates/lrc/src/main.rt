@@ -26,7 +26,7 @@ fn start_lrc<R: Threads + Wait + Sync>(rt: &HostRuntime, handle: &R, words: &[St
         Ok(Asked::Explain(options)) => study_by_explain(rt, handle, &options),
         Ok(Asked::Tell(options)) => study_by_tell(rt, &options),
         Ok(Asked::Sample(options)) => study_by_sample(rt, handle, &options),
-        Ok(Asked::Explore(options)) => study_by_explore(rt, &options),
+        Ok(Asked::Explore(options)) => study_by_explore(rt, handle, &options),
         Ok(Asked::Trace(options)) => study_by_check(rt, &options),
         Err(error) => answer_program_words(rt, &error),
     }

@@ -119,12 +119,18 @@ pub(crate) fn study_by_sample<R: Wait>(
 }
 
 /// Looks at all schedules of the file's script, or of that of standard input if no file or `-` is given.
-pub(crate) fn study_by_explore(rt: &HostRuntime, options: &ExploreOptions) -> u8 {
+pub(crate) fn study_by_explore<R: Wait>(
+    rt: &HostRuntime,
+    handle: &R,
+    options: &ExploreOptions,
+) -> u8 {
     let alloc = rt.alloc();
     let (mut out, mut err) = (KeepsReason::new(rt.stdout()), rt.stderr());
     let mut found = TerminalFound::new(rt);
     let status = match program_file_named(&options.file) {
         None => run_explore_command(
+            &OnCluster,
+            handle,
             alloc,
             options,
             &mut rt.stdin(),
@@ -133,9 +139,16 @@ pub(crate) fn study_by_explore(rt: &HostRuntime, options: &ExploreOptions) -> u8
             &mut found,
         ),
         Some(path) => match File::open(rt, path) {
-            Ok(mut source) => {
-                run_explore_command(alloc, options, &mut source, &mut out, &mut err, &mut found)
-            }
+            Ok(mut source) => run_explore_command(
+                &OnCluster,
+                handle,
+                alloc,
+                options,
+                &mut source,
+                &mut out,
+                &mut err,
+                &mut found,
+            ),
             Err(error) => program_says(alloc, Some(path), ProgramFault::from(error), &mut err),
         },
     };

@@ -3,53 +3,37 @@ use Rattle.std.proofs.Common.{◌≡◌, ℕ, ◌+◌, ◌<◌, ◌≤◌, Bool,
 use Rattle.std.specs.Prelude.{None, MatchOption}
 use Rattle.std.proofs.lemmas.List.{length-take-le, take_all}
 use Rattle.journal.specs.declared.event.Event.{Event}
+use Rattle.journal.specs.declared.traffic.Traffic.{Traffic}
 use Rattle.journal.specs.Sizes.{Sizes}
 use Rattle.journal.specs.Races.{RaceFree}
 use Rattle.judge.specs.declared.models.MemoryModel.{MemoryModel}
 use Rattle.judge.specs.declared.sizes.Sizes.{Sizes as JudgedSizes}
 use Rattle.judge.specs.NearestRaces.{IsNearestRace}
 use Rattle.judge.specs.JudgedSizes.{judged_sizes_of}
-use Rattle.lrc_check.specs.declared.checked.Checked.{Checked}
 use Rattle.lrc_check.specs.declared.checked.Lie.{Lie}
 use Rattle.lrc_check.specs.declared.checked.Lie.TheVariants as lie
 use Rattle.lrc_check.specs.declared.checked.Rules.{Rules}
-use Rattle.lrc_check.specs.declared.checked.TraceVerdict.{TraceVerdict}
 use Rattle.lrc_check.specs.declared.checked.TraceVerdict.TheVariants as verdict
 use Rattle.lrc_check.specs.declared.trace_judge.TraceJudge.{TraceJudge}
-use Rattle.lrc_check.specs.CheckVerdicts.{CheckVerdictEndsAsAsked, IsTrueCheckVerdict, IsCheckVerdictLie, IsCheckVerdictRace, IsCheckVerdictOf, IsCheckVerdictWhole, check_verdict_race_events}
+use Rattle.lrc_check.specs.CheckVerdicts.{IsTrueCheckVerdict, IsCheckVerdictLie, IsCheckVerdictRace, IsCheckVerdictOf, IsCheckVerdictTraffic, check_verdict_race_events, unjudged_in_check_verdict}
 use Rattle.lrc_check.specs.Faithful.{IsFaithfulAndCounted}
-use Rattle.lrc_check.specs.TraceJudge.{TraceJudgeTellsFaithful, IsTraceJudgeOf}
+use Rattle.lrc_check.specs.TraceJudge.{IsTraceJudgeOf}
 use Rattle.lrc_check.proofs.JudgedRaces.{judged_race_at_end}
 
 -- a faithful history, judged to its end
-pub checked_history_whole : (r : Rules) (s : Sizes) (j : List Event) (race : Option (ℕ × ℕ)) (x : Checked)
-    → x.count ≡ length j → x.race ≡ race → TraceJudgeTellsFaithful r.model race j x.verdict
-    → IsFaithfulAndCounted r.model r.lax s j → IsCheckVerdictRace j race → IsTrueCheckVerdict r s j x
-checked_history_whole r s j race x count same told accepted is = record {
+pub checked_history_whole : (r : Rules) (s : Sizes) (j : List Event) (race : Option (ℕ × ℕ)) (count : ℕ) (traffic : Traffic) (unjudged : ℕ)
+    → count ≡ length j → IsCheckVerdictTraffic j traffic → unjudged ≡ unjudged_in_check_verdict r.model race j
+    → IsFaithfulAndCounted r.model r.lax s j → IsCheckVerdictRace j race
+    → IsTrueCheckVerdict r s j (record { count = count; race = race; verdict = verdict.Faithful traffic unjudged })
+checked_history_whole r s j race count traffic unjudged all costs left accepted is = record {
   within = omega arith;
-  verdict = subst (λ xs. IsCheckVerdictOf r.model r.lax s xs x.race x.verdict) (sym whole)
-      (subst (λ o. IsCheckVerdictOf r.model r.lax s j o x.verdict) (sym same) (verdict_is x.verdict told));
-  whole = whole_is x.verdict;
-  ends = ends_is x.verdict told;
+  verdict = subst (λ xs. IsCheckVerdictOf r.model r.lax s xs race (verdict.Faithful traffic unjudged)) (sym whole) (accepted, is, costs, left);
+  whole = all;
+  ends = tt;
 }
   where
-    whole : take x.count j ≡ j
-    whole = (let le : length j ≤ x.count = omega arith in take_all x.count j le)
-
-    verdict_is : (v : TraceVerdict) → TraceJudgeTellsFaithful r.model race j v → IsCheckVerdictOf r.model r.lax s j race v
-    verdict_is (verdict.Faithful traffic unjudged) t = (accepted, is, t.0, t.1)
-    verdict_is (verdict.Lie y) t = absurd t
-    verdict_is verdict.Racy t = absurd t
-
-    whole_is : (v : TraceVerdict) → IsCheckVerdictWhole j x.count v
-    whole_is (verdict.Faithful traffic unjudged) = count
-    whole_is (verdict.Lie y) = tt
-    whole_is verdict.Racy = tt
-
-    ends_is : (v : TraceVerdict) → TraceJudgeTellsFaithful r.model race j v → CheckVerdictEndsAsAsked r.ends_at_race v
-    ends_is (verdict.Faithful traffic unjudged) t = tt
-    ends_is (verdict.Lie y) t = tt
-    ends_is verdict.Racy t = absurd t
+    whole : take count j ≡ j
+    whole = (let le : length j ≤ count = omega arith in take_all count j le)
 
 -- a lie
 pub checked_history_lie : (r : Rules) (s : Sizes) (j : List Event) (place : ℕ) (race : Option (ℕ × ℕ)) (x : Lie)

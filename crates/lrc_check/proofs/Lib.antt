@@ -1,6 +1,12 @@
 pub mod Accepting
 pub mod LyingTraces
 pub mod JudgedRaces
+pub mod JudgedNext
 pub mod CheckedHistories
 pub mod FoundRaces
-pub mod ToldEvents
+pub mod ToldHistories
+pub mod HistoryEnds
+pub mod HistoryNext
+pub mod HistoryLocksets
+pub mod StreamedTraces
+pub mod ReadLabels

@@ -5,8 +5,10 @@ pub mod CutLines
 pub mod HeadLines
 pub mod TextParts
 pub mod Labelling
+pub mod LabelLines
 pub mod Never
 pub mod TraceWalk
+pub mod ReadingOn
 pub mod Feeding
 pub mod UnlabelledTexts
 pub mod Printed

@@ -1,6 +1,10 @@
 pub mod Faithful
+pub mod JudgedCounts
 pub mod CheckVerdicts
+pub mod HeldTraces
 pub mod TraceJudge
+pub mod HistoryJudge
+pub mod TraceStreams
 pub mod FoundInBytes
 pub mod ToldLines
 pub mod ToldTraces

@@ -1,26 +1,26 @@
 -- A judge of histories by the events that it was told.
-use Rattle.std.specs.Prelude.{ℕ, ◌≡◌, Bool, false, Option, MatchOption, List}
+use Rattle.std.specs.Prelude.{ℕ, ◌≡◌, Bool, false, Option, MatchOption, List, [], ◌∷◌, ◌++◌, ◌<◌, length}
 use Rattle.journal.specs.declared.event.Event.{Event}
 use Rattle.journal.specs.Sizes.{addresses}
-use Rattle.judge.specs.declared.gaps.Gaps.{Gaps}
+use Rattle.judge.specs.declared.due_counts.DueCounts.{DueCounts}
 use Rattle.judge.specs.declared.sizes.Sizes.{Sizes}
 use Rattle.judge.specs.declared.models.MemoryModel.{MemoryModel}
 use Rattle.judge.specs.declared.models.MemoryModel.TheVariants.{LazyRelease}
-use Rattle.judge.specs.FetchGaps.{TellsFetchGaps}
+use Rattle.judge.specs.DueCounts.{TellsDueCounts}
 use Rattle.judge.specs.NearestRaces.{AreNearestRacesOf}
-use Rattle.judge.specs.Owed.{AreOwedBy}
-use Rattle.judge.specs.JudgedSizes.{judged_sizes_of}
+use Rattle.judge.specs.LaxWellFormed.{MayFollowOrLax}
+use Rattle.judge.specs.Miscounted.{IsEventInSizes}
+use Rattle.judge.specs.Owed.{AreOwedBy, IsOwedRacy}
+use Rattle.judge.specs.JudgedSizes.{judged_sizes_of, most_judged_events}
 use Rattle.judge.specs.FrontTells.{FrontTellsHistory}
 use Rattle.lrc_check.specs.declared.trace_judge.TraceJudge.{TraceJudge}
-use Rattle.lrc_check.specs.declared.checked.TraceVerdict.{TraceVerdict}
-use Rattle.lrc_check.specs.declared.checked.TraceVerdict.TheVariants as verdict
-use Rattle.lrc_check.specs.CheckVerdicts.{IsCheckVerdictRace, IsCheckVerdictTraffic, unjudged_in_check_verdict}
+use Rattle.lrc_check.specs.CheckVerdicts.{IsCheckVerdictRace}
 use Rattle.lrc_check.specs.Faithful.{IsFaithfulAndCounted}
 
--- the gaps are there exactly if counts are judged, and tell the history
-abbrev pub TraceJudgeHasGaps : MemoryModel → Bool → Sizes → List Event → Option Gaps → Type 0
-TraceJudgeHasGaps m lax s j gaps = MatchOption gaps (m ≡ LazyRelease → ¬ (lax ≡ false))
-    (λ g. (m ≡ LazyRelease) × (lax ≡ false) × (g.sizes ≡ s) × TellsFetchGaps j g)
+-- what fetches have to count is kept exactly if that is judged, and tells the history
+abbrev pub TraceJudgeHasCounts : MemoryModel → Bool → Sizes → List Event → Option DueCounts → Type 0
+TraceJudgeHasCounts m lax s j counts = MatchOption counts (m ≡ LazyRelease → ¬ (lax ≡ false))
+    (λ d. (m ≡ LazyRelease) × (lax ≡ false) × (d.stored.sizes ≡ s) × TellsDueCounts j d)
 
 -- these events are faithful, and the judge was told them
 pub record IsTraceJudgeOf (j : List Event) (x : TraceJudge) : Type 0 where
@@ -32,10 +32,31 @@ pub record IsTraceJudgeOf (j : List Event) (x : TraceJudge) : Type 0 where
   pub processors : x.races.processors ≡ x.sizes.processors
   pub addresses : x.races.addresses ≡ addresses (judged_sizes_of x.sizes)
   pub owed : AreOwedBy x.model (judged_sizes_of x.sizes) j x.owed
-  pub gaps : TraceJudgeHasGaps x.model x.lax x.sizes j x.gaps
+  pub counts : TraceJudgeHasCounts x.model x.lax x.sizes j x.counts
 
--- that is what is told of a faithful history
-abbrev pub TraceJudgeTellsFaithful : MemoryModel → Option (ℕ × ℕ) → List Event → TraceVerdict → Type 0
-TraceJudgeTellsFaithful m race j (verdict.Faithful traffic unjudged) =
-    IsCheckVerdictTraffic j traffic × (unjudged ≡ unjudged_in_check_verdict m race j)
-TraceJudgeTellsFaithful m race j _ = ⊥
+-- e comes behind j, at this place
+pub record ComesNextToExplain (j : List Event) (e : Event) (place : ℕ) (racy : Bool) (x : TraceJudge) : Type 0 where
+  pub judged : IsTraceJudgeOf j x
+  pub within : IsEventInSizes (judged_sizes_of x.sizes) e
+  pub place_is : length j ≡ place
+  pub racy_is : IsOwedRacy j e racy
+
+-- and may follow there
+pub record ComesNextToJudge (j : List Event) (e : Event) (place : ℕ) (racy : Bool) (x : TraceJudge) : Type 0 where
+  pub judged : IsTraceJudgeOf j x
+  pub follows : MayFollowOrLax x.lax (judged_sizes_of x.sizes) j e
+  pub place_is : length j ≡ place
+  pub racy_is : IsOwedRacy j e racy
+
+-- and is faithful with them, with this race
+pub record ComesNextToKeep (j : List Event) (e : Event) (place : ℕ) (race : Option (ℕ × ℕ)) (x : TraceJudge) : Type 0 where
+  pub judged : IsTraceJudgeOf j x
+  pub few : place < most_judged_events
+  pub place_is : length j ≡ place
+  pub accepted : IsFaithfulAndCounted x.model x.lax (judged_sizes_of x.sizes) (j ++ e ∷ [])
+  pub race_is : IsCheckVerdictRace (j ++ e ∷ []) race
+
+-- one event more may be read behind j
+pub record ComesNextToRead (j : List Event) (x : TraceJudge) : Type 0 where
+  pub judged : IsTraceJudgeOf j x
+  pub few : length j < most_judged_events

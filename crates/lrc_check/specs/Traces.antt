@@ -2,6 +2,7 @@ pub mod Sizes
 pub mod TraceText
 pub mod Labels
 pub mod LawfulTraces
+pub mod LabelLines
 pub mod Begun
 pub mod Names
 pub mod TraceLines

@@ -1,6 +1,9 @@
 //! What is found of a history.
+ghost use Rattle.std.specs.Prelude.{◌↔◌, IsTrue};
+ghost use Rattle.lrc_check.specs.Prelude.{AreCountsJudged};
 
 use journal::Traffic;
+use judge::locksets::LocksetWords;
 use judge::{IllFormed, MemoryModel, Miscounted, Permitted};
 
 /// By what a history is judged.
@@ -12,6 +15,18 @@ pub struct Rules {
     pub lax: bool,
     /// Whether judging ends with the first race.
     pub ends_at_race: bool,
+    /// Which words are told besides, of a faithful history without a race, whose accesses need a lock and have none.
+    pub locksets: Option<LocksetWords>,
+}
+
+/// Whether it is judged by these rules what fetches count: under `MemoryModel::LazyRelease` alone, and never lax.
+pub fn are_counts_judged(model: MemoryModel, lax: bool) -> bool
+    ensures { IsTrue result ↔ AreCountsJudged model lax }
+{
+    match model {
+        MemoryModel::LazyRelease => !lax,
+        _ => false,
+    }
 }
 
 /// A load that answers what it may not.

@@ -1,28 +1,28 @@
 //! Reads a trace, judges it, and prints what was found.
-ghost use Rattle.std.specs.Prelude.{◌≡◌, IfErr, IfOk, IfSome, MatchOption, OnOk};
+ghost use Rattle.std.specs.Prelude.{ℕ, List, IfErr, IfOk, IfSome, OnOk};
 ghost use Rattle.std.specs.Io.KnownBytes.{Appends, Keeps};
-ghost use Rattle.causes.specs.Prelude.{IsRaceApart};
 ghost use Rattle.journal.specs.Prelude.{Race};
 ghost use Rattle.lrc_check.specs.Traces.Prelude.{IsNoLawfulTrace};
 ghost use Rattle.judge.specs.Prelude.{judged_sizes_of as judged_sizes};
 ghost use Rattle.lrc_check.specs.Traces.Prelude.{IsLawfulTrace, without_trace_labels, trace_sizes_of};
-ghost use Rattle.lrc_check.specs.Prelude.{AreUnprotectedTold, IsFaultFoundBeforeBytesWritten, IsTrueCheckVerdict, IsFoundInBytes, IsFaultFoundInBytes};
-ghost use Rattle.lrc_check.specs.Prelude.{are_unprotected_looked_for};
+ghost use Rattle.lrc_check.specs.Prelude.{AreUnprotectedTold, IsTraceRaceApart, IsFaultFoundBeforeBytesWritten, IsTrueCheckVerdict, IsFoundInBytes, IsFaultFoundInBytes};
+ghost use Rattle.lrc_check.specs.Prelude.{unprotected_looked_for};
 
 use crate::check_fault::CheckFault;
 use crate::checked::{Checked, Rules};
-use crate::trace_history::trace_history_sizes;
-use crate::trace_judge::judge_history;
+use crate::history_judge::judge_whole_history;
+use crate::told_events::ToldEvents;
+use crate::trace_history::{can_trace_be_held, trace_history_sizes};
 use crate::traces::trace::{LabelledTrace, Trace, TraceSizes, read};
-use crate::unprotected::unprotected_of;
-use crate::verdict_text::{Told, verdict_text_of};
+use crate::verdict_text::verdict_text_of;
 use causes::{RaceApart, race_accesses_apart};
 use judge::locksets::Unprotected;
 use lrc_report::render::OutFault;
 use std::alloc::{AllocError, Global};
 use std::io::Write;
 
-/// What keeps the accesses of this race of the trace apart; None where no race was found.
+/// What keeps the accesses of this race of the trace apart; None where no race was found, or if the trace is too large to
+/// tell it of.
 fn checked_trace_race_apart(
     alloc: Global,
     trace: &Trace,
@@ -30,12 +30,14 @@ fn checked_trace_race_apart(
 ) -> Result<Option<RaceApart>, AllocError>
     requires trace { IsLawfulTrace (trace_sizes_of trace.now.sizes) trace.now.events.items }
     requires race { IfSome race (λ r. Race trace.now.events.items r.0 r.1) }
-    ensures { IfOk result (λ o. MatchOption race (o ≡ None)
-        (λ r. IfSome o (IsRaceApart trace.now.sizes.locks trace.now.events.items r.0 r.1))) }
+    ensures { IfOk result (IsTraceRaceApart (trace_sizes_of trace.now.sizes) trace.now.events.items race) }
 {
     let Some(race) = race else {
         return Ok(None);
     };
+    if !can_trace_be_held(trace) {
+        return Ok(None);
+    }
     let TraceSizes {
         processors,
         locks,
@@ -62,32 +64,24 @@ fn write_checked_trace_text<W: Write>(out: &mut W, bytes: &[u8]) -> Result<(), O
 #[derive(Drop)]
 pub struct JudgedTrace {
     pub found: Checked,
-    /// What keeps the race's accesses apart; None where no race was found.
+    /// What keeps the race's accesses apart; None where no race was found, or if the trace isn't one that `can_trace_be_held`.
     pub race: Option<RaceApart>,
-    /// Of each address whether somebody forgot its lock, if that was asked for and the trace is faithful and has no race;
-    /// empty otherwise.
-    pub unprotected: Vec<Option<Unprotected>>,
+    /// By rising address the words that need a lock and have none, those that were asked for, if the trace is faithful and has
+    /// no race; empty otherwise.
+    pub unprotected: Vec<Unprotected>,
 }
 
-/// Judges the trace. `locksets` asks for the words of which somebody forgot the lock. The only error is running out of
-/// memory.
-pub fn judge_trace(
-    alloc: Global,
-    trace: &Trace,
-    rules: Rules,
-    locksets: bool,
-) -> Result<JudgedTrace, AllocError>
+/// Judges the trace. The only error is running out of memory.
+pub fn judge_trace(alloc: Global, trace: &Trace, rules: Rules) -> Result<JudgedTrace, AllocError>
     requires { IsLawfulTrace (trace_sizes_of trace.now.sizes) trace.now.events.items }
     ensures found { IfOk result (λ x. IsTrueCheckVerdict rules (trace_sizes_of trace.now.sizes) trace.now.events.items x.found) }
-    ensures race { IfOk result (λ x. MatchOption x.found.race (x.race ≡ None)
-        (λ r. IfSome x.race (IsRaceApart trace.now.sizes.locks trace.now.events.items r.0 r.1))) }
-    ensures unprotected { IfOk result (λ x. AreUnprotectedTold (are_unprotected_looked_for locksets x.found)
+    ensures race { IfOk result (λ x. IsTraceRaceApart (trace_sizes_of trace.now.sizes) trace.now.events.items x.found.race x.race) }
+    ensures unprotected { IfOk result (λ x. AreUnprotectedTold (unprotected_looked_for rules.locksets x.found)
         (trace_sizes_of trace.now.sizes) trace.now.events.items x.unprotected.items) }
 {
     let sizes = trace_history_sizes(trace.sizes);
-    let found = judge_history(alloc, sizes, &trace.events, rules)?;
+    let (found, unprotected) = judge_whole_history(alloc, sizes, &trace.events, rules)?;
     let race = checked_trace_race_apart(alloc, trace, found.race)?;
-    let unprotected = unprotected_of(alloc, sizes, trace, locksets, &found)?;
     Ok(JudgedTrace {
         found,
         race,
@@ -95,7 +89,29 @@ pub fn judge_trace(
     })
 }
 
-/// Judges the trace, and writes what was found; `locksets` asks for the words of which somebody forgot the lock.
+/// Writes what was found of a trace of which these events can be told, and flushes the writer.
+///
+/// # Errors
+///
+/// Nothing was written where memory ran out. After `Output` a beginning of the text may have been. The others never come.
+pub fn write_verdict<W: Write>(
+    alloc: Global,
+    told: ToldEvents<'_>,
+    judged: &JudgedTrace,
+    rules: Rules,
+    out: &mut W,
+) -> Result<(), CheckFault>
+    ensures written { OnOk result ((text : List ℕ) × Appends (W.contents out.old) (W.contents out.new) text) }
+    ensures refused { IfErr result (λ fault. IsFaultFoundInBytes fault → ⊥) }
+    ensures early { IfErr result
+        (λ fault. IsFaultFoundBeforeBytesWritten fault → Keeps (W.contents out.old) (W.contents out.new)) }
+{
+    let text = verdict_text_of(alloc, told, judged, rules)?;
+    write_checked_trace_text(out, &text)?;
+    Ok(())
+}
+
+/// Judges the trace, and writes what was found.
 ///
 /// # Errors
 ///
@@ -104,7 +120,6 @@ pub fn check_trace<W: Write>(
     alloc: Global,
     labelled: &LabelledTrace,
     rules: Rules,
-    locksets: bool,
     out: &mut W,
 ) -> Result<Checked, CheckFault>
     requires { IsLawfulTrace (trace_sizes_of labelled.now.trace.sizes) labelled.now.trace.events.items }
@@ -113,13 +128,8 @@ pub fn check_trace<W: Write>(
     ensures early { IfErr result
         (λ fault. IsFaultFoundBeforeBytesWritten fault → Keeps (W.contents out.old) (W.contents out.new)) }
 {
-    let judged = judge_trace(alloc, &labelled.trace, rules, locksets)?;
-    let told = Told {
-        events: &labelled.trace.events,
-        labels: &labelled.labels,
-    };
-    let text = verdict_text_of(alloc, told, &judged, rules)?;
-    write_checked_trace_text(out, &text)?;
+    let judged = judge_trace(alloc, &labelled.trace, rules)?;
+    write_verdict(alloc, ToldEvents::of_trace(labelled), &judged, rules, out)?;
     Ok(judged.found)
 }
 
@@ -127,8 +137,8 @@ pub fn check_trace<W: Write>(
 ///
 /// # Errors
 ///
-/// As those of `check_trace`, and `Trace`: it comes only where the bytes are the text of no trace, with the first line that
-/// has a fault; then nothing was written.
+/// As those of `check_trace`; and `Trace`, with the first line that has a fault, only if the bytes are the text of no trace, after
+/// which nothing was written.
 pub fn check<W: Write>(
     alloc: Global,
     bytes: &[u8],
@@ -143,5 +153,5 @@ pub fn check<W: Write>(
         (λ fault. IsFaultFoundBeforeBytesWritten fault → Keeps (W.contents out.old) (W.contents out.new)) }
 {
     let labelled = read(alloc, bytes)?;
-    check_trace(alloc, &labelled, rules, false, out)
+    check_trace(alloc, &labelled, rules, out)
 }

@@ -1,14 +1,14 @@
 //! What of a trace is told: how far, and what is said of it.
 ghost use Rattle.std.specs.Prelude.{◌≡◌, IfOk, is_some};
-ghost use Rattle.judge.specs.Prelude.{AreJudgedSizesSmall};
-ghost use Rattle.lrc_check.specs.Traces.Prelude.{IsLawfulTrace, trace_sizes_of};
-ghost use Rattle.lrc_check.specs.Prelude.{IsTraceTold, is_told_trace_a_lie};
+ghost use Rattle.lrc_check.specs.Traces.Prelude.{trace_sizes_of};
+ghost use Rattle.lrc_check.specs.Prelude.{IsHeldTrace, IsTraceTold, is_told_trace_a_lie};
 
 use crate::checked::{Rules, TraceVerdict};
 use crate::checking_traces::judge_trace;
+use crate::told_events::ToldEvents;
 use crate::trace_history::trace_history_of;
 use crate::traces::trace::LabelledTrace;
-use crate::verdict_text::{Told, verdict_lie_text, verdict_text_of};
+use crate::verdict_text::{verdict_lie_text, verdict_text_of};
 use journal::Event;
 use judge::{History, MemoryModel};
 use std::alloc::{AllocError, Global};
@@ -28,29 +28,24 @@ pub struct ToldTrace<'a> {
 }
 
 /// Why the event that ended the judging is a lie; None if it ended otherwise.
-fn lie_to_tell_of_trace(
-    alloc: Global,
-    events: &[Event],
-    verdict: &TraceVerdict,
-) -> Result<Option<String>, AllocError>
+fn lie_to_tell_of_trace(alloc: Global, verdict: &TraceVerdict) -> Result<Option<String>, AllocError>
     ensures { IfOk result (λ lie. is_some lie ≡ is_told_trace_a_lie verdict.now) }
 {
     match verdict {
-        TraceVerdict::Lie(lie) => Ok(Some(verdict_lie_text(alloc, events, lie)?)),
+        TraceVerdict::Lie(lie) => Ok(Some(verdict_lie_text(alloc, lie)?)),
         _ => Ok(None),
     }
 }
 
-/// What is told of the trace, which is judged by the model, lax or not. Whether it `can_trace_history_be_told` is to be asked before. The only
-/// error is running out of memory.
+/// What is told of the trace, which is judged by the model, lax or not. Whether it `can_trace_be_held` is to be asked before.
+/// The only error is running out of memory.
 pub fn tell_trace(
     alloc: Global,
     labelled: &LabelledTrace,
     model: MemoryModel,
     lax: bool,
 ) -> Result<ToldTrace<'_>, AllocError>
-    requires trace { IsLawfulTrace (trace_sizes_of labelled.now.trace.sizes) labelled.now.trace.events.items }
-    requires small { AreJudgedSizesSmall (trace_sizes_of labelled.now.trace.sizes) }
+    requires { IsHeldTrace (trace_sizes_of labelled.now.trace.sizes) labelled.now.trace.events.items }
     ensures { IfOk result
         (IsTraceTold model lax (trace_sizes_of labelled.now.trace.sizes) labelled.now.trace.events.items labelled.now.labels) }
 {
@@ -58,16 +53,14 @@ pub fn tell_trace(
         model,
         lax,
         ends_at_race: false,
+        locksets: None,
     };
-    let judged = judge_trace(alloc, &labelled.trace, rules, false)?;
-    let events: &[Event] = &labelled.trace.events;
-    let told = Told {
-        events,
-        labels: &labelled.labels,
-    };
+    let judged = judge_trace(alloc, &labelled.trace, rules)?;
+    let told = ToldEvents::of_trace(labelled);
     let verdict = verdict_text_of(alloc, told, &judged, rules)?;
-    let lie = lie_to_tell_of_trace(alloc, events, &judged.found.verdict)?;
+    let lie = lie_to_tell_of_trace(alloc, &judged.found.verdict)?;
     let count = judged.found.count;
+    let events: &[Event] = &labelled.trace.events;
     let labels = labelled.labels.shown(alloc, count)?;
     Ok(ToldTrace {
         history: trace_history_of(labelled.trace.sizes, &events[..count]),

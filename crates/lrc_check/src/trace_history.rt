@@ -1,10 +1,12 @@
 //! Traces as histories.
 ghost use Rattle.std.specs.Prelude.{◌≡◌, ◌↔◌, IsTrue};
-ghost use Rattle.judge.specs.Prelude.{AreJudgedSizesSmall, whole_sized_history};
+ghost use Rattle.judge.specs.Prelude.{whole_sized_history};
 ghost use Rattle.judge.specs.Prelude.{judged_sizes_of as judged_sizes};
-ghost use Rattle.lrc_check.specs.Traces.Prelude.{IsLawfulTrace, trace_sizes_of};
+ghost use Rattle.lrc_check.specs.Prelude.{IsFewForHeldTrace, IsHeldTrace};
+ghost use Rattle.lrc_check.specs.Traces.Prelude.{trace_sizes_of};
 
-use crate::traces::trace::TraceSizes;
+use crate::traces::trace::{Trace, TraceSizes};
+use base::{MOST_HELD, MOST_PROCESSORS};
 use journal::Event;
 use judge::{History, Sizes};
 
@@ -21,18 +23,17 @@ pub(crate) fn trace_history_sizes(sizes: TraceSizes) -> Sizes
     }
 }
 
-/// Whether a trace of these sizes can be told: whether they are the product's own, at most 64 pages of 64 words, 32 locks and
-/// 32 flags.
-pub fn can_trace_history_be_told(sizes: TraceSizes) -> bool
-    ensures { IsTrue result ↔ AreJudgedSizesSmall (trace_sizes_of sizes) }
+/// Whether the trace can be told with all its events at hand: whether it has no more than `MOST_PROCESSORS` processors and
+/// `MOST_HELD` events.
+pub fn can_trace_be_held(trace: &Trace) -> bool
+    ensures { IsTrue result ↔ IsFewForHeldTrace (trace_sizes_of trace.now.sizes) trace.now.events.items }
 {
-    trace_history_sizes(sizes).are_small()
+    trace.sizes.processors <= MOST_PROCESSORS && trace.events.len() <= MOST_HELD
 }
 
-/// The history of a trace of these sizes, which can be told, and events.
+/// The history of a trace of these sizes and events.
 pub(crate) fn trace_history_of(sizes: TraceSizes, events: &[Event]) -> History<'_>
-    requires small { AreJudgedSizesSmall (trace_sizes_of sizes) }
-    requires trace { IsLawfulTrace (trace_sizes_of sizes) events.now }
+    requires { IsHeldTrace (trace_sizes_of sizes) events.now }
     ensures sizes { judged_sizes result.sizes ≡ trace_sizes_of sizes }
     ensures whole { result ≡ whole_sized_history result.sizes events.now }
 {

@@ -6,13 +6,15 @@
 //!
 //! **What contracts see.** A `Trace` as it is; its sizes as the journal's (`sizes_of`). `IsLawfulTrace` says which sizes
 //! and events a trace may have, `trace_text` what its bytes are, `bare` what a text is without its labels. `IsTraceFault` says
-//! what a fault says of such bytes. Of a `Reader`, `IsFedTextOf` says which bytes it was fed.
+//! what a fault says of such bytes. Of a `Reader`, `IsFedTextOf` says which bytes it was fed, and which events and labels it
+//! let go of; `HasReadFedText` says of which bytes it has the first lines' events, also where a line behind them was refused.
 //!
 //! **What is proved.** `trace::read` answers a trace only where it is one and the bytes are its text, and a fault
 //! only where they are no trace's, with the first line that isn't due. A `Reader` answers this of all its pieces'
-//! bytes, and a fault of a piece only where no trace has a text that begins so. Module `laws`: no two traces have one text;
-//! what is printed of a journal is, behind its sizes, the text of a trace of its events where nothing was cut off, and
-//! is refused as a cut journal's where something was; a well formed journal is a trace.
+//! bytes, also where it lets go of what was taken of it, and a fault of a piece only where no trace has a text that begins
+//! so; it then has the events of all lines before that one. Module `laws`: no two traces have one text; what is printed of
+//! a journal is, behind its sizes, the text of a trace of its events where nothing was cut off, and is refused as a cut
+//! journal's where something was; a well formed journal is a trace.
 //!
 //! **What is only tested** (in `test_lrc`): which fault is answered among several on one line, the texts of the
 //! faults, and that memory isn't wanted needlessly.

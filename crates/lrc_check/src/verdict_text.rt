@@ -4,11 +4,11 @@ ghost use Rattle.lrc_check.specs.Prelude.{told_line_label_mark, told_line};
 
 use crate::checked::{Lie, Rules, TraceVerdict, Unexplained};
 use crate::checking_traces::JudgedTrace;
-use crate::traces::labels::TraceLabels;
+use crate::told_events::ToldEvents;
 use crate::unprotected::put_unprotected_text;
 use causes::RaceApart;
-use journal::{Event, Kind, MOST_PROCESSORS, Traffic};
-use judge::{MemoryModel, Miscounted, Permitted, Why};
+use journal::{Event, Kind, Traffic};
+use judge::{FlatStore, MemoryModel, Miscounted, Permitted, Why};
 use lrc_prose::numbers::ProseNumbers;
 use lrc_prose::racing::RaceProse;
 use lrc_prose::text::ProseText;
@@ -20,13 +20,6 @@ const MOST_TOLD: usize = 64;
 
 /// How far the sentences on a race are indented.
 const INDENT: usize = 2;
-
-/// What is told of a trace: its events, with their labels.
-#[derive(Clone, Copy)]
-pub(crate) struct Told<'a> {
-    pub(crate) events: &'a [Event],
-    pub(crate) labels: &'a TraceLabels,
-}
 
 /// Adds a label behind two spaces, if there is one.
 fn put_verdict_label_text(text: &mut Vec<u8>, label: &[u8]) -> Result<(), AllocError>
@@ -40,35 +33,35 @@ fn put_verdict_label_text(text: &mut Vec<u8>, label: &[u8]) -> Result<(), AllocE
     Ok(())
 }
 
-/// Adds the line of the event at this place, as the trace has it, with its label.
+/// Adds the line of the event at this place, as the trace has it, with its label; nothing if the event isn't known.
 fn put_verdict_event_text(
     text: &mut Vec<u8>,
-    told: Told<'_>,
+    told: ToldEvents<'_>,
     place: usize,
 ) -> Result<(), AllocError>
     ensures { OnOk result (text.new.items ≡ text.old.items
-        ++ told_line told.entry.events.now told.entry.labels.now place) }
+        ++ told_line told.entry place) }
 {
-    let Some(event) = told.events.get(place) else {
+    let Some(event) = told.event(place) else {
         return Ok(());
     };
     let mut line = ReportLine::new();
-    render::render_report_event(&mut line, place as u64, event);
+    render::render_report_event(&mut line, place as u64, &event);
     let bytes = line.bytes();
     text.extend_from_slice(&bytes[..bytes.len() - 1])?;
-    put_verdict_label_text(text, told.labels.of(place))?;
+    put_verdict_label_text(text, told.label(place))?;
     text.push(b'\n')?;
     Ok(())
 }
 
-/// Adds the lines of the events at these places.
-fn put_verdict_events_text(
+/// Adds the lines of these stores.
+fn put_verdict_stores_text(
     text: &mut Vec<u8>,
-    told: Told<'_>,
-    places: &[usize],
+    told: ToldEvents<'_>,
+    stores: &[FlatStore],
 ) -> Result<(), AllocError> {
-    for place in places {
-        put_verdict_event_text(text, told, *place)?;
+    for store in stores {
+        put_verdict_event_text(text, told, store.place as usize)?;
     }
     Ok(())
 }
@@ -108,52 +101,21 @@ pub fn verdict_reason_text(alloc: Global, why: Why) -> Result<String, AllocError
     }
 }
 
-/// The places that there are, by processor.
-fn verdict_text_places(
-    alloc: Global,
-    latest: &[Option<usize>; MOST_PROCESSORS],
-) -> Result<Vec<usize>, AllocError> {
-    let mut places = Vec::new(alloc);
-    for place in latest {
-        if let Some(place) = *place {
-            places.push(place)?;
-        }
-    }
-    Ok(places)
-}
-
-/// Whether the events at the two places are stores of one value by one processor.
-fn are_alike(events: &[Event], one: usize, other: usize) -> bool {
-    match (events.get(one), events.get(other)) {
-        (Some(one), Some(other)) => match (one.kind, other.kind) {
-            (Kind::Store(_, value), Kind::Store(_, same)) => {
-                one.processor == other.processor && value == same
-            }
-            _ => false,
-        },
-        _ => false,
-    }
-}
-
-/// Whether a store like the one at this place is among those at the others.
-fn is_told(events: &[Event], places: &[usize], place: usize) -> bool {
-    for told in places {
-        if are_alike(events, *told, place) {
+/// Whether a store of the same value by the same processor is among these.
+fn is_told(stores: &[FlatStore], store: FlatStore) -> bool {
+    for told in stores {
+        if told.by == store.by && told.value == store.value {
             return true;
         }
     }
     false
 }
 
-/// Adds the places of the stores that aren't told yet, as long as there are few.
-fn add_untold(
-    places: &mut Vec<usize>,
-    events: &[Event],
-    unordered: &[usize],
-) -> Result<(), AllocError> {
-    for place in unordered {
-        if places.len() < MOST_TOLD && !is_told(events, places, *place) {
-            places.push(*place)?;
+/// Adds the stores that aren't told yet, as long as there are few.
+fn add_untold(stores: &mut Vec<FlatStore>, unordered: &[FlatStore]) -> Result<(), AllocError> {
+    for store in unordered {
+        if stores.len() < MOST_TOLD && !is_told(stores, *store) {
+            stores.push(*store)?;
         }
     }
     Ok(())
@@ -163,26 +125,26 @@ fn add_untold(
 #[derive(Drop)]
 pub struct AnswersTold {
     pub zero: bool,
-    /// The places of the stores: of those of one value by one processor the first, and `MOST_TOLD` in all at most.
-    pub stores: Vec<usize>,
+    /// Of those of one value by one processor the first, and `MOST_TOLD` in all at most, but for the latest ones.
+    pub stores: Vec<FlatStore>,
 }
 
-/// What a load of these events may answer, as it is told. The only error is running out of memory.
+/// What a load may answer, as it is told. The only error is running out of memory.
 pub fn verdict_text_answers(
     alloc: Global,
-    events: &[Event],
     permitted: &Permitted,
 ) -> Result<AnswersTold, AllocError> {
-    let mut stores = match permitted {
-        Permitted::Latest(latest) | Permitted::Heard(latest, _) => verdict_text_places(
-            alloc, latest,
-        )?,
-        Permitted::Last(Some(place)) => vec![in alloc; *place]?,
-        Permitted::Last(None) => Vec::new(alloc),
-    };
+    let mut stores = Vec::new(alloc);
+    match permitted {
+        Permitted::Latest(latest) | Permitted::Heard(latest, _) => {
+            stores.extend_from_slice(latest)?;
+        }
+        Permitted::One(Some(store)) | Permitted::Last(Some(store)) => stores.push(*store)?,
+        Permitted::One(None) | Permitted::Last(None) => {}
+    }
     let zero = stores.is_empty();
     if let Permitted::Heard(_, unordered) = permitted {
-        add_untold(&mut stores, events, unordered)?;
+        add_untold(&mut stores, unordered)?;
     }
     Ok(AnswersTold { zero, stores })
 }
@@ -197,17 +159,14 @@ fn verdict_permitted_text(zero: bool, are_told: bool) -> &'static str {
 }
 
 /// What the load may answer, with the numbers of the stores.
-fn verdict_unexplained_text(
-    alloc: Global,
-    events: &[Event],
-    load: &Unexplained,
-) -> Result<String, AllocError> {
-    let AnswersTold { zero, stores } = verdict_text_answers(alloc, events, &load.permitted)?;
+fn verdict_unexplained_text(alloc: Global, load: &Unexplained) -> Result<String, AllocError> {
+    let AnswersTold { zero, stores } = verdict_text_answers(alloc, &load.permitted)?;
     let mut text = String::from_str(alloc, verdict_permitted_text(zero, !stores.is_empty()))?;
-    for (index, place) in stores.iter().enumerate() {
+    for (index, store) in stores.iter().enumerate() {
         let front = if index == 0 { " " } else { ", " };
-        let store = format!(in alloc; "{front}event {place}")?;
-        text.push_str(&store)?;
+        let place = store.place;
+        let event = format!(in alloc; "{front}event {place}")?;
+        text.push_str(&event)?;
     }
     Ok(text)
 }
@@ -226,14 +185,10 @@ fn verdict_miscounted_text(alloc: Global, fetch: Miscounted) -> Result<String, A
 }
 
 /// Why the event is a lie, in a line. The only error is running out of memory.
-pub(crate) fn verdict_lie_text(
-    alloc: Global,
-    events: &[Event],
-    lie: &Lie,
-) -> Result<String, AllocError> {
+pub(crate) fn verdict_lie_text(alloc: Global, lie: &Lie) -> Result<String, AllocError> {
     match lie {
         Lie::IllFormed(fault) => verdict_reason_text(alloc, fault.why),
-        Lie::Unexplained(load) => verdict_unexplained_text(alloc, events, load),
+        Lie::Unexplained(load) => verdict_unexplained_text(alloc, load),
         Lie::Miscounted(fetch) => verdict_miscounted_text(alloc, *fetch),
     }
 }
@@ -250,12 +205,12 @@ fn put_verdict_reason_text(text: &mut Vec<u8>, reason: &str) -> Result<(), Alloc
 fn put_verdict_unexplained_text(
     text: &mut Vec<u8>,
     alloc: Global,
-    told: Told<'_>,
+    told: ToldEvents<'_>,
     load: &Unexplained,
 ) -> Result<(), AllocError> {
-    let AnswersTold { zero, stores } = verdict_text_answers(alloc, told.events, &load.permitted)?;
+    let AnswersTold { zero, stores } = verdict_text_answers(alloc, &load.permitted)?;
     put_verdict_reason_text(text, verdict_permitted_text(zero, !stores.is_empty()))?;
-    put_verdict_events_text(text, told, &stores)
+    put_verdict_stores_text(text, told, &stores)
 }
 
 /// The sentences on the race: what keeps its accesses apart, and what would have ordered them.
@@ -274,21 +229,23 @@ fn verdict_reasons_text(
     reasons.finish()
 }
 
-/// Adds the race, if one was found: its two events, and the sentences on it.
+/// Adds the race, if one was found: its two events, and the sentences on it, if what keeps the two apart is known.
 fn put_verdict_race_text(
     text: &mut Vec<u8>,
     alloc: Global,
-    told: Told<'_>,
-    race: Option<&RaceApart>,
+    told: ToldEvents<'_>,
+    judged: &JudgedTrace,
 ) -> Result<(), AllocError> {
-    let Some(apart) = race else {
+    let Some((first, second)) = judged.found.race else {
         return Ok(());
     };
     text.extend_from_slice(b"verdict racy\n")?;
-    put_verdict_event_text(text, told, apart.first)?;
-    put_verdict_event_text(text, told, apart.second)?;
-    let reasons = verdict_reasons_text(alloc, told.events, apart)?;
-    text.extend_from_slice(&reasons)?;
+    put_verdict_event_text(text, told, first)?;
+    put_verdict_event_text(text, told, second)?;
+    if let Some(apart) = &judged.race {
+        let reasons = verdict_reasons_text(alloc, told.events, apart)?;
+        text.extend_from_slice(&reasons)?;
+    }
     Ok(())
 }
 
@@ -305,7 +262,7 @@ fn verdict_text_place(lie: &Lie) -> usize {
 fn put_verdict_lie_text(
     text: &mut Vec<u8>,
     alloc: Global,
-    told: Told<'_>,
+    told: ToldEvents<'_>,
     lie: &Lie,
 ) -> Result<(), AllocError> {
     let place = verdict_text_place(lie);
@@ -314,7 +271,7 @@ fn put_verdict_lie_text(
     put_verdict_event_text(text, told, place)?;
     match lie {
         Lie::Unexplained(load) => put_verdict_unexplained_text(text, alloc, told, load),
-        _ => put_verdict_reason_text(text, &verdict_lie_text(alloc, told.events, lie)?),
+        _ => put_verdict_reason_text(text, &verdict_lie_text(alloc, lie)?),
     }
 }
 
@@ -390,29 +347,29 @@ fn verdict_text_opening(
 /// The text of what was found of this trace. The only error is running out of memory.
 pub(crate) fn verdict_text_of(
     alloc: Global,
-    told: Told<'_>,
+    told: ToldEvents<'_>,
     judged: &JudgedTrace,
     rules: Rules,
 ) -> Result<Vec<u8>, AllocError> {
-    let race = judged.race.as_ref();
+    let is_racy = judged.found.race.is_some();
     let mut text = verdict_text_opening(alloc, judged.found.count, rules.model)?;
     match &judged.found.verdict {
         TraceVerdict::Faithful { traffic, unjudged } => {
             text.extend_from_slice(b"faithful\n")?;
             put_verdict_unjudged_text(&mut text, rules)?;
-            put_verdict_unjudged_loads_text(&mut text, alloc, rules, race.is_some(), *unjudged)?;
-            if race.is_none() {
+            put_verdict_unjudged_loads_text(&mut text, alloc, rules, is_racy, *unjudged)?;
+            if !is_racy {
                 text.extend_from_slice(b"verdict race-free\n")?;
             }
-            put_verdict_race_text(&mut text, alloc, told, race)?;
+            put_verdict_race_text(&mut text, alloc, told, judged)?;
             put_unprotected_text(&mut text, alloc, told, &judged.unprotected)?;
             put_verdict_traffic_text(&mut text, alloc, *traffic)?;
         }
         TraceVerdict::Lie(lie) => {
-            put_verdict_race_text(&mut text, alloc, told, race)?;
+            put_verdict_race_text(&mut text, alloc, told, judged)?;
             put_verdict_lie_text(&mut text, alloc, told, lie)?;
         }
-        TraceVerdict::Racy => put_verdict_race_text(&mut text, alloc, told, race)?,
+        TraceVerdict::Racy => put_verdict_race_text(&mut text, alloc, told, judged)?,
     }
     Ok(text)
 }

@@ -1,16 +1,20 @@
 -- A trace that was read and judged.
-use Rattle.std.proofs.Common.{◌≡◌, ◌≢◌, ◌∙◌, ℕ, suc, Bool, true, false, List, [], ◌++◌, ◌≤◌, Option, Some, None, Result, Ok, Err, IfOk, length, take, drop, refl, sym, ap, subst, append_assoc, append-nil, take-append-drop, arith}
+use Rattle.std.proofs.Common.{◌≡◌, ◌≢◌, ◌∙◌, ℕ, suc, Bool, true, false, List, [], ◌++◌, ◌≤◌, Option, Some, None, Result, Ok, Err, length, take, drop, refl, sym, ap, subst, append_assoc, append-nil, take-append-drop, arith}
 use Rattle.std.proofs.lemmas.List.{take_all}
-use Rattle.std.specs.Prelude.{IfErr, IfSome}
+use Rattle.std.specs.Prelude.{IfSome}
 use Rattle.std.specs.Io.KnownBytes.{Consumes, IsAtEnd}
 use Rattle.journal.specs.declared.event.Event.{Event}
 use Rattle.journal.specs.Sizes.{Sizes}
 use Rattle.judge.specs.declared.models.MemoryModel.{MemoryModel}
+use Rattle.lrc_check.specs.declared.checked.Checked.{Checked}
 use Rattle.lrc_check.specs.declared.checked.Lie.{Lie}
 use Rattle.lrc_check.specs.declared.checked.Rules.{Rules}
 use Rattle.lrc_check.specs.declared.checked.TraceVerdict.{TraceVerdict}
 use Rattle.lrc_check.specs.declared.checked.TraceVerdict.TheVariants as verdict
 use Rattle.lrc_check.specs.Faithful.{IsFaithfulAndCounted}
+use Rattle.lrc_check.specs.FoundInBytes.{IsFoundInBytes}
+use Rattle.lrc_check.specs.HistoryJudge.{HasEndedEarly}
+use Rattle.lrc_check.specs.TraceStreams.{IsStreamEnd}
 use Rattle.lrc_check.specs.ToldTraces.{IsToldTraceUpToLie}
 use Rattle.lrc_check.specs.CheckVerdicts.{IsCheckVerdictLie, IsCheckVerdictOf, IsCheckVerdictWhole, check_verdict_lie_place}
 use Rattle.lrc_check.specs.declared.traces.fault.TraceFault.{TraceFault}
@@ -21,14 +25,14 @@ use Rattle.lrc_check.specs.Traces.Labels.{without_trace_labels}
 use Rattle.lrc_check.specs.Traces.LawfulTraces.{IsNoLawfulTrace, IsLawfulTrace}
 use Rattle.lrc_check.specs.Traces.TraceText.{trace_text}
 use Rattle.lrc_commands.specs.declared.checking.Judgement.{Judgement}
-use Rattle.lrc_commands.specs.TraceCommand.{HasTraceCommandText, IsTraceCommandJudgedAs, IsTraceCommandOnNone, IsTraceCommandToldAs, IsTraceCommandReadSoFar, trace_command_judgement}
+use Rattle.lrc_commands.specs.TraceCommand.{BeginsWithTraceCommandText, HasTraceCommandText, IsTraceCommandJudgedAs, IsTraceCommandOnNone, IsTraceCommandToldAs, IsTraceCommandReadSoFar, trace_command_judgement}
 
 -- nothing was read yet
-pub judged_source_fed_none : (source : Option (List ℕ)) (x : FedText) → IsFedTextOf [] x → IsTraceCommandReadSoFar source source (Ok x)
+pub judged_source_fed_none : (source : Option (List ℕ)) (x : FedText) → IsFedTextOf [] [] [] x → IsTraceCommandReadSoFar source source (Ok x)
 judged_source_fed_none None x h = ([], tt, h)
 judged_source_fed_none (Some xs) x h = ([], refl, h)
 
-judged_source_consumed_no_more : (source left after : Option (List ℕ)) (fed piece : List ℕ) (n : ℕ) → n ≡ 0 → Consumes source left fed
+pub judged_source_consumed_no_more : (source left after : Option (List ℕ)) (fed piece : List ℕ) (n : ℕ) → n ≡ 0 → Consumes source left fed
     → Consumes left after (take n piece) → Consumes source after fed
 judged_source_consumed_no_more None left after fed piece n none had more = tt
 judged_source_consumed_no_more (Some xs) None after fed piece n none had more = absurd had
@@ -44,7 +48,7 @@ judged_source_fed_no_more source left after piece n (Err e) none had more = had
 judged_source_fed_no_more source left after piece n (Ok x) none had more =
     (had.0, judged_source_consumed_no_more source left after had.0 piece n none had.1 more, had.2)
 
-judged_source_consumed_on : (source left after : Option (List ℕ)) (fed piece : List ℕ) → Consumes source left fed
+pub judged_source_consumed_on : (source left after : Option (List ℕ)) (fed piece : List ℕ) → Consumes source left fed
     → Consumes left after piece → Consumes source after (fed ++ piece)
 judged_source_consumed_on None left after fed piece had more = tt
 judged_source_consumed_on (Some xs) None after fed piece had more = absurd had
@@ -53,20 +57,25 @@ judged_source_consumed_on (Some xs) (Some ys) (Some zs) fed piece had more =
     had ∙ ap (λ (x : List ℕ). fed ++ x) more ∙ sym (append_assoc fed piece zs)
 
 -- no trace begins with what the source had
-judged_source_no_trace : (source left : Option (List ℕ)) (fed : List ℕ) → Consumes source left fed → ¬ FedTextBeginsTrace fed → IsTraceCommandOnNone source
+pub judged_source_no_trace : (source left : Option (List ℕ)) (fed : List ℕ) → Consumes source left fed → ¬ FedTextBeginsTrace fed → IsTraceCommandOnNone source
 judged_source_no_trace None left fed had none = tt
 judged_source_no_trace (Some xs) None fed had none = absurd had
 judged_source_no_trace (Some xs) (Some zs) fed had none = λ s es h text. none (s, es, h, zs, sym text ∙ ap without_trace_labels had)
 
 -- what was read and the next piece
-pub judged_source_fed_on : (source left after : Option (List ℕ)) (x : FedText) (piece : List ℕ) (r : Result FedText (ℕ × TraceFault))
-    → IfOk r (λ y. (bytes : List ℕ) → IsFedTextOf bytes x → IsFedTextOf (bytes ++ piece) y)
-    → IfErr r (λ e. e.1 ≢ NoMemory → (bytes : List ℕ) → IsFedTextOf bytes x → ¬ FedTextBeginsTrace (bytes ++ piece))
-    → IsTraceCommandReadSoFar source left (Ok x) → Consumes left after piece → IsTraceCommandReadSoFar source after r
-judged_source_fed_on source left after x piece (Ok y) fed none had more =
-    (had.0 ++ piece, judged_source_consumed_on source left after had.0 piece had.1 more, fed had.0 had.2)
-judged_source_fed_on source left after x piece (Err e) fed none had more =
-    λ ne. judged_source_no_trace source after (had.0 ++ piece) (judged_source_consumed_on source left after had.0 piece had.1 more) (none ne had.0 had.2)
+pub judged_source_fed_on : (source left after : Option (List ℕ)) (x : FedText) (piece : List ℕ) (y : FedText)
+    → ((bytes : List ℕ) (front : List Event) (told : List ℕ) → IsFedTextOf bytes front told x → IsFedTextOf (bytes ++ piece) front told y)
+    → IsTraceCommandReadSoFar source left (Ok x) → Consumes left after piece → IsTraceCommandReadSoFar source after (Ok y)
+judged_source_fed_on source left after x piece y fed had more =
+    (had.0 ++ piece, judged_source_consumed_on source left after had.0 piece had.1 more, fed had.0 [] [] had.2)
+
+-- the next piece is refused
+pub judged_source_fed_refused : (source left after : Option (List ℕ)) (x : FedText) (piece : List ℕ) (e : ℕ × TraceFault)
+    → (e.1 ≢ NoMemory → (bytes : List ℕ) (front : List Event) (told : List ℕ) → IsFedTextOf bytes front told x
+    → ¬ FedTextBeginsTrace (bytes ++ piece))
+    → IsTraceCommandReadSoFar source left (Ok x) → Consumes left after piece → IsTraceCommandReadSoFar source after (Err e)
+judged_source_fed_refused source left after x piece e none had more =
+    λ ne. judged_source_no_trace source after (had.0 ++ piece) (judged_source_consumed_on source left after had.0 piece had.1 more) (none ne had.0 [] [] had.2)
 
 -- all was read
 pub judged_source_consumed_fully : (source left : Option (List ℕ)) (fed : List ℕ) → Consumes source left fed → IsAtEnd left
@@ -95,6 +104,45 @@ no_judged_source_faithful m lax s j n x lie faithful =
     let split = ap (λ (xs : List Event). xs ++ drop n j) whole ∙ take-append-drop n j in
     lie.first.never (drop n j) (subst (IsFaithfulAndCounted m lax s) (sym split) faithful)
 
+-- no history that begins with a lie is faithful
+no_judged_source_faithful_on : (m : MemoryModel) (lax : Bool) (s : Sizes) (j : List Event) (n : ℕ) (x : Lie)
+    → IsCheckVerdictLie m lax s (take n j) x → (more : List Event) → ¬ IsFaithfulAndCounted m lax s (j ++ more)
+no_judged_source_faithful_on m lax s j n x lie more faithful =
+    let last = lie.last in
+    let le : length (take n j) ≤ suc (check_verdict_lie_place x) = omega arith in
+    let whole = take_all (suc (check_verdict_lie_place x)) (take n j) le in
+    let split = ap (λ (xs : List Event). xs ++ (drop n j ++ more)) whole ∙ sym (append_assoc (take n j) (drop n j) more)
+    ∙ ap (λ (xs : List Event). xs ++ more) (take-append-drop n j) in
+    lie.first.never (drop n j ++ more) (subst (IsFaithfulAndCounted m lax s) (sym split) faithful)
+
+-- the whole text is a beginning
+judged_source_begins : (source : Option (List ℕ)) (s : Sizes) (es : List Event) → HasTraceCommandText source s es → BeginsWithTraceCommandText source s es
+judged_source_begins None s es text = tt
+judged_source_begins (Some xs) s es text = ([], text ∙ sym (append-nil (trace_text s es)))
+
+-- what was found of events with whose text the source begins is said of the source, if judging ended early
+judged_source_early : (r : Rules) (source : Option (List ℕ)) (s : Sizes) (es : List Event) (n : ℕ)
+    (race : Option (ℕ × ℕ)) (v : TraceVerdict) → IsLawfulTrace s es → BeginsWithTraceCommandText source s es
+    → IsCheckVerdictOf r.model r.lax s (take n es) race v → HasEndedEarly v
+    → IsTraceCommandJudgedAs r.model r.lax source (trace_command_judgement v)
+judged_source_early r source s es n race (verdict.Faithful traffic unjudged) trace begins is ended = absurd ended
+judged_source_early r source s es n race (verdict.Lie x) trace begins is ended = record {
+  sizes = s;
+  events = es;
+  trace = trace;
+  begins = begins;
+  lies = no_judged_source_faithful_on r.model r.lax s es n x is.0;
+}
+judged_source_early r source s es n race verdict.Racy trace begins is ended = record {
+  sizes = s;
+  events = es;
+  trace = trace;
+  begins = begins;
+  first = is.first;
+  second = is.second;
+  race = found_race_of_front es n is.first is.second is.nearest.race;
+}
+
 -- what was found of the trace that the source had is said of the source
 pub judged_source_as : (r : Rules) (source : Option (List ℕ)) (s : Sizes) (es : List Event) (n : ℕ)
     (race : Option (ℕ × ℕ)) (v : TraceVerdict) → IsLawfulTrace s es → HasTraceCommandText source s es
@@ -109,22 +157,33 @@ judged_source_as r source s es n race (verdict.Faithful traffic unjudged) trace 
       (let le : length es ≤ n = omega arith in
       subst (IsFaithfulAndCounted r.model r.lax s) (take_all n es le) is.0);
 }
-judged_source_as r source s es n race (verdict.Lie x) trace text is whole = record {
-  sizes = s;
-  events = es;
-  trace = trace;
-  text_is = text;
-  unfaithful = no_judged_source_faithful r.model r.lax s es n x is.0;
-}
-judged_source_as r source s es n race verdict.Racy trace text is whole = record {
-  sizes = s;
-  events = es;
-  trace = trace;
-  text_is = text;
-  first = is.first;
-  second = is.second;
-  race = found_race_of_front es n is.first is.second is.nearest.race;
-}
+judged_source_as r source s es n race (verdict.Lie x) trace text is whole =
+    judged_source_early r source s es n race (verdict.Lie x) trace (judged_source_begins source s es text) is tt
+judged_source_as r source s es n race verdict.Racy trace text is whole =
+    judged_source_early r source s es n race verdict.Racy trace (judged_source_begins source s es text) is tt
+
+-- what the source had begins with what was read of it
+judged_source_stream_begins : (source left : Option (List ℕ)) (fed : List ℕ) (s : Sizes) (es : List Event) → Consumes source left fed
+    → ((more : List ℕ) → (rest : List ℕ) × (without_trace_labels (fed ++ more) ≡ trace_text s es ++ rest)) → BeginsWithTraceCommandText source s es
+judged_source_stream_begins None left fed s es had begins = tt
+judged_source_stream_begins (Some xs) None fed s es had begins = absurd had
+judged_source_stream_begins (Some xs) (Some ys) fed s es had begins =
+    ((begins ys).0, ap without_trace_labels had ∙ (begins ys).1)
+
+-- judging ended as it was read
+pub judged_source_stream_ended : (r : Rules) (source left : Option (List ℕ)) (fed : List ℕ) (found : Checked) → Consumes source left fed
+    → IsStreamEnd r fed found → IsTraceCommandJudgedAs r.model r.lax source (trace_command_judgement found.verdict)
+judged_source_stream_ended r source left fed found had end =
+    judged_source_early r source end.sizes end.events found.count found.race found.verdict end.trace
+    (judged_source_stream_begins source left fed end.sizes end.events had end.begins) end.end.says.verdict end.end.ended
+
+-- all was read, and judged
+pub judged_source_stream_whole : (r : Rules) (source left : Option (List ℕ)) (fed : List ℕ) (found : Checked) → Consumes source left fed → IsAtEnd left
+    → IsFoundInBytes r fed found → IsTraceCommandJudgedAs r.model r.lax source (trace_command_judgement found.verdict)
+judged_source_stream_whole r source left fed found had end is =
+    judged_source_as r source is.sizes is.events found.count found.race found.verdict is.trace
+    (judged_source_full_text source fed is.sizes is.events (judged_source_consumed_fully source left fed had end) is.text_is)
+    is.checked.verdict is.checked.whole
 
 -- and so by the rules that were asked for
 pub judged_source_by : (r : Rules) (m : MemoryModel) (lax : Bool) (source : Option (List ℕ)) (a b : Judgement) → r.model ≡ m

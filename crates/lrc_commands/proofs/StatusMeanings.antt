@@ -7,7 +7,7 @@ use Rattle.lrc_program.specs.declared.fault.ProgramFault.TheVariants as program
 use Rattle.lrc_program.specs.ExitStatus.{program_exit_status_of_cause, program_exit_status_of}
 use Rattle.lrc_program.proofs.StatusMeanings.{program_status_meaning_some, program_status_means_scripts, before}
 use Rattle.lrc_commands.specs.declared.fault.CommandFault.{CommandFault}
-use Rattle.lrc_commands.specs.declared.fault.CommandFault.TheVariants.{Program, Trace, Long, Wide, Unshown, Untold}
+use Rattle.lrc_commands.specs.declared.fault.CommandFault.TheVariants.{Program, Trace, Long, Large, Unshown, Untold}
 use Rattle.lrc_commands.specs.ExitStatus.{command_exit_status_of, IsCommandExitStatusOf, IsCommandExitStatusOfInput, IsCommandExitStatusBeforeAnswer}
 
 -- a fault has some status
@@ -15,7 +15,7 @@ command_status_meaning_some : (fault : CommandFault) → command_exit_status_of 
 command_status_meaning_some (Program fault) is = program_status_meaning_some fault is
 command_status_meaning_some (Trace line fault) is = absurd (omega (arith, is))
 command_status_meaning_some Long is = absurd (omega (arith, is))
-command_status_meaning_some Wide is = absurd (omega (arith, is))
+command_status_meaning_some Large is = absurd (omega (arith, is))
 command_status_meaning_some (Unshown address) is = absurd (omega (arith, is))
 command_status_meaning_some Untold is = absurd (omega (arith, is))
 
@@ -24,7 +24,7 @@ command_status_means_inputs : (fault : CommandFault) → command_exit_status_of 
 command_status_means_inputs (Program fault) is = program_status_means_scripts fault is
 command_status_means_inputs (Trace line fault) is = tt
 command_status_means_inputs Long is = absurd (omega (arith, is))
-command_status_means_inputs Wide is = absurd (omega (arith, is))
+command_status_means_inputs Large is = absurd (omega (arith, is))
 command_status_means_inputs (Unshown address) is = absurd (omega (arith, is))
 command_status_means_inputs Untold is = absurd (omega (arith, is))
 
@@ -33,7 +33,7 @@ pub command_status_means_before : (fault : CommandFault) → command_exit_status
 command_status_means_before (Program fault) isnt = before fault isnt
 command_status_means_before (Trace line fault) isnt = tt
 command_status_means_before Long isnt = tt
-command_status_means_before Wide isnt = tt
+command_status_means_before Large isnt = tt
 command_status_means_before (Unshown address) isnt = tt
 command_status_means_before Untold isnt = tt
 
@@ -57,7 +57,7 @@ command_status_meaning_small : (fault : CommandFault) → command_exit_status_of
 command_status_meaning_small (Program fault) = command_status_meaning_of_program_small fault
 command_status_meaning_small (Trace line fault) = omega arith
 command_status_meaning_small Long = omega arith
-command_status_meaning_small Wide = omega arith
+command_status_meaning_small Large = omega arith
 command_status_meaning_small (Unshown address) = omega arith
 command_status_meaning_small Untold = omega arith
 

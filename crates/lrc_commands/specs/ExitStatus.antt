@@ -2,14 +2,14 @@
 use Rattle.std.specs.Prelude.{ℕ, ◌≡◌, ◌⊎◌, ⊤}
 use Rattle.lrc_program.specs.ExitStatus.{IsProgramExitStatusBeforeOutput, IsProgramExitStatusOfScript, program_exit_status_of}
 use Rattle.lrc_commands.specs.declared.fault.CommandFault.{CommandFault}
-use Rattle.lrc_commands.specs.declared.fault.CommandFault.TheVariants.{Program, Trace, Long, Wide, Unshown, Untold}
+use Rattle.lrc_commands.specs.declared.fault.CommandFault.TheVariants.{Program, Trace, Long, Large, Unshown, Untold}
 
 -- the status of a fault
 abbrev pub command_exit_status_of : CommandFault → ℕ
 command_exit_status_of (Program fault) = program_exit_status_of fault
 command_exit_status_of (Trace line fault) = 2
 command_exit_status_of Long = 4
-command_exit_status_of Wide = 4
+command_exit_status_of Large = 4
 command_exit_status_of (Unshown address) = 5
 command_exit_status_of Untold = 4
 
@@ -22,7 +22,7 @@ abbrev pub IsCommandExitStatusOfInput : CommandFault → Type 0
 IsCommandExitStatusOfInput (Program fault) = IsProgramExitStatusOfScript fault
 IsCommandExitStatusOfInput (Trace line fault) = ⊤
 IsCommandExitStatusOfInput Long = ⊥
-IsCommandExitStatusOfInput Wide = ⊥
+IsCommandExitStatusOfInput Large = ⊥
 IsCommandExitStatusOfInput (Unshown address) = ⊥
 IsCommandExitStatusOfInput Untold = ⊥
 

@@ -16,6 +16,7 @@ use Rattle.explore.specs.declared.showing.Showing.{Showing}
 use Rattle.explore.specs.declared.showing.Showing.TheVariants as showing
 use Rattle.lrc_explore.specs.AllowedShowings.{AllowedShowingWritten}
 use Rattle.lrc_explore.specs.AllowedTexts.{AllowedTextWritten}
+use Rattle.lrc_explore.specs.declared.memory_shown.MemoryUntil.{MemoryUntil}
 use Rattle.lrc_explore.specs.Showings.{AreShowingWords, ShowingWritten}
 use Rattle.lrc_explore.specs.ExploreTexts.{ExploreTextWritten}
 use Rattle.explore.specs.declared.outcome_telling.Detail.{Detail}
@@ -72,9 +73,10 @@ IsExploreCommandShowingAnswer true old new explored = (json : List ℕ) × Appen
 IsExploreCommandShowingAnswer false old new explored = ShowingWritten old new explored
 
 -- and of whether the rules of the memory allow one
-abbrev pub IsExploreCommandAllowedShowingAnswer : Bool → Option (List ℕ) → Option (List ℕ) → ExploredUntil → AllowedUntil → Type 0
-IsExploreCommandAllowedShowingAnswer true old new explored allowed = (json : List ℕ) × Appends old new json
-IsExploreCommandAllowedShowingAnswer false old new explored allowed = AllowedShowingWritten old new explored allowed
+abbrev pub IsExploreCommandAllowedShowingAnswer : Bool → Option (List ℕ) → Option (List ℕ) → ExploredUntil → AllowedUntil → MemoryUntil
+    → Type 0
+IsExploreCommandAllowedShowingAnswer true old new explored allowed until = (json : List ℕ) × Appends old new json
+IsExploreCommandAllowedShowingAnswer false old new explored allowed until = AllowedShowingWritten old new explored allowed until
 
 -- what was found on one flat memory was written
 pub record IsExploreCommandShowingFound (decided json : Bool) (explored : ExploredUntil) (old new : Option (List ℕ)) : Type 0 where
@@ -88,7 +90,8 @@ pub record IsExploreCommandAllowedShowing (outcomes : OutcomeDetail) (words : Li
   pub allowed : AllowedUntil
   pub is : IsAllowedUntil script (explore_command_detail outcomes) words most allowed
   pub decided_is : is_allowed_until_settled allowed.showing ≡ decided
-  pub written : IsExploreCommandAllowedShowingAnswer json old new explored allowed
+  pub until : MemoryUntil
+  pub written : IsExploreCommandAllowedShowingAnswer json old new explored allowed until
 
 -- the rules are asked of a racy script
 abbrev pub IsExploreCommandShowingTold : Showing → OutcomeDetail → List (ℕ × ℕ) → ℕ → Bool → Bool → Plan → ExploredUntil → Option (List ℕ)

@@ -1,5 +1,5 @@
 -- What the program does with a trace.
-use Rattle.std.specs.Prelude.{◌≡◌, ◌≢◌, ℕ, Bool, true, false, List, Option, Result, Ok, Err, IfSome}
+use Rattle.std.specs.Prelude.{◌≡◌, ◌≢◌, ℕ, Bool, true, false, List, [], ◌++◌, Option, Result, Ok, Err, IfSome}
 use Rattle.std.specs.Io.KnownBytes.{Consumes}
 use Rattle.journal.specs.declared.event.Event.{Event}
 use Rattle.journal.specs.Sizes.{Sizes}
@@ -10,12 +10,16 @@ use Rattle.lrc_check.specs.Traces.Labels.{without_trace_labels}
 use Rattle.lrc_check.specs.Traces.LawfulTraces.{IsNoLawfulTrace, IsLawfulTrace}
 use Rattle.lrc_check.specs.Traces.TraceText.{trace_text}
 use Rattle.journal.specs.Races.{Race}
-use Rattle.judge.specs.JudgedSizes.{AreJudgedSizesSmall}
+use Rattle.judge.specs.declared.locksets.lockset_finder.LocksetWords.{LocksetWords}
+use Rattle.judge.specs.declared.locksets.lockset_finder.LocksetWords.TheVariants as words
 use Rattle.judge.specs.declared.models.MemoryModel.{MemoryModel}
 use Rattle.judge.specs.declared.models.MemoryModel.TheVariants as model
 use Rattle.lrc_check.specs.declared.checked.TraceVerdict.{TraceVerdict}
 use Rattle.lrc_check.specs.declared.checked.TraceVerdict.TheVariants as verdict
 use Rattle.lrc_check.specs.Faithful.{IsFaithfulAndCounted}
+use Rattle.lrc_check.specs.HeldTraces.{IsFewForHeldTrace}
+use Rattle.lrc_options.specs.declared.options.TraceLocksets.{TraceLocksets}
+use Rattle.lrc_options.specs.declared.options.TraceLocksets.TheVariants as asked_words
 use Rattle.lrc_options.specs.declared.options.TraceModel.{TraceModel}
 use Rattle.lrc_options.specs.declared.options.TraceModel.TheVariants as asked
 use Rattle.lrc_commands.specs.declared.checking.Judgement.{Judgement}
@@ -38,6 +42,11 @@ trace_command_judgement verdict.Racy = judgement.Racy
 abbrev pub HasTraceCommandText : Option (List ℕ) → Sizes → List Event → Type 0
 HasTraceCommandText source s es = IfSome source (λ xs. without_trace_labels xs ≡ trace_text s es)
 
+-- the words without a lock that are asked for
+abbrev pub trace_command_locksets : TraceLocksets → LocksetWords
+trace_command_locksets asked_words.Forgotten = words.Forgotten
+trace_command_locksets asked_words.All = words.All
+
 -- the source had the text of a trace, whose history is faithful under the model, lax or not
 pub record IsTraceCommandOnFaithful (m : MemoryModel) (lax : Bool) (source : Option (List ℕ)) : Type 0 where
   pub sizes : Sizes
@@ -59,20 +68,32 @@ abbrev pub IsTraceCommandToldAs : Bool → MemoryModel → Bool → Option (List
 IsTraceCommandToldAs true m lax source = IsTraceCommandOnUnfaithful m lax source
 IsTraceCommandToldAs false m lax source = IsTraceCommandOnFaithful m lax source
 
--- the source had the text of a trace that can be told: its sizes are a script's at most
-pub record IsTraceCommandOnSmall (source : Option (List ℕ)) : Type 0 where
+-- the source had the text of a trace that can be told, with all its events at hand
+pub record IsTraceCommandOnHeld (source : Option (List ℕ)) : Type 0 where
   pub sizes : Sizes
   pub events : List Event
   pub trace : IsLawfulTrace sizes events
   pub text_is : HasTraceCommandText source sizes events
-  pub small : AreJudgedSizesSmall sizes
+  pub few : IsFewForHeldTrace sizes events
 
--- the source had the text of a trace that races
+-- what the source had begins, without labels, with the text of this trace
+abbrev pub BeginsWithTraceCommandText : Option (List ℕ) → Sizes → List Event → Type 0
+BeginsWithTraceCommandText source s es = IfSome source (λ xs. (rest : List ℕ) × (without_trace_labels xs ≡ trace_text s es ++ rest))
+
+-- the source begins with the text of a trace, and no history that begins with its events is faithful
+pub record IsTraceCommandOnLie (m : MemoryModel) (lax : Bool) (source : Option (List ℕ)) : Type 0 where
+  pub sizes : Sizes
+  pub events : List Event
+  pub trace : IsLawfulTrace sizes events
+  pub begins : BeginsWithTraceCommandText source sizes events
+  pub lies : (more : List Event) → ¬ IsFaithfulAndCounted m lax sizes (events ++ more)
+
+-- the source begins with the text of a trace that races
 pub record IsTraceCommandOnRacy (source : Option (List ℕ)) : Type 0 where
   pub sizes : Sizes
   pub events : List Event
   pub trace : IsLawfulTrace sizes events
-  pub text_is : HasTraceCommandText source sizes events
+  pub begins : BeginsWithTraceCommandText source sizes events
   pub first : ℕ
   pub second : ℕ
   pub race : Race events first second
@@ -80,7 +101,7 @@ pub record IsTraceCommandOnRacy (source : Option (List ℕ)) : Type 0 where
 -- which of these
 abbrev pub IsTraceCommandJudgedAs : MemoryModel → Bool → Option (List ℕ) → Judgement → Type 0
 IsTraceCommandJudgedAs m lax source judgement.Faithful = IsTraceCommandOnFaithful m lax source
-IsTraceCommandJudgedAs m lax source judgement.Unfaithful = IsTraceCommandOnUnfaithful m lax source
+IsTraceCommandJudgedAs m lax source judgement.Unfaithful = IsTraceCommandOnLie m lax source
 IsTraceCommandJudgedAs m lax source judgement.Racy = IsTraceCommandOnRacy source
 
 -- what the source had is no trace
@@ -90,5 +111,5 @@ IsTraceCommandOnNone source = IfSome source (λ xs. IsNoLawfulTrace (without_tra
 -- of a source that has this left: a reader has what came before it, or a fault, unless it is of memory, says that what
 -- the source had is no trace
 abbrev pub IsTraceCommandReadSoFar : Option (List ℕ) → Option (List ℕ) → Result FedText (ℕ × TraceFault) → Type 0
-IsTraceCommandReadSoFar source left (Ok x) = (fed : List ℕ) × Consumes source left fed × IsFedTextOf fed x
+IsTraceCommandReadSoFar source left (Ok x) = (fed : List ℕ) × Consumes source left fed × IsFedTextOf fed [] [] x
 IsTraceCommandReadSoFar source left (Err e) = e.1 ≢ NoMemory → IsTraceCommandOnNone source

@@ -1,19 +1,23 @@
 //! The program that judges traces, over its reader and its writers.
-ghost use Rattle.std.specs.Prelude.{◌≡◌, ◌≢◌, ◌⊎◌, ℕ, ◌<◌, ◌≤◌, List, Option, IfErr, IfOk, length, take};
+ghost use Rattle.std.specs.Prelude.{◌≡◌, ◌≢◌, ◌⊎◌, ℕ, ◌<◌, ◌≤◌, List, [], Option, IfErr, IfOk, length, option_map, take};
 ghost use Rattle.std.specs.Io.KnownBytes.{Consumes, IsAtEnd, Keeps};
 ghost use Rattle.lrc_check.specs.Traces.Prelude.{IsLawfulTrace, trace_sizes_of};
-ghost use Rattle.lrc_check.specs.Prelude.{IsTrueCheckVerdict, IsFaultFoundInBytes};
+ghost use Rattle.journal.specs.declared.event.Event.{Event};
+ghost use Rattle.lrc_check.specs.Prelude.{IsFaultFoundInBytes, IsFoundInStream, IsTraceStream};
 ghost use Rattle.lrc_commands.specs.Prelude.{HasTraceCommandText, IsCommandExitStatusBeforeAnswer, IsTraceCommandOnFaithful, IsCommandExitStatusOfInput, IsTraceCommandJudgedAs, IsTraceCommandOnNone};
-ghost use Rattle.lrc_commands.specs.Prelude.{IsTraceCommandOnRacy, IsTraceCommandReadSoFar, IsTraceCommandOnUnfaithful, trace_command_model, trace_command_judgement};
+ghost use Rattle.lrc_commands.specs.Prelude.{IsTraceCommandOnLie, IsTraceCommandOnRacy, IsTraceCommandReadSoFar, trace_command_locksets, trace_command_model, trace_command_judgement};
 
 use crate::fault::CommandFault;
 use judge::MemoryModel;
+use judge::locksets::LocksetWords;
 use lrc_check::traces::fault::TraceFault;
 use lrc_check::traces::reader::Reader;
 use lrc_check::traces::trace::LabelledTrace;
-use lrc_check::{CheckFault, Checked, Rules, TraceVerdict, check_trace, judge_trace};
+use lrc_check::{
+    CheckFault, Checked, JudgedTrace, Rules, ToldEvents, TraceStream, TraceVerdict, write_verdict,
+};
 use lrc_json::write_checked_json;
-use lrc_options::options::{TraceModel, TraceOptions};
+use lrc_options::options::{TraceLocksets, TraceModel, TraceOptions};
 use std::alloc::{AllocError, Global};
 use std::io;
 use std::io::{ErrorKind, Read, Write};
@@ -69,7 +73,9 @@ fn check_command_feeds(alloc: Global, reading: Reading, piece: &[u8]) -> Reading
     ensures { (source left after : Option (List ℕ)) → IsTraceCommandReadSoFar source left reading
         → Consumes left after piece.now → IsTraceCommandReadSoFar source after result }
 {
-    reading?.feed(alloc, piece)
+    let mut reader = reading?;
+    reader.feed(alloc, piece)?;
+    Ok(reader)
 }
 
 /// What was read after the last piece.
@@ -104,6 +110,33 @@ fn check_command_reads_pieces<S: Read>(
         }
         reading = check_command_feeds(alloc, reading, &piece[..count]);
         total += count;
+    }
+    Err(CommandFault::Long)
+}
+
+/// Reads a trace, a piece at a time, and judges it as it is read: what was found. Nothing behind a lie, or behind a race that
+/// ends the judging, is read.
+fn check_command_streams<S: Read>(
+    alloc: Global,
+    source: &mut S,
+    piece: &mut [u8],
+    stream: &mut TraceStream,
+) -> Result<Checked, CommandFault>
+    requires piece { 0 < length piece.old }
+    requires stream { IsTraceStream [] stream.old }
+    ensures judged { IfOk result (λ x. IsTraceCommandJudgedAs stream.old.rules.model stream.old.rules.lax (S.remaining source.old)
+        (trace_command_judgement x.verdict)) }
+    ensures at_hand { IfOk result (λ x. (front : List Event) × IsFoundInStream front x stream.new) }
+    ensures refused { IfErr result (λ fault. IsCommandExitStatusOfInput fault → IsTraceCommandOnNone (S.remaining source.old)) }
+{
+    for _ in 0..u64::MAX {
+        let count = check_command_reads_some(source, piece)?;
+        if count == 0 {
+            return Ok(stream.finish()?);
+        }
+        if let Some(found) = stream.feed(alloc, &piece[..count])? {
+            return Ok(found);
+        }
     }
     Err(CommandFault::Long)
 }
@@ -151,58 +184,52 @@ pub(crate) fn check_command_model(model: TraceModel) -> MemoryModel
     }
 }
 
+/// The words without a lock that are asked for.
+fn check_command_locksets(words: TraceLocksets) -> LocksetWords
+    ensures { result ≡ trace_command_locksets words }
+{
+    match words {
+        TraceLocksets::Forgotten => LocksetWords::Forgotten,
+        TraceLocksets::All => LocksetWords::All,
+    }
+}
+
 /// The rules that are asked for.
 fn check_command_rules(options: &TraceOptions) -> Rules
     ensures model { result.model ≡ trace_command_model options.now.model }
     ensures lax { result.lax ≡ options.now.lax }
+    ensures locksets { result.locksets ≡ option_map trace_command_locksets options.now.locksets }
 {
     Rules {
         model: check_command_model(options.model),
         lax: options.lax,
         ends_at_race: options.race_is_error,
+        locksets: options.locksets.map(check_command_locksets),
     }
 }
 
-/// Judges a trace, and writes what was found as JSON.
-fn check_command_judges_as_json<W: Write>(
+/// Writes what was found of a trace as it is read, as text or as JSON.
+fn check_command_writes<W: Write>(
     alloc: Global,
-    labelled: &LabelledTrace,
+    json: bool,
+    told: ToldEvents<'_>,
     rules: Rules,
-    locksets: bool,
+    judged: &JudgedTrace,
     out: &mut W,
-) -> Result<Checked, CommandFault>
-    requires { IsLawfulTrace (trace_sizes_of labelled.now.trace.sizes) labelled.now.trace.events.items }
-    ensures found { IfOk result (IsTrueCheckVerdict rules (trace_sizes_of labelled.now.trace.sizes) labelled.now.trace.events.items) }
+) -> Result<(), CommandFault>
     ensures refused { IfErr result (λ fault. IsCommandExitStatusOfInput fault → ⊥) }
     ensures early { IfErr result
         (λ fault. IsCommandExitStatusBeforeAnswer fault → Keeps (W.contents out.old) (W.contents out.new)) }
 {
-    let judged = judge_trace(alloc, &labelled.trace, rules, locksets)?;
-    write_checked_json(alloc, labelled, rules, &judged, out)?;
-    Ok(judged.found)
-}
-
-/// Judges a trace by the rules that the options ask for, and writes what was found as text or as JSON.
-fn check_command_judges<W: Write>(
-    alloc: Global,
-    options: &TraceOptions,
-    labelled: &LabelledTrace,
-    rules: Rules,
-    out: &mut W,
-) -> Result<Checked, CommandFault>
-    requires { IsLawfulTrace (trace_sizes_of labelled.now.trace.sizes) labelled.now.trace.events.items }
-    ensures found { IfOk result (IsTrueCheckVerdict rules (trace_sizes_of labelled.now.trace.sizes) labelled.now.trace.events.items) }
-    ensures refused { IfErr result (λ fault. IsCommandExitStatusOfInput fault → ⊥) }
-    ensures early { IfErr result
-        (λ fault. IsCommandExitStatusBeforeAnswer fault → Keeps (W.contents out.old) (W.contents out.new)) }
-{
-    if options.json {
-        return check_command_judges_as_json(alloc, labelled, rules, options.locksets, out);
+    if json {
+        write_checked_json(alloc, told, rules, judged, out)?;
+    } else {
+        write_verdict(alloc, told, judged, rules, out)?;
     }
-    Ok(check_trace(alloc, labelled, rules, options.locksets, out)?)
+    Ok(())
 }
 
-/// Reads a trace, judges it and writes what was found: how judging ended.
+/// Reads a trace, judges it as it is read, and writes what was found: how judging ended.
 fn check_command_on_source<S: Read, W: Write>(
     alloc: Global,
     options: &TraceOptions,
@@ -215,10 +242,13 @@ fn check_command_on_source<S: Read, W: Write>(
     ensures early { IfErr result
         (λ fault. IsCommandExitStatusBeforeAnswer fault → Keeps (W.contents out.old) (W.contents out.new)) }
 {
-    let labelled = check_command_reads_all(alloc, source)?;
     let rules = check_command_rules(options);
-    let found = check_command_judges(alloc, options, &labelled, rules, out)?;
-    Ok(check_command_judgement(&found))
+    let mut piece = room(alloc, PIECE)?;
+    let mut stream = TraceStream::new(alloc, rules);
+    let found = check_command_streams(alloc, source, &mut piece, &mut stream)?;
+    let judged = stream.judged(alloc, found)?;
+    check_command_writes(alloc, options.json, stream.told(), rules, &judged, out)?;
+    Ok(check_command_judgement(&judged.found))
 }
 
 /// Judges the trace of `source` as the options say: writes what was found to `out`, or one line to `err`, and answers
@@ -233,10 +263,10 @@ pub fn run_check_command<S: Read, W: Write, E: Write>(
     // The source had a trace, and it is faithful.
     ensures faithful { result ≡ 0
         → IsTraceCommandOnFaithful (trace_command_model options.now.model) options.now.lax (S.remaining source.old) }
-    // The source had a trace, and it is not.
+    // What the source had begins with a trace, and no trace that begins so is faithful.
     ensures unfaithful { result ≡ 6
-        → IsTraceCommandOnUnfaithful (trace_command_model options.now.model) options.now.lax (S.remaining source.old) }
-    // The source had a trace, and it races.
+        → IsTraceCommandOnLie (trace_command_model options.now.model) options.now.lax (S.remaining source.old) }
+    // What the source had begins with a trace that races.
     ensures racy { result ≡ 8 → IsTraceCommandOnRacy (S.remaining source.old) }
     // What is refused as a trace is none.
     ensures refused { result ≡ 2 → IsTraceCommandOnNone (S.remaining source.old) }

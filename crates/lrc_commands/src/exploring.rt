@@ -8,13 +8,14 @@ ghost use Rattle.lrc_commands.specs.Prelude.{IsExploreCommandAllowedAnswer, IsEx
 ghost use Rattle.lrc_commands.specs.Prelude.{IsExploreCommandAllowedShowing, IsExploreCommandAllowedShowingAnswer, IsExploreCommandShowingFound};
 
 use crate::fault::CommandFault;
+use conformance::ScriptRunner;
 use explore::{
     AllowedOutcomes, AllowedUntil, Detail, Explored, ExploredUntil, Progress, Showing, Verdict,
     allowed_outcomes, allowed_until, explore, explore_until,
 };
 use lrc_explore::{
-    render, render_allowed_showing_text, render_allowed_text, render_showing_text,
-    unshown_asked_address,
+    MemoryShown, MemoryUntil, render, render_allowed_showing_text, render_allowed_text,
+    render_showing_text, unshown_asked_address, what_memory_shows,
 };
 use lrc_json::{
     write_allowed_json, write_allowed_showing_json, write_explored_json, write_showing_json,
@@ -24,6 +25,7 @@ use lrc_program::program::program_reads_script;
 use lrc_script::script::Script;
 use std::alloc::Global;
 use std::io::{Read, Write};
+use std::sync::Wait;
 
 /// The exit status if the search was given up.
 const UNDECIDED: u8 = 7;
@@ -53,7 +55,7 @@ fn explore_command_writes_search<W: Write>(
         (λ fault. IsCommandExitStatusBeforeAnswer fault → Keeps (W.contents out.old) (W.contents out.new)) }
 {
     if json {
-        return Ok(write_explored_json(alloc, &script.shown, explored, out)?);
+        return Ok(write_explored_json(alloc, script, explored, out)?);
     }
     Ok(render(alloc, script, explored, out)?)
 }
@@ -84,6 +86,7 @@ fn explore_command_writes_allowed<W: Write>(
     script: &Script,
     explored: &Explored,
     allowed: &AllowedOutcomes,
+    shown: &MemoryShown,
     out: &mut W,
 ) -> Result<(), CommandFault>
     ensures written { OnOk result (IsExploreCommandAllowedAnswer json (W.contents out.old) (W.contents out.new) explored.now allowed.now) }
@@ -92,9 +95,9 @@ fn explore_command_writes_allowed<W: Write>(
         (λ fault. IsCommandExitStatusBeforeAnswer fault → Keeps (W.contents out.old) (W.contents out.new)) }
 {
     if json {
-        return Ok(write_allowed_json(alloc, &script.shown, explored, allowed, out)?);
+        return Ok(write_allowed_json(alloc, script, explored, allowed, shown, out)?);
     }
-    Ok(render_allowed_text(alloc, script, explored, allowed, out)?)
+    Ok(render_allowed_text(alloc, script, explored, allowed, shown, out)?)
 }
 
 /// Writes that a schedule of a script races, and whether the rules of the memory allow a run that ends with words that were asked for, as text or
@@ -105,22 +108,26 @@ fn explore_command_writes_allowed_showing<W: Write>(
     script: &Script,
     explored: &ExploredUntil,
     allowed: &AllowedUntil,
+    until: &MemoryUntil<'_>,
     out: &mut W,
 ) -> Result<(), CommandFault>
-    ensures written { OnOk result (IsExploreCommandAllowedShowingAnswer json (W.contents out.old) (W.contents out.new) explored.now allowed.now) }
+    ensures written { OnOk result (IsExploreCommandAllowedShowingAnswer json (W.contents out.old) (W.contents out.new) explored.now allowed.now until.now) }
     ensures runs { IfErr result (λ fault. IsCommandExitStatusOfInput fault → ⊥) }
     ensures early { IfErr result
         (λ fault. IsCommandExitStatusBeforeAnswer fault → Keeps (W.contents out.old) (W.contents out.new)) }
 {
     if json {
-        return Ok(write_allowed_showing_json(alloc, script, explored, allowed, out)?);
+        return Ok(write_allowed_showing_json(alloc, script, explored, allowed, until, out)?);
     }
-    Ok(render_allowed_showing_text(alloc, script, explored, allowed, out)?)
+    Ok(render_allowed_showing_text(alloc, script, explored, allowed, until, out)?)
 }
 
-/// Looks for all that the rules of the memory allow of a racy script, and writes it with what was found of its schedules. Answers whether
+/// Looks for all that the rules of the memory allow of a racy script, and for what this memory shows of that, and writes it with what was
+/// found of its schedules. Answers whether
 /// nothing is open.
-fn explore_command_prints_allowed<W: Write, P: Progress>(
+fn explore_command_prints_allowed<T: ScriptRunner, R: Wait, W: Write, P: Progress>(
+    runs: &T,
+    rt: &R,
     alloc: Global,
     options: &ExploreOptions,
     script: &Script,
@@ -136,8 +143,15 @@ fn explore_command_prints_allowed<W: Write, P: Progress>(
         (λ fault. IsCommandExitStatusBeforeAnswer fault → Keeps (W.contents out.old) (W.contents out.new)) }
 {
     let detail = explore_command_detail(options.outcomes);
-    let allowed = allowed_outcomes(alloc, script, detail, options.most as usize, progress)?;
-    explore_command_writes_allowed(alloc, options.json, script, explored, &allowed, out)?;
+    let most = options.most as usize;
+    let allowed = allowed_outcomes(alloc, script, detail, most, progress)?;
+    let enough = if allowed.are_all {
+        allowed.outcomes.len()
+    } else {
+        usize::MAX
+    };
+    let shown = what_memory_shows(runs, rt, alloc, script, detail, most, enough)?;
+    explore_command_writes_allowed(alloc, options.json, script, explored, &allowed, &shown, out)?;
     Ok(allowed.are_all)
 }
 
@@ -161,7 +175,9 @@ fn explore_command_prints_found<W: Write>(
 
 /// Looks at all schedules of a script, and writes what was found; of a racy one what the rules of the memory allow, too. Answers whether
 /// nothing is open.
-fn explore_command_prints_search<W: Write, P: Progress>(
+fn explore_command_prints_search<T: ScriptRunner, R: Wait, W: Write, P: Progress>(
+    runs: &T,
+    rt: &R,
     alloc: Global,
     options: &ExploreOptions,
     script: &Script,
@@ -179,7 +195,7 @@ fn explore_command_prints_search<W: Write, P: Progress>(
     let explored = explore(alloc, script, detail, options.most as usize, progress)?;
     match &explored.verdict {
         Verdict::Racy(_) => explore_command_prints_allowed(
-            alloc, options, script, &explored, out, progress,
+            runs, rt, alloc, options, script, &explored, out, progress,
         ),
         _ => explore_command_prints_found(alloc, options, script, &explored, out),
     }
@@ -187,7 +203,9 @@ fn explore_command_prints_search<W: Write, P: Progress>(
 
 /// Looks for a run of a racy script that the rules of the memory allow, and that ends with the words that the options give, and writes what was found
 /// with the schedule that races. Answers whether nothing is open.
-fn explore_command_prints_allowed_showing<W: Write, P: Progress>(
+fn explore_command_prints_allowed_showing<T: ScriptRunner, R: Wait, W: Write, P: Progress>(
+    runs: &T,
+    rt: &R,
     alloc: Global,
     options: &ExploreOptions,
     script: &Script,
@@ -205,7 +223,17 @@ fn explore_command_prints_allowed_showing<W: Write, P: Progress>(
     let detail = explore_command_detail(options.outcomes);
     let most = options.most as usize;
     let allowed = allowed_until(alloc, script, detail, &options.until, most, progress)?;
-    explore_command_writes_allowed_showing(alloc, options.json, script, explored, &allowed, out)?;
+    let shown = what_memory_shows(runs, rt, alloc, script, detail, most, usize::MAX)?;
+    let until = shown.until(&script.shown, &options.until);
+    explore_command_writes_allowed_showing(
+        alloc,
+        options.json,
+        script,
+        explored,
+        &allowed,
+        &until,
+        out,
+    )?;
     Ok(allowed.is_settled())
 }
 
@@ -229,7 +257,9 @@ fn explore_command_prints_answer<W: Write>(
 
 /// Looks for a run of a script that ends with the words that the options give, of a racy one for one that the rules of the memory allow, and writes
 /// what was found. Answers whether nothing is open.
-fn explore_command_prints_showing<W: Write, P: Progress>(
+fn explore_command_prints_showing<T: ScriptRunner, R: Wait, W: Write, P: Progress>(
+    runs: &T,
+    rt: &R,
     alloc: Global,
     options: &ExploreOptions,
     script: &Script,
@@ -256,14 +286,16 @@ fn explore_command_prints_showing<W: Write, P: Progress>(
     )?;
     match &explored.showing {
         Showing::Racy(_) => explore_command_prints_allowed_showing(
-            alloc, options, script, &explored, out, progress,
+            runs, rt, alloc, options, script, &explored, out, progress,
         ),
         _ => explore_command_prints_answer(alloc, options, script, &explored, out),
     }
 }
 
 /// Looks for what the options ask for, and writes what was found. Answers whether nothing is open.
-fn explore_command_prints_asked<W: Write, P: Progress>(
+fn explore_command_prints_asked<T: ScriptRunner, R: Wait, W: Write, P: Progress>(
+    runs: &T,
+    rt: &R,
     alloc: Global,
     options: &ExploreOptions,
     script: &Script,
@@ -278,14 +310,16 @@ fn explore_command_prints_asked<W: Write, P: Progress>(
         (λ fault. IsCommandExitStatusBeforeAnswer fault → Keeps (W.contents out.old) (W.contents out.new)) }
 {
     if options.until.is_empty() {
-        explore_command_prints_search(alloc, options, script, out, progress)
+        explore_command_prints_search(runs, rt, alloc, options, script, out, progress)
     } else {
-        explore_command_prints_showing(alloc, options, script, out, progress)
+        explore_command_prints_showing(runs, rt, alloc, options, script, out, progress)
     }
 }
 
 /// Reads a script, looks for what the options ask for, and writes what was found.
-fn explore_command_on_script<S: Read, W: Write, P: Progress>(
+fn explore_command_on_script<T: ScriptRunner, R: Wait, S: Read, W: Write, P: Progress>(
+    runs: &T,
+    rt: &R,
     alloc: Global,
     options: &ExploreOptions,
     source: &mut S,
@@ -300,12 +334,14 @@ fn explore_command_on_script<S: Read, W: Write, P: Progress>(
         (λ fault. IsCommandExitStatusBeforeAnswer fault → Keeps (W.contents out.old) (W.contents out.new)) }
 {
     let script = program_reads_script(alloc, source, refused)?;
-    explore_command_prints_asked(alloc, options, &script, out, progress)
+    explore_command_prints_asked(runs, rt, alloc, options, &script, out, progress)
 }
 
 /// Looks at all schedules of the script of `source`, and for what the rules of the memory allow if it is racy, or for a run that ends
 /// with the words that the options give, and writes what was found to `out`, or why nothing was to `err`; answers the exit status. The file that the options name isn't opened here. `progress` is told now and then how far the search is.
-pub fn run_explore_command<S: Read, W: Write, E: Write, P: Progress>(
+pub fn run_explore_command<T: ScriptRunner, R: Wait, S: Read, W: Write, E: Write, P: Progress>(
+    runs: &T,
+    rt: &R,
     alloc: Global,
     options: &ExploreOptions,
     source: &mut S,
@@ -329,7 +365,16 @@ pub fn run_explore_command<S: Read, W: Write, E: Write, P: Progress>(
     ensures quiet_too { result ≡ 7 → Keeps (E.contents err.old) (E.contents err.new) }
 {
     let mut refused = Vec::new(alloc);
-    match explore_command_on_script(alloc, options, source, &mut refused, out, progress) {
+    match explore_command_on_script(
+        runs,
+        rt,
+        alloc,
+        options,
+        source,
+        &mut refused,
+        out,
+        progress,
+    ) {
         Ok(true) => 0,
         Ok(false) => UNDECIDED,
         Err(fault) => fault.say(alloc, options.file.as_deref(), &refused, err),

@@ -11,7 +11,7 @@ ghost use Rattle.lrc_commands.specs.declared.fault.CommandFault.TheVariants as s
 ghost use Rattle.lrc_program.specs.declared.fault.ProgramFault.TheVariants as program;
 ghost use Rattle.lrc_commands.specs.Prelude.{IsCommandExitStatusBeforeAnswer, IsCommandExitStatusOfInput, IsCommandExitStatusOf, command_exit_status_of};
 
-use base::{MOST_FLAGS, MOST_LOCKS, MOST_PAGES, MOST_WORDS};
+use base::{MOST_HELD, MOST_PROCESSORS};
 use conformance::{RunFault, ScheduleFault};
 use lrc_check::CheckFault;
 use lrc_check::traces::fault::TraceFault;
@@ -38,8 +38,8 @@ pub enum CommandFault {
     Trace(usize, TraceFault),
     /// There are more bytes than any trace has.
     Long,
-    /// The trace has more pages, words, locks or flags than one that can be told.
-    Wide,
+    /// The trace has more processors or events than one that is told with all its events at hand.
+    Large,
     /// The word at this address is asked for, and the script doesn't show it.
     Unshown(usize),
     /// A run's journal isn't one of the script's sizes, or isn't there if the run can't go on. That doesn't come of runs on a
@@ -55,8 +55,8 @@ impl CommandFault {
             CommandFault::Program(fault) => fault.lines(alloc, file, script),
             CommandFault::Trace(line, fault) => format!(in alloc; "lrc: line {line}: {fault}\n"),
             CommandFault::Long => String::from_str(alloc, "lrc: trace too long\n"),
-            CommandFault::Wide => format!(in alloc;
-                "lrc: trace too large to tell\n  explain takes at most {MOST_PAGES} pages of {MOST_WORDS} words, {MOST_LOCKS} locks and {MOST_FLAGS} flags; check judges it\n"
+            CommandFault::Large => format!(in alloc;
+                "lrc: trace too large to hold\n  at most {MOST_PROCESSORS} processors and {MOST_HELD} events; check takes more\n"
             ),
             CommandFault::Unshown(address) => format!(in alloc;
                 "lrc: until: address {address} isn't shown\n  add {address} to the last line of the script, show ADDRESS ..\n"
@@ -65,15 +65,15 @@ impl CommandFault {
         }
     }
 
-    /// The exit status: 2 for a trace that is refused, 4 for one that is too long, or too large to tell, and for a run without
-    /// its journal, 5 for a word that isn't shown, else that of a run.
+    /// The exit status: 2 for a trace that is refused, 4 for one that is too long or too large to hold, and for a run without its
+    /// journal, 5 for a word that isn't shown, else that of a run.
     fn status(self) -> u8
         ensures { result ≡ command_exit_status_of self }
     {
         match self {
             CommandFault::Program(fault) => fault.status(),
             CommandFault::Trace(..) => 2,
-            CommandFault::Long | CommandFault::Wide | CommandFault::Untold => 4,
+            CommandFault::Long | CommandFault::Large | CommandFault::Untold => 4,
             CommandFault::Unshown(_) => 5,
         }
     }

@@ -2,22 +2,24 @@
 ghost use Rattle.std.specs.Prelude.{◌≡◌, ◌≢◌, ◌⊎◌, IfErr, IfOk};
 ghost use Rattle.std.specs.Io.KnownBytes.{Keeps};
 ghost use Rattle.lrc_commands.specs.Prelude.{IsTraceCommandOnFaithful, IsCommandExitStatusOfInput, IsTraceCommandOnNone, IsCommandExitStatusBeforeAnswer};
-ghost use Rattle.lrc_commands.specs.Prelude.{IsTraceCommandOnSmall, IsTraceCommandToldAs, IsTraceCommandOnUnfaithful, trace_command_model};
+ghost use Rattle.lrc_commands.specs.Prelude.{IsTraceCommandOnHeld, IsTraceCommandToldAs, IsTraceCommandOnUnfaithful, trace_command_model};
 
 use crate::checking::{UNFAITHFUL, check_command_model, check_command_reads_all};
 use crate::drawing::draw_trace;
 use crate::explaining::{explain_command_drawing, explain_command_extent};
 use crate::fault::CommandFault;
-use lrc_check::{ToldTrace, can_trace_history_be_told, tell_trace};
+use judge::Sizes;
+use lrc_check::{ToldTrace, can_trace_be_held, tell_trace};
 use lrc_explain::{ToldHistory, render_explained_trace};
 use lrc_options::options::{TellOptions, TraceModel};
 use std::alloc::Global;
 use std::io::{Read, Write};
 
-/// Whether the pages of a trace are told: if it is judged by this memory's own model.
-fn tell_command_tells_pages(model: TraceModel) -> bool {
+/// Whether the pages of a trace are told: if it is judged by this memory's own model, and has its sizes. Each event that takes is
+/// looked at for each page.
+fn tell_command_tells_pages(model: TraceModel, sizes: Sizes) -> bool {
     match model {
-        TraceModel::LazyRelease => true,
+        TraceModel::LazyRelease => sizes.are_small(),
         _ => false,
     }
 }
@@ -33,7 +35,7 @@ fn tell_command_prints<W: Write>(
     ensures early { IfErr result
         (λ fault. IsCommandExitStatusBeforeAnswer fault → Keeps (W.contents out.old) (W.contents out.new)) }
 {
-    let pages = tell_command_tells_pages(options.model);
+    let pages = tell_command_tells_pages(options.model, told.history.sizes());
     let history = ToldHistory {
         history: &told.history,
         labels: &told.labels,
@@ -48,7 +50,7 @@ fn tell_command_prints<W: Write>(
     Ok(())
 }
 
-/// Reads a trace, judges it and tells it, or draws it: whether it lies. One of more pages or words than a script may have isn't
+/// Reads a trace, judges it and tells it, or draws it: whether it lies. One with more processors or events than are held isn't
 /// told.
 fn tell_command_on_source<S: Read, W: Write>(
     alloc: Global,
@@ -58,14 +60,14 @@ fn tell_command_on_source<S: Read, W: Write>(
 ) -> Result<bool, CommandFault>
     ensures told { IfOk result (λ lies.
         IsTraceCommandToldAs lies (trace_command_model options.now.model) options.now.lax (S.remaining source.old)) }
-    ensures small { IfOk result (λ _. IsTraceCommandOnSmall (S.remaining source.old)) }
+    ensures held { IfOk result (λ _. IsTraceCommandOnHeld (S.remaining source.old)) }
     ensures refused { IfErr result (λ fault. IsCommandExitStatusOfInput fault → IsTraceCommandOnNone (S.remaining source.old)) }
     ensures early { IfErr result
         (λ fault. IsCommandExitStatusBeforeAnswer fault → Keeps (W.contents out.old) (W.contents out.new)) }
 {
     let labelled = check_command_reads_all(alloc, source)?;
-    if !can_trace_history_be_told(labelled.trace.sizes) {
-        return Err(CommandFault::Wide);
+    if !can_trace_be_held(&labelled.trace) {
+        return Err(CommandFault::Large);
     }
     let told = tell_trace(
         alloc,
@@ -92,8 +94,8 @@ pub fn run_tell_command<S: Read, W: Write, E: Write>(
     // The source had a trace, and it is not.
     ensures unfaithful { result ≡ 6
         → IsTraceCommandOnUnfaithful (trace_command_model options.now.model) options.now.lax (S.remaining source.old) }
-    // What is told is a trace of no more pages and words than a script may have.
-    ensures small { (result ≡ 0) ⊎ (result ≡ 6) → IsTraceCommandOnSmall (S.remaining source.old) }
+    // What is told is a trace of no more processors and events than are held.
+    ensures held { (result ≡ 0) ⊎ (result ≡ 6) → IsTraceCommandOnHeld (S.remaining source.old) }
     // What is refused as a trace is none.
     ensures refused { result ≡ 2 → IsTraceCommandOnNone (S.remaining source.old) }
     // At any status but 4, a trace is told whole or not at all.

@@ -40,18 +40,19 @@ fn put_chronicle_event(
 fn put_chronicle_events(
     text: &mut ProseText,
     held: &mut HeldNow,
+    alloc: Global,
     known: &HistoryNotes<'_>,
     layout: &Columns,
     told: &[bool],
 ) -> Result<(), AllocError> {
-    let mut stale = StaleCopies::new();
+    let mut stale = StaleCopies::new(alloc);
     layout.put_titles(text);
     for (place, event) in known.events.iter().enumerate() {
         if told.get(place) == Some(&true) {
             put_chronicle_event(text, held, &stale, known, layout, place, *event);
         }
         held.note(place, *event)?;
-        stale.note(*event, known.dues(place));
+        stale.note(*event, known.dues(place))?;
     }
     Ok(())
 }
@@ -100,7 +101,7 @@ fn put_chronicle_of_known(
         last,
     )?;
     put_chronicle_cut(text, known.numbers.cut);
-    put_chronicle_events(text, held, known, &layout, told)?;
+    put_chronicle_events(text, held, alloc, known, &layout, told)?;
     text.end_line();
     Ok(())
 }

@@ -22,6 +22,7 @@ mod held_now;
 mod journey;
 mod marked_processors;
 mod notes;
+mod page_copy;
 mod rendering;
 mod rivals;
 mod sketching;

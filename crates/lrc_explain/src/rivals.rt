@@ -2,10 +2,12 @@
 ghost use Rattle.std.specs.Prelude.{◌≡◌, length};
 ghost use Rattle.causes.specs.Prelude.{ArePathWays};
 
-use base::{MOST_PAGES, MOST_PROCESSORS};
+use crate::page_copy::PageCopy;
+use base::MOST_PROCESSORS;
 use causes::{Source, Ways};
 use journal::{Event, Kind};
 use std::alloc::{AllocError, Global};
+use std::collections::BTreeMap;
 
 /// A latest store of a load that isn't the one that it answers.
 #[derive(Clone, Copy)]
@@ -33,27 +35,24 @@ struct RivalSearch<'a> {
     events: &'a [Event],
     /// How many words a page has, where that is known.
     words: Option<usize>,
-    /// Of each page and processor, the places of its fetches of the page.
-    fetches: Vec<Vec<usize>>,
+    /// Of each copy, the places of its processor's fetches of the page.
+    fetches: BTreeMap<PageCopy, Vec<usize>>,
 }
 
-/// Of each page and processor, the places of its fetches of the page. The only error is running out of memory.
-fn rival_fetches_of(alloc: Global, events: &[Event]) -> Result<Vec<Vec<usize>>, AllocError> {
-    let mut rows = Vec::with_capacity(alloc, MOST_PAGES * MOST_PROCESSORS)?;
-    for _ in 0..MOST_PAGES * MOST_PROCESSORS {
-        rows.push(Vec::new(alloc))?;
-    }
+/// Of each copy, the places of its processor's fetches of the page. The only error is running out of memory.
+fn rival_fetches_of(
+    alloc: Global,
+    events: &[Event],
+) -> Result<BTreeMap<PageCopy, Vec<usize>>, AllocError> {
+    let mut fetches = BTreeMap::new(alloc);
     for (place, event) in events.iter().enumerate() {
-        if let Kind::Fetch { page, .. } = event.kind
-            && page < MOST_PAGES
-            && event.processor < MOST_PROCESSORS
-        {
-            if let Some(row) = rows.get_mut(page * MOST_PROCESSORS + event.processor) {
-                row.push(place)?;
-            }
+        if let Kind::Fetch { page, .. } = event.kind {
+            let processor = event.processor;
+            let copy = PageCopy { page, processor };
+            fetches.entry(copy)?.or_insert(Vec::new(alloc)).push(place)?;
         }
     }
-    Ok(rows)
+    Ok(fetches)
 }
 
 /// The first of these places from this one on.
@@ -68,16 +67,14 @@ impl RivalSearch<'_> {
         requires { ArePathWays self.now.events.now self.now.ways.now }
     {
         let words = self.words?;
-        if words == 0 || store >= self.events.len() || load.processor >= MOST_PROCESSORS {
+        let processor = load.processor;
+        if words == 0 || store >= self.events.len() || processor >= MOST_PROCESSORS {
             return None;
         }
-        let first = self.ways.first(self.events, store, load.processor)?;
-        let row = self.fetches.get(
-            (load.address / words)
-                .saturating_mul(MOST_PROCESSORS)
-                .saturating_add(load.processor),
-        )?;
-        let fetch = first_rival_fetch_from(row, first)?;
+        let page = load.address / words;
+        let first = self.ways.first(self.events, store, processor)?;
+        let places = self.fetches.get(&PageCopy { page, processor })?;
+        let fetch = first_rival_fetch_from(places, first)?;
         if fetch < load.place {
             Some(fetch)
         } else {

@@ -34,7 +34,7 @@ fn add_sketch_notes(
     alloc: Global,
     known: &HistoryNotes<'_>,
 ) -> Result<(), AllocError> {
-    let mut stale = StaleCopies::new();
+    let mut stale = StaleCopies::new(alloc);
     for (place, event) in known.events.iter().enumerate() {
         if !known.numbers.is_cut(place) {
             let mut text = ProseText::new(alloc);
@@ -42,7 +42,7 @@ fn add_sketch_notes(
             notes.push(text.into_line()?)?;
         }
         held.note(place, *event)?;
-        stale.note(*event, known.dues(place));
+        stale.note(*event, known.dues(place))?;
     }
     Ok(())
 }

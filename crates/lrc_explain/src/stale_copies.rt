@@ -1,49 +1,46 @@
 //! Which pages go stale by an event that takes, and whose records a fetch brings.
 
-use base::{MOST_PAGES, MOST_PROCESSORS};
+use crate::page_copy::PageCopy;
 use causes::Due;
 use journal::{Event, Kind};
 use lrc_prose::text::ProseText;
+use std::alloc::{AllocError, Global};
+use std::collections::BTreeSet;
 
 /// How many pages of an event are told at most.
 const MOST_TOLD: usize = 3;
 
 /// Which copies of pages are stale, as far as is known.
-#[derive(Clone, Copy)]
+#[derive(Drop)]
 pub struct StaleCopies {
-    /// Of each page, whether each processor's copy is.
-    marks: [[bool; MOST_PROCESSORS]; MOST_PAGES],
+    copies: BTreeSet<PageCopy>,
 }
 
 impl StaleCopies {
     /// None.
-    pub fn new() -> StaleCopies {
+    pub fn new(alloc: Global) -> StaleCopies {
         StaleCopies {
-            marks: [[false; MOST_PROCESSORS]; MOST_PAGES],
+            copies: BTreeSet::new(alloc),
         }
     }
 
     /// Whether the processor's copy of the page is.
     fn is(&self, page: usize, processor: usize) -> bool {
-        page < MOST_PAGES && processor < MOST_PROCESSORS && self.marks[page][processor]
+        self.copies.contains(&PageCopy { page, processor })
     }
 
-    /// Marks the processor's copy of the page, or not.
-    fn put(&mut self, page: usize, processor: usize, is_stale: bool) {
-        if page < MOST_PAGES && processor < MOST_PROCESSORS {
-            self.marks[page][processor] = is_stale;
-        }
-    }
-
-    /// Takes note of the event, which tells of these records.
-    pub fn note(&mut self, event: Event, dues: &[Due]) {
+    /// Takes note of the event, which tells of these records. The only error is running out of memory.
+    pub fn note(&mut self, event: Event, dues: &[Due]) -> Result<(), AllocError> {
+        let processor = event.processor;
         if let Kind::Fetch { page, .. } = event.kind {
-            self.put(page, event.processor, false);
-            return;
+            self.copies.remove(&PageCopy { page, processor });
+            return Ok(());
         }
         for due in dues {
-            self.put(due.page, event.processor, true);
+            let page = due.page;
+            self.copies.insert(PageCopy { page, processor })?;
         }
+        Ok(())
     }
 }
 

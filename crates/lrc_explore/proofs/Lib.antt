@@ -1,1 +1,4 @@
 pub mod AddedLines
+pub mod CutScripts
+pub mod MemoryOutcomes
+pub mod ReportedWords

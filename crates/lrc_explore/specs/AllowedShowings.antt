@@ -7,26 +7,40 @@ use Rattle.explore.specs.declared.allowed_showing.AllowedShowing.{AllowedShowing
 use Rattle.explore.specs.declared.allowed_showing.AllowedShowing.TheVariants.{Shown, Never, Undecided}
 use Rattle.explore.specs.declared.allowed_showing.AllowedUntil.{AllowedUntil}
 use Rattle.explore.specs.declared.showing.ExploredUntil.{ExploredUntil}
+use Rattle.lrc_explore.specs.declared.memory_shown.MemoryUntil.{MemoryUntil}
+use Rattle.lrc_explore.specs.declared.memory_shown.MemoryUntil.TheVariants as memory
 use Rattle.lrc_explore.specs.AllowedTexts.{allowed_text_beginnings}
+use Rattle.lrc_explore.specs.ExploreTexts.{IsExploreTextOfSchedule}
 use Rattle.lrc_explore.specs.Showings.{IsShowingText}
 
--- a run that they allow: a line of what it shows, and one for each event
-abbrev pub IsAllowedShowingOfRun : List Event → List ℕ → Type 0
-IsAllowedShowingOfRun events text =
-    (outcome : List ℕ) × (text ≡ codes "until by the rules\n" ++ outcome ++ report_events_text 0 events)
+-- a run that this memory shows: a line of what it shows, and one of a schedule
+abbrev pub IsAllowedShowingOfSchedule : List ℕ → Type 0
+IsAllowedShowingOfSchedule text =
+    (outcome schedule : List ℕ) × IsExploreTextOfSchedule schedule × (text ≡ codes "until shown\n" ++ outcome ++ schedule)
+
+-- a run that they allow: a line of what it shows, one for each event, and some on what its loads answer
+abbrev pub IsAllowedShowingOfRun : List ℕ → List Event → List ℕ → Type 0
+IsAllowedShowingOfRun first events text =
+    (outcome answers : List ℕ) × (text ≡ first ++ outcome ++ report_events_text 0 events ++ answers)
+
+-- the lines on a run that they allow, by whether this memory shows one that ends with the words
+abbrev pub IsAllowedShowingOfMemory : MemoryUntil → List Event → List ℕ → Type 0
+IsAllowedShowingOfMemory (memory.Shown outcome schedule) events text = IsAllowedShowingOfSchedule text
+IsAllowedShowingOfMemory memory.Never events text = IsAllowedShowingOfRun (codes "until by the rules alone\n") events text
+IsAllowedShowingOfMemory memory.Undecided events text = IsAllowedShowingOfRun (codes "until by the rules\n") events text
 
 -- the lines by the answer
-abbrev pub IsAllowedShowingAnswer : AllowedShowing → List ℕ → Type 0
-IsAllowedShowingAnswer (Shown run) text = IsAllowedShowingOfRun run.events.items text
-IsAllowedShowingAnswer Never text = text ≡ codes "until never by the rules\n"
-IsAllowedShowingAnswer Undecided text = text ≡ codes "until undecided by the rules\n"
+abbrev pub IsAllowedShowingAnswer : AllowedShowing → MemoryUntil → List ℕ → Type 0
+IsAllowedShowingAnswer (Shown run) until text = IsAllowedShowingOfMemory until run.events.items text
+IsAllowedShowingAnswer Never until text = text ≡ codes "until never by the rules\n"
+IsAllowedShowingAnswer Undecided until text = text ≡ codes "until undecided by the rules\n"
 
 -- behind the text of what all schedules come to, with how many beginnings of runs were looked at
-abbrev pub IsAllowedShowingText : ExploredUntil → AllowedUntil → List ℕ → Type 0
-IsAllowedShowingText explored allowed text =
-    (front answer : List ℕ) × IsShowingText explored.showing explored.states front × IsAllowedShowingAnswer allowed.showing answer
+abbrev pub IsAllowedShowingText : ExploredUntil → AllowedUntil → MemoryUntil → List ℕ → Type 0
+IsAllowedShowingText explored allowed until text =
+    (front answer : List ℕ) × IsShowingText explored.showing explored.states front × IsAllowedShowingAnswer allowed.showing until answer
     × (text ≡ front ++ answer ++ allowed_text_beginnings allowed.beginnings)
 
 -- such a text was appended
-abbrev pub AllowedShowingWritten : Option (List ℕ) → Option (List ℕ) → ExploredUntil → AllowedUntil → Type 0
-AllowedShowingWritten old new explored allowed = (text : List ℕ) × IsAllowedShowingText explored allowed text × Appends old new text
+abbrev pub AllowedShowingWritten : Option (List ℕ) → Option (List ℕ) → ExploredUntil → AllowedUntil → MemoryUntil → Type 0
+AllowedShowingWritten old new explored allowed until = (text : List ℕ) × IsAllowedShowingText explored allowed until text × Appends old new text

@@ -4,6 +4,7 @@ use Rattle.std.specs.Fmt.{decimal}
 use Rattle.std.specs.Io.KnownBytes.{Appends}
 use Rattle.journal.specs.declared.event.Event.{Event}
 use Rattle.lrc_report.specs.ReportText.{report_event_text, report_events_text}
+use Rattle.conformance.specs.ScheduleTexts.{schedule_text}
 use Rattle.explore.specs.declared.explored.Explored.{Explored}
 use Rattle.explore.specs.declared.explored.Hang.{Hang}
 use Rattle.explore.specs.declared.explored.Hanging.{Hanging}
@@ -28,9 +29,19 @@ abbrev pub explore_text_racy : List Event → ℕ → List ℕ
 explore_text_racy events first =
     report_events_text 0 events ++ codes "race\n" ++ explore_text_event_at events first ++ explore_text_event_at events (length events - 1)
 
--- a schedule that hangs, and some lines on who waits
+-- the line of a schedule
+abbrev pub explore_text_schedule : List ℕ → List ℕ
+explore_text_schedule turns = codes "  schedule " ++ schedule_text turns ++ codes "\n"
+
+-- of some schedule
+abbrev pub IsExploreTextOfSchedule : List ℕ → Type 0
+IsExploreTextOfSchedule text = (turns : List ℕ) × (text ≡ explore_text_schedule turns)
+
+-- a schedule that hangs, some lines on who waits, and that of the schedule's turns
 abbrev pub IsExploreTextOfHangEvents : Hang → List ℕ → Type 0
-IsExploreTextOfHangEvents hang text = (waits : List ℕ) × (text ≡ codes "hangs\n" ++ report_events_text 0 hang.events.items ++ waits)
+IsExploreTextOfHangEvents hang text =
+    (waits schedule : List ℕ) × IsExploreTextOfSchedule schedule
+    × (text ≡ codes "hangs\n" ++ report_events_text 0 hang.events.items ++ waits ++ schedule)
 
 -- whether a schedule hangs
 abbrev pub IsExploreTextOfHang : Hanging → List ℕ → Type 0
@@ -63,11 +74,12 @@ IsExploreTextOfQuiet verdict explored text =
     × (text ≡ verdict ++ explore_text_outcomes (vec_len explored.outcomes) explored.are_all ++ outcomes ++ hangs
     ++ explore_text_states explored.states)
 
--- a script that races: the schedule that does, and one that hangs, if it was met
+-- a script that races: the schedule that does, with its turns, and one that hangs, if it was met
 abbrev pub IsExploreTextOfRacy : RacyEvents → Explored → List ℕ → Type 0
 IsExploreTextOfRacy racy explored text =
-    (hang : List ℕ) × IsExploreTextOfMetHang explored.hanging hang
-    × (text ≡ codes "verdict racy\n" ++ explore_text_racy racy.events.items racy.first ++ hang ++ explore_text_states explored.states)
+    (schedule hang : List ℕ) × IsExploreTextOfSchedule schedule × IsExploreTextOfMetHang explored.hanging hang
+    × (text ≡ codes "verdict racy\n" ++ explore_text_racy racy.events.items racy.first ++ schedule ++ hang
+    ++ explore_text_states explored.states)
 
 -- the text by its verdict
 abbrev pub IsExploreTextOfVerdict : Verdict → Explored → List ℕ → Type 0

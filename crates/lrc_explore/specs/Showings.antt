@@ -2,11 +2,11 @@
 use Rattle.std.specs.Prelude.{ℕ, ◌≡◌, List, ◌++◌, Option, codes}
 use Rattle.std.specs.Io.KnownBytes.{Appends}
 use Rattle.base.specs.InOrderOnce.{Has}
-use Rattle.conformance.specs.ScheduleTexts.{schedule_text}
+use Rattle.explore.specs.declared.explored.RacyEvents.{RacyEvents}
 use Rattle.explore.specs.declared.showing.ExploredUntil.{ExploredUntil}
 use Rattle.explore.specs.declared.showing.Showing.{Showing}
 use Rattle.explore.specs.declared.showing.Showing.TheVariants.{Shown, Never, Racy, Undecided}
-use Rattle.lrc_explore.specs.ExploreTexts.{explore_text_racy, explore_text_states}
+use Rattle.lrc_explore.specs.ExploreTexts.{IsExploreTextOfSchedule, explore_text_racy, explore_text_states}
 
 -- each of these words is at an address that is shown
 abbrev pub AreShowingWords : List ℕ → List (ℕ × ℕ) → Type 0
@@ -18,22 +18,23 @@ pub record IsShowingUnshown (shown : List ℕ) (words : List (ℕ × ℕ)) (addr
   pub asked : Has words (address, word)
   pub unshown : ¬ Has shown address
 
--- the line of a schedule
-abbrev pub showing_schedule_line : List ℕ → List ℕ
-showing_schedule_line turns = codes "  schedule " ++ schedule_text turns ++ codes "\n"
-
 -- a run that ends with the words: a line of what it shows, and one of a schedule
 abbrev pub IsShowingTextOfRun : ℕ → List ℕ → Type 0
 IsShowingTextOfRun states text =
-    (outcome turns : List ℕ)
-    × (text ≡ codes "until shown\n" ++ outcome ++ showing_schedule_line turns ++ explore_text_states states)
+    (outcome schedule : List ℕ) × IsExploreTextOfSchedule schedule
+    × (text ≡ codes "until shown\n" ++ outcome ++ schedule ++ explore_text_states states)
+
+-- a schedule that races, and its turns
+abbrev pub IsShowingTextOfRace : RacyEvents → ℕ → List ℕ → Type 0
+IsShowingTextOfRace racy states text =
+    (schedule : List ℕ) × IsExploreTextOfSchedule schedule
+    × (text ≡ codes "verdict racy\n" ++ explore_text_racy racy.events.items racy.first ++ schedule ++ explore_text_states states)
 
 -- the text by the answer, if so many states were found
 abbrev pub IsShowingText : Showing → ℕ → List ℕ → Type 0
 IsShowingText (Shown run) states text = IsShowingTextOfRun states text
 IsShowingText Never states text = text ≡ codes "until never\n" ++ explore_text_states states
-IsShowingText (Racy racy) states text =
-    text ≡ codes "verdict racy\n" ++ explore_text_racy racy.events.items racy.first ++ explore_text_states states
+IsShowingText (Racy racy) states text = IsShowingTextOfRace racy states text
 IsShowingText Undecided states text = text ≡ codes "until undecided\n" ++ explore_text_states states
 
 -- such a text was appended

@@ -4,8 +4,9 @@ ghost use Rattle.lrc_explore.specs.Prelude.{AllowedTextWritten, ExploreTextUnwri
 
 use crate::explored_text::{explored_text_of, write_explored_text};
 use crate::fault::ExploreFault;
+use crate::memory_shown::MemoryShown;
 use crate::numbers::put_number;
-use crate::outcomes::explored_outcome_lines;
+use crate::outcomes::run_outcome_lines;
 use explore::{AllowedOutcomes, Explored};
 use lrc_script::script::Script;
 use std::alloc::{AllocError, Global};
@@ -56,17 +57,18 @@ fn put_allowed_text(
     Ok(())
 }
 
-/// The text of what was found of a racy script that shows these addresses, with what the rules allow.
+/// The text of what was found of a racy script, with what the rules allow.
 fn allowed_text(
     alloc: Global,
-    shown: &[usize],
+    script: &Script,
     explored: &Explored,
     allowed: &AllowedOutcomes,
+    shown: &MemoryShown,
 ) -> Result<Vec<u8>, AllocError>
     ensures { IfOk result (λ t. IsAllowedText explored.now allowed.now t.items) }
 {
-    let lines = explored_outcome_lines(alloc, shown, &allowed.outcomes)?;
-    let mut text = explored_text_of(alloc, shown, explored)?;
+    let lines = run_outcome_lines(alloc, script, &allowed.outcomes, shown)?;
+    let mut text = explored_text_of(alloc, script, explored)?;
     put_allowed_text(&mut text, allowed, &lines)?;
     Ok(text)
 }
@@ -76,12 +78,15 @@ fn allowed_text(
 ///
 /// ```text
 /// outcomes 2 by the rules
-///   words 0 1
-///   words 0 2
+///   words 0 1 by the rules alone
+///     event 9 0 load 0 1 answers event 0 0 store 0 1
+///   words 0 2 schedule 0:2,1:2
 /// beginnings 9
 /// ```
 ///
-/// A line of an outcome is as `render` has it. If the search was given up, `so far` stands behind the rules.
+/// A line of an outcome is as `render` has it, with a schedule if this memory shows it. If no schedule of `step` shows it, the run that the rules
+/// allow is told by the store that each of its loads answers. `schedule undecided` stands there if the search for one was given up. If that for
+/// outcomes was given up, `so far` stands behind the rules.
 ///
 /// # Errors
 ///
@@ -91,11 +96,12 @@ pub fn render_allowed_text<W: Write>(
     script: &Script,
     explored: &Explored,
     allowed: &AllowedOutcomes,
+    shown: &MemoryShown,
     out: &mut W,
 ) -> Result<(), ExploreFault>
     ensures written { OnOk result (AllowedTextWritten (W.contents out.old) (W.contents out.new) explored.now allowed.now) }
     ensures unwritten { IfErr result (ExploreTextUnwritten (W.contents out.old) (W.contents out.new)) }
 {
-    let text = allowed_text(alloc, &script.shown, explored, allowed)?;
+    let text = allowed_text(alloc, script, explored, allowed, shown)?;
     write_explored_text(&text, out)
 }

@@ -21,6 +21,18 @@ fn put_explored_event_line(
     text.extend_from_slice(line.bytes())
 }
 
+/// Adds the words of the event, as a journal has them at this place, without a line feed.
+pub fn put_explored_event_words(
+    text: &mut Vec<u8>,
+    place: usize,
+    event: &Event,
+) -> Result<(), AllocError> {
+    let mut line = ReportLine::new();
+    render_report_event(&mut line, place as u64, event);
+    let bytes = line.bytes();
+    text.extend_from_slice(&bytes[..bytes.len().saturating_sub(1)])
+}
+
 /// Adds a line for each event, in order.
 pub fn put_explored_events(text: &mut Vec<u8>, events: &[Event]) -> Result<(), AllocError>
     ensures { OnOk result (text.new.items ≡ text.old.items ++ report_events_text 0 events.now) }

@@ -10,7 +10,8 @@ use crate::explored_events::{put_explored_event_at, put_explored_events};
 use crate::fault::ExploreFault;
 use crate::hanging::hanging_waits_text;
 use crate::numbers::put_number;
-use crate::outcomes::explored_outcome_lines;
+use crate::outcomes::shown_outcome_lines;
+use crate::schedule_lines::schedule_line_of_events;
 use explore::{Explored, Hang, Hanging, RacyEvents, Verdict};
 use journal::Event;
 use lrc_script::script::Script;
@@ -25,43 +26,62 @@ pub fn put_explored_text_states(text: &mut Vec<u8>, states: usize) -> Result<(),
     text.extend_from_slice(b"\n")
 }
 
-/// Adds a schedule that hangs, and these lines on who waits for what.
-fn put_explored_text_hang(text: &mut Vec<u8>, hang: &Hang, waits: &[u8]) -> Result<(), AllocError>
+/// Adds a schedule that hangs, these lines on who waits for what, and that of its turns.
+fn put_explored_text_hang(
+    text: &mut Vec<u8>,
+    hang: &Hang,
+    waits: &[u8],
+    schedule: &[u8],
+) -> Result<(), AllocError>
     ensures { OnOk result (text.new.items
-        ≡ text.old.items ++ (codes "hangs\n" ++ report_events_text 0 hang.now.events.items ++ waits.now)) }
+        ≡ text.old.items ++ (codes "hangs\n" ++ report_events_text 0 hang.now.events.items ++ waits.now ++ schedule.now)) }
 {
     text.extend_from_slice(b"hangs\n")?;
     put_explored_events(text, &hang.events)?;
-    text.extend_from_slice(waits)
+    text.extend_from_slice(waits)?;
+    text.extend_from_slice(schedule)
 }
 
-/// A schedule that hangs: its events, and who waits for what.
-fn explored_text_of_hang_events(alloc: Global, hang: &Hang) -> Result<Vec<u8>, AllocError>
+/// A schedule that hangs: its events, who waits for what, and its turns.
+fn explored_text_of_hang_events(
+    alloc: Global,
+    script: &Script,
+    hang: &Hang,
+) -> Result<Vec<u8>, AllocError>
     ensures { IfOk result (λ t. IsExploreTextOfHangEvents hang.now t.items) }
 {
     let waits = hanging_waits_text(alloc, hang)?;
+    let line = schedule_line_of_events(alloc, script, &hang.events)?;
     let mut text = Vec::new(alloc);
-    put_explored_text_hang(&mut text, hang, &waits)?;
+    put_explored_text_hang(&mut text, hang, &waits, line.as_bytes())?;
     Ok(text)
 }
 
 /// Whether a schedule hangs, and how.
-fn explored_text_of_hang(alloc: Global, hanging: &Hanging) -> Result<Vec<u8>, AllocError>
+fn explored_text_of_hang(
+    alloc: Global,
+    script: &Script,
+    hanging: &Hanging,
+) -> Result<Vec<u8>, AllocError>
     ensures { IfOk result (λ t. IsExploreTextOfHang hanging.now t.items) }
 {
     match hanging {
         Hanging::Never => Vec::from_slice(alloc, b"hangs never\n"),
-        Hanging::Hangs(hang) => explored_text_of_hang_events(alloc, hang),
+        Hanging::Hangs(hang) => explored_text_of_hang_events(alloc, script, hang),
         Hanging::Undecided => Vec::from_slice(alloc, b"hangs undecided\n"),
     }
 }
 
 /// A schedule that hangs, if one was met.
-fn explored_text_of_met_hang(alloc: Global, hanging: &Hanging) -> Result<Vec<u8>, AllocError>
+fn explored_text_of_met_hang(
+    alloc: Global,
+    script: &Script,
+    hanging: &Hanging,
+) -> Result<Vec<u8>, AllocError>
     ensures { IfOk result (λ t. IsExploreTextOfMetHang hanging.now t.items) }
 {
     match hanging {
-        Hanging::Hangs(hang) => explored_text_of_hang_events(alloc, hang),
+        Hanging::Hangs(hang) => explored_text_of_hang_events(alloc, script, hang),
         _ => Ok(Vec::new(alloc)),
     }
 }
@@ -86,7 +106,7 @@ fn put_explored_text_count(
 }
 
 /// Adds the events of a schedule that races, and the lines of the two that race: the one at this place and the last one.
-pub fn put_explored_text_race(
+fn put_explored_text_race(
     text: &mut Vec<u8>,
     events: &[Event],
     first: usize,
@@ -100,18 +120,21 @@ pub fn put_explored_text_race(
     put_explored_event_at(text, events, last)
 }
 
-/// Adds the text of a script that races, of which there are these lines on a hang that was met.
-fn put_explored_text_racy(
+/// Adds the text of a script that races, by this line of a schedule, and of which there are these lines on a hang that was met.
+/// The only error is running out of memory.
+pub fn put_explored_text_racy(
     text: &mut Vec<u8>,
     racy: &RacyEvents,
+    schedule: &[u8],
     hang: &[u8],
     states: usize,
 ) -> Result<(), AllocError>
     ensures { OnOk result (text.new.items ≡ text.old.items ++ (codes "verdict racy\n"
-        ++ explore_text_racy racy.now.events.items racy.now.first ++ hang.now ++ explore_text_states states)) }
+        ++ explore_text_racy racy.now.events.items racy.now.first ++ schedule.now ++ hang.now ++ explore_text_states states)) }
 {
     text.extend_from_slice(b"verdict racy\n")?;
     put_explored_text_race(text, &racy.events, racy.first)?;
+    text.extend_from_slice(schedule)?;
     text.extend_from_slice(hang)?;
     put_explored_text_states(text, states)?;
     Ok(())
@@ -142,13 +165,13 @@ fn put_explored_text_quiet(
 fn explored_text_of_quiet(
     alloc: Global,
     verdict: &[u8],
-    shown: &[usize],
+    script: &Script,
     explored: &Explored,
 ) -> Result<Vec<u8>, AllocError>
     ensures { IfOk result (λ t. IsExploreTextOfQuiet verdict.now explored.now t.items) }
 {
-    let outcomes = explored_outcome_lines(alloc, shown, &explored.outcomes)?;
-    let hangs = explored_text_of_hang(alloc, &explored.hanging)?;
+    let outcomes = shown_outcome_lines(alloc, script, &explored.outcomes)?;
+    let hangs = explored_text_of_hang(alloc, script, &explored.hanging)?;
     let mut text = Vec::new(alloc);
     put_explored_text_quiet(&mut text, verdict, explored, &outcomes, &hangs)?;
     Ok(text)
@@ -157,21 +180,23 @@ fn explored_text_of_quiet(
 /// The text of a script that races.
 fn explored_text_of_racy(
     alloc: Global,
+    script: &Script,
     racy: &RacyEvents,
     explored: &Explored,
 ) -> Result<Vec<u8>, AllocError>
     ensures { IfOk result (λ t. IsExploreTextOfRacy racy.now explored.now t.items) }
 {
-    let hang = explored_text_of_met_hang(alloc, &explored.hanging)?;
+    let line = schedule_line_of_events(alloc, script, &racy.events)?;
+    let hang = explored_text_of_met_hang(alloc, script, &explored.hanging)?;
     let mut text = Vec::new(alloc);
-    put_explored_text_racy(&mut text, racy, &hang, explored.states)?;
+    put_explored_text_racy(&mut text, racy, line.as_bytes(), &hang, explored.states)?;
     Ok(text)
 }
 
-/// The text of what was found of a script that shows these addresses. The only error is running out of memory.
+/// The text of what was found of the script. The only error is running out of memory.
 pub fn explored_text_of(
     alloc: Global,
-    shown: &[usize],
+    script: &Script,
     explored: &Explored,
 ) -> Result<Vec<u8>, AllocError>
     ensures { IfOk result (λ t. IsExploreText explored.now t.items) }
@@ -180,14 +205,14 @@ pub fn explored_text_of(
         Verdict::RaceFree => explored_text_of_quiet(
             alloc,
             b"verdict race-free under every schedule\n",
-            shown,
+            script,
             explored,
         ),
-        Verdict::Racy(racy) => explored_text_of_racy(alloc, racy, explored),
+        Verdict::Racy(racy) => explored_text_of_racy(alloc, script, racy, explored),
         Verdict::Undecided => explored_text_of_quiet(
             alloc,
             b"verdict undecided\n",
-            shown,
+            script,
             explored,
         ),
     }
@@ -213,18 +238,19 @@ pub fn write_explored_text<W: Write>(text: &[u8], out: &mut W) -> Result<(), Exp
 /// ```text
 /// verdict race-free under every schedule
 /// outcomes 2
-///   words 0 2 replies p0 0 p1 1
-///   words 0 2 replies p0 1 p1 0
+///   words 0 2 replies p0 0 p1 1 schedule 0:4,1:4,0
+///   words 0 2 replies p0 1 p1 0 schedule 1:4,0:4,1
 /// hangs never
-/// states 214
+/// states 5
 /// ```
 ///
-/// An outcome's line has each shown address with its word at the end, and for each processor that loads what its own
-/// loads answered, in order. The lines stand in rising order of the replies: of processor 0 first, those that show the
-/// words among them, as its last ones. If some schedule can't go on, behind `hangs` come its events, and a line for
-/// each processor that waits. Of a script that races come the events of a schedule whose last one races, then `race` and
-/// the lines of the two, and then a schedule that hangs, if one was met. Of a search that was given up there is what it
-/// has found: `verdict undecided`, `outcomes N so far`, `hangs undecided`, or what is known in place of each.
+/// An outcome's line has each shown address with its word at the end, and for each processor that loads what its own loads
+/// answered, in order; and a schedule by which `step` shows it. The lines stand in rising order of the replies: of
+/// processor 0 first, those that show the words among them, as its last ones. If some schedule can't go on, behind `hangs`
+/// come its events, a line for each processor that waits, and one of its turns. Of a script that races come the events of a
+/// schedule whose last one races, then `race`, the lines of the two and that of the turns, and then a schedule that hangs,
+/// if one was met. Of a search that was given up there is what it has found: `verdict undecided`, `outcomes N so far`,
+/// `hangs undecided`, or what is known in place of each.
 ///
 /// It takes time and memory in the order of the text, beside sorting the outcomes.
 ///
@@ -240,6 +266,6 @@ pub fn render<W: Write>(
     ensures written { OnOk result (ExploreTextWritten (W.contents out.old) (W.contents out.new) explored.now) }
     ensures unwritten { IfErr result (ExploreTextUnwritten (W.contents out.old) (W.contents out.new)) }
 {
-    let text = explored_text_of(alloc, &script.shown, explored)?;
+    let text = explored_text_of(alloc, script, explored)?;
     write_explored_text(&text, out)
 }

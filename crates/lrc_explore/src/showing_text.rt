@@ -1,28 +1,16 @@
 //! Writes whether a run of a script ends with words that were asked for.
-ghost use Rattle.std.specs.Prelude.{◌≡◌, ◌++◌, IfErr, IfOk, OnOk, codes, string_bytes};
-ghost use Rattle.conformance.specs.Prelude.{schedule_text};
-ghost use Rattle.lrc_explore.specs.Prelude.{ExploreTextUnwritten, ShowingWritten, explore_text_racy, explore_text_states};
-ghost use Rattle.lrc_explore.specs.Prelude.{IsShowingText, IsShowingTextOfRun, showing_schedule_line};
+ghost use Rattle.std.specs.Prelude.{◌≡◌, ◌++◌, IfErr, IfOk, OnOk, codes};
+ghost use Rattle.lrc_explore.specs.Prelude.{ExploreTextUnwritten, ShowingWritten, explore_text_states};
+ghost use Rattle.lrc_explore.specs.Prelude.{IsShowingText, IsShowingTextOfRace, IsShowingTextOfRun};
 
-use crate::explored_text::{put_explored_text_race, put_explored_text_states, write_explored_text};
+use crate::explored_text::{put_explored_text_racy, put_explored_text_states, write_explored_text};
 use crate::fault::ExploreFault;
 use crate::outcomes::explored_outcome_line;
-use crate::schedule_turns::schedule_by_turns;
-use conformance::Schedule;
+use crate::schedule_lines::schedule_line_of_events;
 use explore::{ExploredUntil, RacyEvents, Showing, ShownRun};
 use lrc_script::script::Script;
 use std::alloc::{AllocError, Global};
 use std::io::Write;
-
-/// The line of a schedule.
-fn showing_text_schedule_line(alloc: Global, schedule: &Schedule) -> Result<String, AllocError>
-    ensures { IfOk result (λ line. string_bytes line ≡ showing_schedule_line schedule.now.turns.items) }
-{
-    let mut line = String::from_str(alloc, "  schedule ")?;
-    schedule.put(&mut line)?;
-    line.push_str("\n")?;
-    Ok(line)
-}
 
 /// Adds that a run was found, the line of what it shows, that of its schedule, and how many states were found.
 fn put_showing_text_of_run(
@@ -51,8 +39,7 @@ fn showing_text_of_run(
     ensures { IfOk result (λ t. IsShowingTextOfRun states t.items) }
 {
     let outcome = explored_outcome_line(alloc, &script.shown, &run.outcome)?;
-    let schedule = schedule_by_turns(alloc, script, &run.events)?;
-    let line = showing_text_schedule_line(alloc, &schedule)?;
+    let line = schedule_line_of_events(alloc, script, &run.events)?;
     let mut text = Vec::new(alloc);
     put_showing_text_of_run(&mut text, &outcome, line.as_bytes(), states)?;
     Ok(text)
@@ -61,15 +48,15 @@ fn showing_text_of_run(
 /// The text of a script that races.
 fn showing_text_of_race(
     alloc: Global,
+    script: &Script,
     racy: &RacyEvents,
     states: usize,
 ) -> Result<Vec<u8>, AllocError>
-    ensures { IfOk result (λ t. t.items ≡ codes "verdict racy\n"
-        ++ explore_text_racy racy.now.events.items racy.now.first ++ explore_text_states states) }
+    ensures { IfOk result (λ t. IsShowingTextOfRace racy.now states t.items) }
 {
-    let mut text = Vec::from_slice(alloc, b"verdict racy\n")?;
-    put_explored_text_race(&mut text, &racy.events, racy.first)?;
-    put_explored_text_states(&mut text, states)?;
+    let line = schedule_line_of_events(alloc, script, &racy.events)?;
+    let mut text = Vec::new(alloc);
+    put_explored_text_racy(&mut text, racy, line.as_bytes(), &[], states)?;
     Ok(text)
 }
 
@@ -94,7 +81,7 @@ pub fn showing_text_of(
     match &explored.showing {
         Showing::Shown(run) => showing_text_of_run(alloc, script, run, states),
         Showing::Never => showing_text_of_line(alloc, b"until never\n", states),
-        Showing::Racy(racy) => showing_text_of_race(alloc, racy, states),
+        Showing::Racy(racy) => showing_text_of_race(alloc, script, racy, states),
         Showing::Undecided => showing_text_of_line(alloc, b"until undecided\n", states),
     }
 }
@@ -110,8 +97,8 @@ pub fn showing_text_of(
 /// ```
 ///
 /// The line of what the run shows is as `render` has it. By the schedule `step` shows the same. If no run ends with the words,
-/// the first line is `until never`, and `until undecided` if the search was given up. Of a script that races come the events
-/// and the two lines that `render` has of it.
+/// the first line is `until never`, and `until undecided` if the search was given up. Of a script that races come the lines that
+/// `render` has of it.
 ///
 /// # Errors
 ///

@@ -3,26 +3,38 @@ ghost use Rattle.std.specs.Prelude.{◌≡◌, ℕ, List, OnOk, Err};
 ghost use Rattle.std.specs.Io.KnownBytes.{Appends};
 ghost use Rattle.lrc_json.specs.declared.fault.JsonFault.TheVariants.{NoMemory};
 
+use crate::allowed::put_alone_json;
 use crate::events::events_json;
-use crate::explored::put_explored_result_json;
+use crate::explored::{put_explored_result_json, put_schedule_json};
 use crate::fault::JsonFault;
 use crate::members::Members;
 use crate::output::{put_json_output_line, write_json_output};
 use crate::showing::{put_showing_json, showing_summary_json};
 use explore::{AllowedShowing, AllowedUntil, ExploredUntil, ShownRun};
+use lrc_explore::MemoryUntil;
 use lrc_script::script::Script;
 use std::alloc::{AllocError, Global};
 use std::io::Write;
 
-/// A run that the rules allow, and that ends with the words: what it shows, and its events.
+/// A run that the rules allow, and that ends with the words: what it shows, and its events; or an outcome that this memory shows, with its
+/// schedule.
 fn allowed_showing_run_json(
     alloc: Global,
     script: &Script,
     run: &ShownRun,
+    until: &MemoryUntil<'_>,
 ) -> Result<Members, AllocError> {
     let mut members = Members::telling(alloc, "allowed")?;
+    if let MemoryUntil::Shown(outcome, schedule) = until {
+        put_explored_result_json(&mut members, alloc, &script.shown, &outcome.replies)?;
+        put_schedule_json(&mut members, alloc, *schedule)?;
+        return Ok(members);
+    }
     put_explored_result_json(&mut members, alloc, &script.shown, &run.outcome.replies)?;
     members.put("events", events_json(alloc, &run.events)?)?;
+    if let MemoryUntil::Never = until {
+        put_alone_json(&mut members, alloc, script, &run.events)?;
+    }
     Ok(members)
 }
 
@@ -48,9 +60,11 @@ fn put_allowed_showing_json(
     alloc: Global,
     script: &Script,
     allowed: &AllowedUntil,
+    until: &MemoryUntil<'_>,
 ) -> Result<(), AllocError> {
     if let AllowedShowing::Shown(run) = &allowed.showing {
-        put_json_output_line(text, alloc, allowed_showing_run_json(alloc, script, run)?)?;
+        let members = allowed_showing_run_json(alloc, script, run, until)?;
+        put_json_output_line(text, alloc, members)?;
     }
     put_json_output_line(text, alloc, allowed_showing_rules_json(alloc, allowed)?)
 }
@@ -61,10 +75,11 @@ fn allowed_showing_lines_json(
     script: &Script,
     explored: &ExploredUntil,
     allowed: &AllowedUntil,
+    until: &MemoryUntil<'_>,
 ) -> Result<String, AllocError> {
     let mut text = String::new(alloc);
     put_showing_json(&mut text, alloc, script, explored)?;
-    put_allowed_showing_json(&mut text, alloc, script, allowed)?;
+    put_allowed_showing_json(&mut text, alloc, script, allowed, until)?;
     put_json_output_line(&mut text, alloc, showing_summary_json(alloc, explored)?)?;
     Ok(text)
 }
@@ -80,11 +95,12 @@ pub fn write_allowed_showing_json<W: Write>(
     script: &Script,
     explored: &ExploredUntil,
     allowed: &AllowedUntil,
+    until: &MemoryUntil<'_>,
     out: &mut W,
 ) -> Result<(), JsonFault>
     ensures written { OnOk result ((text : List ℕ) × Appends (W.contents out.old) (W.contents out.new) text) }
     ensures unwritten { result ≡ Err NoMemory → W.contents out.new ≡ W.contents out.old }
 {
-    let text = allowed_showing_lines_json(alloc, script, explored, allowed)?;
+    let text = allowed_showing_lines_json(alloc, script, explored, allowed, until)?;
     write_json_output(&text, out)
 }

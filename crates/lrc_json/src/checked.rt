@@ -9,51 +9,47 @@ use crate::members::{Members, member_of_numbers};
 use crate::output::{put_json_output_line, write_json_output};
 use causes::RaceApart;
 use journal::Traffic;
-use judge::locksets::Unprotected;
-use judge::{IllFormed, MemoryModel, Miscounted};
-use lrc_check::traces::trace::LabelledTrace;
+use judge::locksets::{Guarded, PairedAccess, Unprotected};
+use judge::{FlatStore, IllFormed, MemoryModel, Miscounted};
 use lrc_check::{
-    AnswersTold, JudgedTrace, Lie, Rules, TraceVerdict, Unexplained, verdict_reason_text,
-    verdict_text_answers,
+    AnswersTold, JudgedTrace, Lie, Rules, ToldEvents, TraceVerdict, Unexplained,
+    verdict_reason_text, verdict_text_answers,
 };
 use serde_json::Value;
 use std::alloc::{AllocError, Global};
 use std::io::Write;
 
-/// The event of the trace at this place, with its label; null where there is none.
+/// The event of the trace at this place, with its label; null where none is known.
 fn checked_place_json(
     alloc: Global,
-    trace: &LabelledTrace,
+    told: ToldEvents<'_>,
     place: usize,
 ) -> Result<Value, AllocError> {
-    match trace.trace.events.get(place) {
-        Some(event) => event_json(alloc, place, *event, trace.labels.of(place)),
+    match told.event(place) {
+        Some(event) => event_json(alloc, place, event, told.label(place)),
         None => Ok(Value::Null),
     }
 }
 
-/// The events of the trace at these places.
-fn checked_places_json(
+/// The events of these stores.
+fn checked_stores_json(
     alloc: Global,
-    trace: &LabelledTrace,
-    places: &[usize],
+    told: ToldEvents<'_>,
+    stores: &[FlatStore],
 ) -> Result<Value, AllocError> {
     let mut values = Vec::new(alloc);
-    for place in places {
-        values.push(checked_place_json(alloc, trace, *place)?)?;
+    for store in stores {
+        values.push(checked_place_json(alloc, told, store.place as usize)?)?;
     }
     Ok(Value::Array(values))
 }
 
-/// The race, and what keeps its accesses apart.
-fn checked_race_json(
+/// Adds what keeps the accesses of a race apart.
+fn put_checked_apart_json(
+    members: &mut Members,
     alloc: Global,
-    trace: &LabelledTrace,
     apart: &RaceApart,
-) -> Result<Members, AllocError> {
-    let mut members = Members::telling(alloc, "race")?;
-    members.put("first", checked_place_json(alloc, trace, apart.first)?)?;
-    members.put("second", checked_place_json(alloc, trace, apart.second)?)?;
+) -> Result<(), AllocError> {
     if let Some(heard) = apart.heard {
         members.put_number("heard", heard)?;
     }
@@ -61,19 +57,34 @@ fn checked_race_json(
     members.put(
         "second_locks",
         member_of_numbers(alloc, &apart.second_locks)?,
-    )?;
+    )
+}
+
+/// The race by the places of its accesses, and what keeps them apart, if that is known.
+fn checked_race_json(
+    alloc: Global,
+    told: ToldEvents<'_>,
+    race: (usize, usize),
+    apart: &Option<RaceApart>,
+) -> Result<Members, AllocError> {
+    let mut members = Members::telling(alloc, "race")?;
+    members.put("first", checked_place_json(alloc, told, race.0)?)?;
+    members.put("second", checked_place_json(alloc, told, race.1)?)?;
+    if let Some(apart) = apart {
+        put_checked_apart_json(&mut members, alloc, apart)?;
+    }
     Ok(members)
 }
 
 /// A lie at this place, for a reason of this name.
 fn checked_lie_at_json(
     alloc: Global,
-    trace: &LabelledTrace,
+    told: ToldEvents<'_>,
     place: usize,
     reason: &str,
 ) -> Result<Members, AllocError> {
     let mut members = Members::telling(alloc, "lie")?;
-    members.put("event", checked_place_json(alloc, trace, place)?)?;
+    members.put("event", checked_place_json(alloc, told, place)?)?;
     members.put_text("reason", reason)?;
     Ok(members)
 }
@@ -81,11 +92,11 @@ fn checked_lie_at_json(
 /// An event that may not follow.
 fn checked_ill_formed_json(
     alloc: Global,
-    trace: &LabelledTrace,
+    told: ToldEvents<'_>,
     fault: IllFormed,
 ) -> Result<Members, AllocError> {
     let because = verdict_reason_text(alloc, fault.why)?;
-    let mut members = checked_lie_at_json(alloc, trace, fault.place, "form")?;
+    let mut members = checked_lie_at_json(alloc, told, fault.place, "form")?;
     members.put_text("because", &because)?;
     Ok(members)
 }
@@ -93,27 +104,23 @@ fn checked_ill_formed_json(
 /// A load that answers what it may not.
 fn checked_unexplained_json(
     alloc: Global,
-    trace: &LabelledTrace,
+    told: ToldEvents<'_>,
     load: &Unexplained,
 ) -> Result<Members, AllocError> {
-    let AnswersTold { zero, stores } = verdict_text_answers(
-        alloc,
-        &trace.trace.events,
-        &load.permitted,
-    )?;
-    let mut members = checked_lie_at_json(alloc, trace, load.place, "answer")?;
+    let AnswersTold { zero, stores } = verdict_text_answers(alloc, &load.permitted)?;
+    let mut members = checked_lie_at_json(alloc, told, load.place, "answer")?;
     members.put_flag("zero", zero)?;
-    members.put("stores", checked_places_json(alloc, trace, &stores)?)?;
+    members.put("stores", checked_stores_json(alloc, told, &stores)?)?;
     Ok(members)
 }
 
 /// A fetch that counts what it should not.
 fn checked_miscount_json(
     alloc: Global,
-    trace: &LabelledTrace,
+    told: ToldEvents<'_>,
     fetch: Miscounted,
 ) -> Result<Members, AllocError> {
-    let mut members = checked_lie_at_json(alloc, trace, fetch.place, "count")?;
+    let mut members = checked_lie_at_json(alloc, told, fetch.place, "count")?;
     members.put("writers", Value::from(fetch.writers))?;
     members.put("records", Value::from(fetch.records))?;
     members.put("words", Value::from(fetch.words))?;
@@ -121,15 +128,11 @@ fn checked_miscount_json(
 }
 
 /// The lie, and why it is one.
-fn checked_lie_json(
-    alloc: Global,
-    trace: &LabelledTrace,
-    lie: &Lie,
-) -> Result<Members, AllocError> {
+fn checked_lie_json(alloc: Global, told: ToldEvents<'_>, lie: &Lie) -> Result<Members, AllocError> {
     match lie {
-        Lie::IllFormed(fault) => checked_ill_formed_json(alloc, trace, *fault),
-        Lie::Unexplained(load) => checked_unexplained_json(alloc, trace, load),
-        Lie::Miscounted(fetch) => checked_miscount_json(alloc, trace, *fetch),
+        Lie::IllFormed(fault) => checked_ill_formed_json(alloc, told, *fault),
+        Lie::Unexplained(load) => checked_unexplained_json(alloc, told, load),
+        Lie::Miscounted(fetch) => checked_miscount_json(alloc, told, *fetch),
     }
 }
 
@@ -188,50 +191,76 @@ fn checked_summary_json(
     members.put_number("events", judged.found.count)?;
     members.put_text("model", checked_model_json(rules.model))?;
     members.put_flag("lax", rules.lax)?;
-    members.put_flag("racy", judged.race.is_some())?;
+    members.put_flag("racy", judged.found.race.is_some())?;
     put_checked_verdict_json(&mut members, alloc, &judged.found.verdict)?;
     Ok(members)
 }
 
-/// The word at this address of which somebody forgot the lock.
+/// The access of the trace: as its event, or if that isn't at hand any more by its place and its processor alone.
+fn checked_access_json(
+    alloc: Global,
+    told: ToldEvents<'_>,
+    access: PairedAccess,
+) -> Result<Value, AllocError> {
+    let PairedAccess { place, processor } = access;
+    if let Some(event) = told.event(place) {
+        return event_json(alloc, place, event, told.label(place));
+    }
+    let mut members = Members::new(alloc);
+    members.put_number("place", place)?;
+    members.put_number("processor", processor)?;
+    Ok(members.into_value())
+}
+
+/// Adds which accesses of a word hold a lock in common, and which one.
+fn put_checked_guarded_json(
+    members: &mut Members,
+    alloc: Global,
+    told: ToldEvents<'_>,
+    guarded: Guarded,
+) -> Result<(), AllocError> {
+    let Guarded { accesses, lock } = guarded;
+    let mut values = Vec::new(alloc);
+    values.push(checked_access_json(alloc, told, accesses.0)?)?;
+    values.push(checked_access_json(alloc, told, accesses.1)?)?;
+    members.put("guarded", Value::Array(values))?;
+    members.put_number("lock", lock)
+}
+
+/// The word that needs a lock and has none: at times, or never, and then it is handed over.
 fn checked_unprotected_json(
     alloc: Global,
-    trace: &LabelledTrace,
-    address: usize,
+    told: ToldEvents<'_>,
     word: Unprotected,
 ) -> Result<Members, AllocError> {
     let Unprotected {
+        address,
         unguarded,
         guarded,
-        lock,
     } = word;
-    let mut members = Members::telling(alloc, "unprotected")?;
+    let name = match guarded {
+        Some(_) => "unprotected",
+        None => "handed",
+    };
+    let mut members = Members::telling(alloc, name)?;
     members.put_number("address", address)?;
-    members.put("first", checked_place_json(alloc, trace, unguarded.0)?)?;
-    members.put("second", checked_place_json(alloc, trace, unguarded.1)?)?;
-    members.put(
-        "guarded",
-        checked_places_json(alloc, trace, &[guarded.0, guarded.1])?,
-    )?;
-    members.put_number("lock", lock)?;
+    members.put("first", checked_access_json(alloc, told, unguarded.0)?)?;
+    members.put("second", checked_access_json(alloc, told, unguarded.1)?)?;
+    if let Some(guarded) = guarded {
+        put_checked_guarded_json(&mut members, alloc, told, guarded)?;
+    }
     Ok(members)
 }
 
-/// Adds a line for each word of which somebody forgot the lock.
+/// Adds a line for each of these words.
 fn put_checked_unprotected_json(
     text: &mut String,
     alloc: Global,
-    trace: &LabelledTrace,
-    words: &[Option<Unprotected>],
+    told: ToldEvents<'_>,
+    words: &[Unprotected],
 ) -> Result<(), AllocError> {
-    for (address, word) in words.iter().enumerate() {
-        if let Some(word) = word {
-            put_json_output_line(
-                text,
-                alloc,
-                checked_unprotected_json(alloc, trace, address, *word)?,
-            )?;
-        }
+    for word in words {
+        put_json_output_line(text, alloc, checked_unprotected_json(alloc, told, *word)?)?;
     }
     Ok(())
 }
@@ -239,18 +268,22 @@ fn put_checked_unprotected_json(
 /// The lines of what was found.
 fn checked_lines_json(
     alloc: Global,
-    trace: &LabelledTrace,
+    told: ToldEvents<'_>,
     rules: Rules,
     judged: &JudgedTrace,
 ) -> Result<String, AllocError> {
     let mut text = String::new(alloc);
-    if let Some(race) = &judged.race {
-        put_json_output_line(&mut text, alloc, checked_race_json(alloc, trace, race)?)?;
+    if let Some(race) = judged.found.race {
+        put_json_output_line(
+            &mut text,
+            alloc,
+            checked_race_json(alloc, told, race, &judged.race)?,
+        )?;
     }
     if let TraceVerdict::Lie(lie) = &judged.found.verdict {
-        put_json_output_line(&mut text, alloc, checked_lie_json(alloc, trace, lie)?)?;
+        put_json_output_line(&mut text, alloc, checked_lie_json(alloc, told, lie)?)?;
     }
-    put_checked_unprotected_json(&mut text, alloc, trace, &judged.unprotected)?;
+    put_checked_unprotected_json(&mut text, alloc, told, &judged.unprotected)?;
     put_json_output_line(
         &mut text,
         alloc,
@@ -259,15 +292,16 @@ fn checked_lines_json(
     Ok(text)
 }
 
-/// Writes what was found of the trace, and flushes the writer: an object a line. First `race`, if there is one, then `lie`, if
-/// there is one, then `unprotected` for each word of which somebody forgot the lock, and at the end `end`.
+/// Writes what was found of a trace of which these events can be told, and flushes the writer: an object a line. First `race`,
+/// if there is one, then `lie`, if there is one, then `unprotected` for each word of which somebody forgot the lock, `handed` for each
+/// that never has one, and at the end `end`.
 ///
 /// # Errors
 ///
 /// NoMemory, after which nothing was written. After Output a beginning of the lines may be.
 pub fn write_checked_json<W: Write>(
     alloc: Global,
-    trace: &LabelledTrace,
+    told: ToldEvents<'_>,
     rules: Rules,
     judged: &JudgedTrace,
     out: &mut W,
@@ -275,6 +309,6 @@ pub fn write_checked_json<W: Write>(
     ensures written { OnOk result ((text : List ℕ) × Appends (W.contents out.old) (W.contents out.new) text) }
     ensures unwritten { result ≡ Err NoMemory → W.contents out.new ≡ W.contents out.old }
 {
-    let text = checked_lines_json(alloc, trace, rules, judged)?;
+    let text = checked_lines_json(alloc, told, rules, judged)?;
     write_json_output(&text, out)
 }

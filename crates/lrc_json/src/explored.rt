@@ -8,19 +8,40 @@ use crate::fault::JsonFault;
 use crate::members::Members;
 use crate::outcomes::{outcome_replies_json, outcome_word_json};
 use crate::output::{put_json_output_line, write_json_output};
-use explore::{Explored, Hang, Hanging, RacyEvents, Verdict};
+use conformance::Schedule;
+use explore::{Explored, Hang, Hanging, ProcessorNumber, RacyEvents, Verdict};
 use journal::Kind;
-use lrc_explore::{explored_outcome_parts, sorted_explored_outcomes};
+use lrc_explore::{
+    explored_outcome_parts, schedule_of_events, schedule_of_makers, sorted_shown_outcomes,
+};
+use lrc_script::script::Script;
 use serde_json::Value;
 use std::alloc::{AllocError, Global};
 use std::io::Write;
 
+/// Adds the turns of a schedule.
+pub fn put_schedule_json(
+    members: &mut Members,
+    alloc: Global,
+    schedule: &Schedule,
+) -> Result<(), AllocError> {
+    let mut text = String::new(alloc);
+    schedule.put(&mut text)?;
+    members.put("schedule", Value::String(text))
+}
+
 /// A schedule whose last event races with the one at a place.
-pub fn explored_race_json(alloc: Global, racy: &RacyEvents) -> Result<Members, AllocError> {
+pub fn explored_race_json(
+    alloc: Global,
+    script: &Script,
+    racy: &RacyEvents,
+) -> Result<Members, AllocError> {
+    let schedule = schedule_of_events(alloc, script, &racy.events)?;
     let mut members = Members::telling(alloc, "race")?;
     members.put("events", events_json(alloc, &racy.events)?)?;
     members.put_number("first", racy.first)?;
     members.put_number("second", racy.events.len().saturating_sub(1))?;
+    put_schedule_json(&mut members, alloc, &schedule)?;
     Ok(members)
 }
 
@@ -48,10 +69,12 @@ fn explored_waits_json(alloc: Global, hang: &Hang) -> Result<Value, AllocError> 
 }
 
 /// A schedule that hangs.
-fn explored_hang_json(alloc: Global, hang: &Hang) -> Result<Members, AllocError> {
+fn explored_hang_json(alloc: Global, script: &Script, hang: &Hang) -> Result<Members, AllocError> {
+    let schedule = schedule_of_events(alloc, script, &hang.events)?;
     let mut members = Members::telling(alloc, "hang")?;
     members.put("events", events_json(alloc, &hang.events)?)?;
     members.put("waits", explored_waits_json(alloc, hang)?)?;
+    put_schedule_json(&mut members, alloc, &schedule)?;
     Ok(members)
 }
 
@@ -95,14 +118,17 @@ pub fn put_explored_result_json(
     )
 }
 
-/// An outcome of runs that show these addresses.
+/// An outcome of the script, with a run that shows it.
 fn explored_outcome_json(
     alloc: Global,
-    shown: &[usize],
+    script: &Script,
     replies: &[Vec<u32>],
+    makers: &[ProcessorNumber],
 ) -> Result<Members, AllocError> {
+    let schedule = schedule_of_makers(alloc, script, makers)?;
     let mut members = Members::telling(alloc, "outcome")?;
-    put_explored_result_json(&mut members, alloc, shown, replies)?;
+    put_explored_result_json(&mut members, alloc, &script.shown, replies)?;
+    put_schedule_json(&mut members, alloc, &schedule)?;
     Ok(members)
 }
 
@@ -110,12 +136,13 @@ fn explored_outcome_json(
 fn put_explored_outcomes_json(
     text: &mut String,
     alloc: Global,
-    shown: &[usize],
+    script: &Script,
     explored: &Explored,
 ) -> Result<(), AllocError> {
-    let rows = sorted_explored_outcomes(alloc, &explored.outcomes)?;
-    for replies in &rows {
-        put_json_output_line(text, alloc, explored_outcome_json(alloc, shown, *replies)?)?;
+    let rows = sorted_shown_outcomes(alloc, &explored.outcomes)?;
+    for (replies, makers) in &rows {
+        let outcome = explored_outcome_json(alloc, script, *replies, *makers)?;
+        put_json_output_line(text, alloc, outcome)?;
     }
     Ok(())
 }
@@ -153,36 +180,38 @@ pub fn explored_summary_json(alloc: Global, explored: &Explored) -> Result<Membe
     Ok(members)
 }
 
-/// Adds the lines of what was found of a script that shows these addresses, but for the end. The only error is running out of memory.
+/// Adds the lines of what was found of the script, but for the end. The only error is running out of memory.
 pub fn put_explored_json(
     text: &mut String,
     alloc: Global,
-    shown: &[usize],
+    script: &Script,
     explored: &Explored,
 ) -> Result<(), AllocError> {
     match &explored.verdict {
-        Verdict::Racy(racy) => put_json_output_line(text, alloc, explored_race_json(alloc, racy)?)?,
-        _ => put_explored_outcomes_json(text, alloc, shown, explored)?,
+        Verdict::Racy(racy) => {
+            put_json_output_line(text, alloc, explored_race_json(alloc, script, racy)?)?;
+        }
+        _ => put_explored_outcomes_json(text, alloc, script, explored)?,
     }
     if let Hanging::Hangs(hang) = &explored.hanging {
-        put_json_output_line(text, alloc, explored_hang_json(alloc, hang)?)?;
+        put_json_output_line(text, alloc, explored_hang_json(alloc, script, hang)?)?;
     }
     Ok(())
 }
 
-/// The lines of what was found of a script that shows these addresses.
+/// The lines of what was found of the script.
 fn explored_lines_json(
     alloc: Global,
-    shown: &[usize],
+    script: &Script,
     explored: &Explored,
 ) -> Result<String, AllocError> {
     let mut text = String::new(alloc);
-    put_explored_json(&mut text, alloc, shown, explored)?;
+    put_explored_json(&mut text, alloc, script, explored)?;
     put_json_output_line(&mut text, alloc, explored_summary_json(alloc, explored)?)?;
     Ok(text)
 }
 
-/// Writes what was found of all schedules of a script that shows these addresses, and flushes the writer: an object a line.
+/// Writes what was found of all schedules of the script, and flushes the writer: an object a line.
 /// First `race`, or else `outcome` for each outcome, then `hang`, if a schedule hangs, and at the end `end`.
 ///
 /// # Errors
@@ -190,13 +219,13 @@ fn explored_lines_json(
 /// NoMemory, after which nothing was written. After Output a beginning of the lines may be.
 pub fn write_explored_json<W: Write>(
     alloc: Global,
-    shown: &[usize],
+    script: &Script,
     explored: &Explored,
     out: &mut W,
 ) -> Result<(), JsonFault>
     ensures written { OnOk result ((text : List ℕ) × Appends (W.contents out.old) (W.contents out.new) text) }
     ensures unwritten { result ≡ Err NoMemory → W.contents out.new ≡ W.contents out.old }
 {
-    let text = explored_lines_json(alloc, shown, explored)?;
+    let text = explored_lines_json(alloc, script, explored)?;
     write_json_output(&text, out)
 }

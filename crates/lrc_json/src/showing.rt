@@ -3,24 +3,22 @@ ghost use Rattle.std.specs.Prelude.{◌≡◌, ℕ, List, OnOk, Err};
 ghost use Rattle.std.specs.Io.KnownBytes.{Appends};
 ghost use Rattle.lrc_json.specs.declared.fault.JsonFault.TheVariants.{NoMemory};
 
-use crate::explored::{explored_race_json, put_explored_result_json};
+use crate::explored::{explored_race_json, put_explored_result_json, put_schedule_json};
 use crate::fault::JsonFault;
 use crate::members::Members;
 use crate::output::{put_json_output_line, write_json_output};
 use explore::{ExploredUntil, Showing, ShownRun};
-use lrc_explore::schedule_by_turns;
+use lrc_explore::schedule_of_events;
 use lrc_script::script::Script;
-use serde_json::Value;
 use std::alloc::{AllocError, Global};
 use std::io::Write;
 
 /// A run that ends with the words: what it shows, and a schedule by which the script comes to it.
 fn showing_run_json(alloc: Global, script: &Script, run: &ShownRun) -> Result<Members, AllocError> {
-    let mut text = String::new(alloc);
-    schedule_by_turns(alloc, script, &run.events)?.put(&mut text)?;
+    let schedule = schedule_of_events(alloc, script, &run.events)?;
     let mut members = Members::telling(alloc, "shown")?;
     put_explored_result_json(&mut members, alloc, &script.shown, &run.outcome.replies)?;
-    members.put("schedule", Value::String(text))?;
+    put_schedule_json(&mut members, alloc, &schedule)?;
     Ok(members)
 }
 
@@ -52,7 +50,9 @@ pub fn put_showing_json(
         Showing::Shown(run) => {
             put_json_output_line(text, alloc, showing_run_json(alloc, script, run)?)
         }
-        Showing::Racy(racy) => put_json_output_line(text, alloc, explored_race_json(alloc, racy)?),
+        Showing::Racy(racy) => {
+            put_json_output_line(text, alloc, explored_race_json(alloc, script, racy)?)
+        }
         _ => Ok(()),
     }
 }

@@ -20,9 +20,10 @@ use Rattle.lrc_options.specs.declared.options.Asked.{Asked}
 use Rattle.lrc_options.specs.declared.options.OutcomeDetail.{OutcomeDetail}
 use Rattle.lrc_options.specs.declared.options.OutcomeDetail.TheVariants.{Words}
 use Rattle.lrc_options.specs.declared.options.TraceModel.{TraceModel}
+use Rattle.lrc_options.specs.declared.options.TraceLocksets.{TraceLocksets}
 use Rattle.lrc_options.specs.declared.options.TraceModel.TheVariants.{RaceFree}
 use Rattle.lrc_options.specs.Clashes.{do_options_clash_together, clashing_option_source}
-use Rattle.lrc_options.specs.OptionRules.{option_rule_detail_given, option_rule_model_given, option_rule_named_detail, option_rule_named_model, IsCommandByOptionRules, IsNumberReadByOptionRule, IsNumberByOptionRule, IsSeedByOptionRule, IsFlagByOptionRule, AreOptionsRefusedByRules, IsOptionUnanswered, AreOptionParsers, OptionParsers, AreOptionsAskedByRules, AreOptionsGivenByRules, flagged_option_rules, lrc_option_rules, option_rule_number, option_rule_most_seed}
+use Rattle.lrc_options.specs.OptionRules.{option_rule_detail_given, option_rule_locksets_given, option_rule_model_given, option_rule_named_detail, option_rule_named_locksets, option_rule_named_model, IsCommandByOptionRules, IsNumberReadByOptionRule, IsNumberByOptionRule, IsSeedByOptionRule, IsFlagByOptionRule, AreOptionsRefusedByRules, IsOptionUnanswered, AreOptionParsers, OptionParsers, AreOptionsAskedByRules, AreOptionsGivenByRules, flagged_option_rules, lrc_option_rules, option_rule_number, option_rule_most_seed}
 
 -- a text that is a number is read as that
 matched_option_number_reads : {E : Type 0} (t : Text) (G : List ℕ → Result ℕ E → Type 0) (r : Option ℕ) → ReadsOne G t r
@@ -135,6 +136,15 @@ matched_option_detail_read f name d is same = same
 
 pub matched_option_no_detail : (f : Found) → None ≡ first_value f (codes "outcomes") → Words ≡ option_rule_detail_given (rows_of f)
 matched_option_no_detail f is = ap (λ o. option_map_or option_rule_named_detail o Words) (is ∙ first_value-rows f (codes "outcomes"))
+
+-- the words without a lock that a name gives
+pub matched_option_locksets_read : (f : Found) (name : Text) (d : TraceLocksets) → Some name ≡ first_value f (codes "locksets")
+    → d ≡ option_rule_named_locksets name → Some d ≡ option_rule_locksets_given (rows_of f)
+matched_option_locksets_read f name d is same = ap (λ x. Some x) same
+    ∙ ap (λ o. option_map option_rule_named_locksets o) (is ∙ first_value-rows f (codes "locksets"))
+
+pub matched_option_no_locksets : (f : Found) → None ≡ first_value f (codes "locksets") → None ≡ option_rule_locksets_given (rows_of f)
+matched_option_no_locksets f is = ap (λ o. option_map option_rule_named_locksets o) (is ∙ first_value-rows f (codes "locksets"))
 
 -- what holds of a value, where there is one, makes what follows from it hold
 pub matched_option_if_ok_map : {T E : Type 0} {P Q : T → Type 0} (r : Result T E) → ((x : T) → P x → Q x) → IfOk r P → IfOk r Q

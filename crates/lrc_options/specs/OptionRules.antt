@@ -28,6 +28,8 @@ use Rattle.lrc_options.specs.declared.options.SampleOptions.{SampleOptions}
 use Rattle.lrc_options.specs.declared.options.TellOptions.{TellOptions}
 use Rattle.lrc_options.specs.declared.options.OutcomeDetail.{OutcomeDetail}
 use Rattle.lrc_options.specs.declared.options.OutcomeDetail.TheVariants as outcome_detail
+use Rattle.lrc_options.specs.declared.options.TraceLocksets.{TraceLocksets}
+use Rattle.lrc_options.specs.declared.options.TraceLocksets.TheVariants as lockset_words
 use Rattle.lrc_options.specs.declared.options.TraceModel.{TraceModel}
 use Rattle.lrc_options.specs.declared.options.TraceModel.TheVariants.{HappensBefore, LazyRelease, RaceFree, Sequential}
 use Rattle.lrc_options.specs.declared.options.TraceOptions.{TraceOptions}
@@ -165,31 +167,32 @@ explore_option_rules details =
 abbrev pub race_is_error_option_rule : Rule
 race_is_error_option_rule = flag_option_rule (codes "race-is-error")
 
-abbrev pub locksets_option_rule : Rule
-locksets_option_rule = flag_option_rule (codes "locksets")
+abbrev pub locksets_option_rule : ValueParser → Rule
+locksets_option_rule words = record (option_rule (codes "locksets")) { parser = Some words }
 
-abbrev pub check_option_rules : ValueParser → App
-check_option_rules models = with_rule (with_rule (with_rule (judged_option_rules (file_option_rules (codes "check")) models) race_is_error_option_rule)
-    locksets_option_rule) json_option_rule
+abbrev pub check_option_rules : ValueParser → ValueParser → App
+check_option_rules models words = with_rule (with_rule (with_rule (judged_option_rules (file_option_rules (codes "check")) models) race_is_error_option_rule)
+    (locksets_option_rule words)) json_option_rule
 
 -- `lrc` without its commands: it wants one, and has a version
 abbrev pub bare_option_rules : App
 bare_option_rules = on_top (λ s. record s { subcommand_required = true; has_version = true }) (new_app (codes "lrc"))
 
--- what takes the names of locks, of models, and of what outcomes tell
+-- what takes the names of locks, of models, of words without a lock, and of what outcomes tell
 pub record OptionParsers : Type 0 where
   pub locks : ValueParser
   pub models : ValueParser
+  pub words : ValueParser
   pub details : ValueParser
 
-abbrev pub option_parsers : ValueParser → ValueParser → ValueParser → OptionParsers
-option_parsers locks models details = record { locks = locks; models = models; details = details }
+abbrev pub option_parsers : ValueParser → ValueParser → ValueParser → ValueParser → OptionParsers
+option_parsers locks models words details = record { locks = locks; models = models; words = words; details = details }
 
 -- `lrc` with all its commands
 abbrev pub lrc_option_rules : OptionParsers → App
 lrc_option_rules by = with_subcommand (with_subcommand (with_subcommand (with_subcommand (with_subcommand (with_subcommand bare_option_rules
     (run_option_rules by.locks).top) (step_option_rules by.locks).top) (explain_option_rules by.locks by.models).top) (sample_option_rules by.locks).top)
-    (explore_option_rules by.details).top) (check_option_rules by.models).top
+    (explore_option_rules by.details).top) (check_option_rules by.models by.words).top
 
 -- the parser takes these names and no others
 abbrev pub OptionTakesNames : List Text → ValueParser → Type 0
@@ -201,6 +204,7 @@ pub record AreOptionParsers (by : OptionParsers) : Type 0 where
   pub locks : OptionTakesNames (codes "array" ∷ codes "ticket" ∷ []) by.locks
   pub models :
       OptionTakesNames (codes "race-free" ∷ codes "happens-before" ∷ codes "lazy-release" ∷ codes "sequential" ∷ []) by.models
+  pub words : OptionTakesNames (codes "forgotten" ∷ codes "all" ∷ []) by.words
   pub details : OptionTakesNames (codes "words" ∷ codes "loads" ∷ codes "all" ∷ []) by.details
 
 -- the number that a text gives
@@ -256,6 +260,14 @@ option_rule_named_model name = cond (bytes_eq name (codes "happens-before")) Hap
 abbrev pub option_rule_model_given : List Row → TraceModel
 option_rule_model_given rows = option_map_or option_rule_named_model (first_of (codes "model") rows) RaceFree
 
+-- the words without a lock that this name gives
+abbrev pub option_rule_named_locksets : Text → TraceLocksets
+option_rule_named_locksets name = cond (bytes_eq name (codes "all")) lockset_words.All lockset_words.Forgotten
+
+-- those that are asked for, if any are
+abbrev pub option_rule_locksets_given : List Row → Option TraceLocksets
+option_rule_locksets_given rows = option_map option_rule_named_locksets (first_of (codes "locksets") rows)
+
 -- what is told by this name
 abbrev pub option_rule_named_detail : Text → OutcomeDetail
 option_rule_named_detail name = cond (bytes_eq name (codes "loads")) outcome_detail.Loads
@@ -271,7 +283,7 @@ pub record AreOptionsByRulesOfTrace (rows : List Row) (o : TraceOptions) : Type 
   pub model : o.model ≡ option_rule_model_given rows
   pub lax : IsFlagByOptionRule (one_of (codes "lax") rows) o.lax
   pub race_is_error : IsFlagByOptionRule (one_of (codes "race-is-error") rows) o.race_is_error
-  pub locksets : IsFlagByOptionRule (one_of (codes "locksets") rows) o.locksets
+  pub locksets : o.locksets ≡ option_rule_locksets_given rows
   pub json : IsFlagByOptionRule (one_of (codes "json") rows) o.json
 
 -- whether the ticket lock is asked for

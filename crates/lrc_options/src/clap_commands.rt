@@ -6,7 +6,7 @@ ghost use Rattle.clap.specs.declared.builder.value_parser.ValueParser.TheVariant
 ghost use Rattle.lrc_options.specs.OptionRules.{flag_option_rule, lock_option_rule, model_option_rule, most_option_rule, number_option_rule, option_parsers, option_rule, schedule_option_rule, seed_option_rule, seeds_option_rule};
 ghost use Rattle.lrc_options.specs.OptionRules.{IsCommandByOptionRules, bare_option_rules, check_option_rules, explain_option_rules, explore_option_rules, file_option_rules, outcomes_option_rule};
 ghost use Rattle.lrc_options.specs.OptionRules.{flagged_option_rules, lrc_option_rules, run_option_rules, sample_option_rules, script_option_rules, step_option_rules};
-ghost use Rattle.lrc_options.specs.OptionRules.{judged_option_rules, told_option_rules, tries_option_rule};
+ghost use Rattle.lrc_options.specs.OptionRules.{judged_option_rules, locksets_option_rule, told_option_rules, tries_option_rule};
 
 use crate::help::{
     ABOUT, AFTER, AFTER_RUN_AND_STEP, EVENTS, EXPLAIN, EXPLORE, HTML, JOURNAL, JSON, LAX, LOCKSETS,
@@ -29,6 +29,9 @@ pub(crate) static LOCKS: [&str; 2] = ["array", "ticket"];
 
 /// The models by which a trace may be judged, the one that is taken where none is given first.
 pub(crate) static MODELS: [&str; 4] = ["race-free", "happens-before", "lazy-release", "sequential"];
+
+/// Which words without a lock may be told.
+pub(crate) static LOCKSET_WORDS: [&str; 2] = ["forgotten", "all"];
 
 /// What an outcome may tell, what it tells where nothing is given first.
 pub(crate) static DETAILS: [&str; 3] = ["words", "loads", "all"];
@@ -126,6 +129,18 @@ fn clap_model_arg<'a>(alloc: Global, models: &'a [&'a str]) -> Arg<'a>
         .value_parser(models)
         .default_value("race-free")
         .help(MODEL)
+}
+
+/// `--locksets WHICH`.
+fn clap_locksets_arg<'a>(alloc: Global, words: &'a [&'a str]) -> Arg<'a>
+    ensures rule { rule_of result ≡ locksets_option_rule (vp.Names words.entry) }
+    ensures own { result.global ≡ false }
+{
+    Arg::new(alloc, "locksets")
+        .long("locksets")
+        .value_name("WHICH")
+        .value_parser(words)
+        .help(LOCKSETS)
 }
 
 /// `--outcomes WHAT`.
@@ -319,8 +334,12 @@ fn clap_explore_command<'a>(
 }
 
 /// `lrc check`.
-fn clap_check_command<'a>(alloc: Global, models: &'a [&'a str]) -> Result<Command<'a>, AllocError>
-    ensures { IfOk result (IsCommandByOptionRules (check_option_rules (vp.Names models.entry))) }
+fn clap_check_command<'a>(
+    alloc: Global,
+    models: &'a [&'a str],
+    words: &'a [&'a str],
+) -> Result<Command<'a>, AllocError>
+    ensures { IfOk result (IsCommandByOptionRules (check_option_rules (vp.Names models.entry) (vp.Names words.entry))) }
 {
     let about = "Judges a trace from any system: whether such a memory could have made it";
     let command = clap_file_command(alloc, "check", about, TRACE, TRACE_FILE);
@@ -329,7 +348,7 @@ fn clap_check_command<'a>(alloc: Global, models: &'a [&'a str]) -> Result<Comman
         command,
         clap_flag_arg(alloc, "race-is-error", RACE_IS_ERROR),
     );
-    let command = with_clap_arg(command, clap_flag_arg(alloc, "locksets", LOCKSETS));
+    let command = with_clap_arg(command, clap_locksets_arg(alloc, words));
     with_clap_arg(command, clap_flag_arg(alloc, "json", JSON))
 }
 
@@ -360,10 +379,12 @@ pub(crate) fn clap_lrc_command<'a>(
     alloc: Global,
     locks: &'a [&'a str],
     models: &'a [&'a str],
+    words: &'a [&'a str],
     details: &'a [&'a str],
     commands: Commands,
 ) -> Result<Command<'a>, AllocError>
-    ensures command { IfOk result (IsCommandByOptionRules (lrc_option_rules (option_parsers (vp.Names locks.entry) (vp.Names models.entry) (vp.Names details.entry)))) }
+    ensures command { IfOk result (IsCommandByOptionRules (lrc_option_rules (option_parsers (vp.Names locks.entry) (vp.Names models.entry)
+        (vp.Names words.entry) (vp.Names details.entry)))) }
     ensures wants { IfOk result (λ c. (out-Command c).subcommand_required ≡ true) }
 {
     let (shown, after) = match commands {
@@ -373,7 +394,7 @@ pub(crate) fn clap_lrc_command<'a>(
     let explain = clap_command_shown_if(shown, clap_explain_command(alloc, locks, models));
     let sample = clap_command_shown_if(shown, clap_sample_command(alloc, locks));
     let explore = clap_command_shown_if(shown, clap_explore_command(alloc, details));
-    let check = clap_command_shown_if(shown, clap_check_command(alloc, models));
+    let check = clap_command_shown_if(shown, clap_check_command(alloc, models, words));
     let lrc = Ok(clap_bare_command(alloc, after));
     let lrc = with_clap_subcommand(lrc, clap_run_command(alloc, locks));
     let lrc = with_clap_subcommand(lrc, clap_step_command(alloc, locks));

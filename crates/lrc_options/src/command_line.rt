@@ -7,17 +7,20 @@ ghost use Rattle.lrc_options.specs.OptionRules.{IsNumberReadByOptionRule, IsNumb
 ghost use Rattle.lrc_options.specs.declared.ranges.EventRange.{EventRange};
 ghost use Rattle.lrc_options.specs.OptionRules.{AreEventsByOptionRule, AreOptionsByRulesOfExplain, AreOptionsByRulesOfExplore, AreUntilWordsByOptionRule, AreProcessorsByOptionRule, AreOptionsByRulesOfSample};
 ghost use Rattle.lrc_options.specs.OptionRules.{AreOptionsByRulesOfShowing, AreOptionsByRulesOfTell, IsExplanationAskedByOptionRules, IsShowingUnreadByOptionRules};
-ghost use Rattle.lrc_options.specs.OptionRules.{AreOptionsByRulesOfTrace, option_rule_default_most, option_rule_detail_given, option_rule_model_given, option_rule_named_detail, option_rule_named_model, option_rule_ticket};
+ghost use Rattle.lrc_options.specs.OptionRules.{AreOptionsByRulesOfTrace, option_rule_default_most, option_rule_detail_given, option_rule_locksets_given, option_rule_model_given, option_rule_named_detail, option_rule_named_locksets, option_rule_named_model, option_rule_ticket};
 ghost use Rattle.lrc_options.specs.Clashes.{do_options_clash_together};
 ghost use Rattle.lrc_options.specs.OptionRules.{AreOptionsGivenByRules, AreOptionsRefusedByRules, IsOptionUnanswered, option_rule_most_tries, option_rule_most_seed, option_rule_default_tries, option_rule_default_seeds};
 
-use crate::clap_commands::{DETAILS, LOCKS, MODELS, MOST_SEED, MOST_TRIES, clap_lrc_command};
+use crate::clap_commands::{
+    DETAILS, LOCKS, LOCKSET_WORDS, MODELS, MOST_SEED, MOST_TRIES, clap_lrc_command,
+};
 use crate::clashes::{is_in_words, option_clash_of};
 use crate::final_words::final_words;
 use crate::misuse::{misuse_by_exclusion, misuse_by_unread_value, with_misuse_tip};
 use crate::options::{
     Asked, Commands, DEFAULT_MOST, DEFAULT_SEEDS, DEFAULT_TRIES, ExplainOptions, ExploreOptions,
-    Options, OutcomeDetail, SampleOptions, ShowOptions, TellOptions, TraceModel, TraceOptions,
+    Options, OutcomeDetail, SampleOptions, ShowOptions, TellOptions, TraceLocksets, TraceModel,
+    TraceOptions,
 };
 use crate::ranges::{ALL_EVENTS, EventRange, option_range_of_events, processors};
 use base::MOST_PROCESSORS;
@@ -174,13 +177,6 @@ fn command_line_ends_at_race(matches: &ArgMatches<'_>) -> bool
     matches.get_flag("race-is-error")
 }
 
-/// Whether the words are to be told of which somebody forgot the lock.
-fn command_line_wants_locksets(matches: &ArgMatches<'_>) -> bool
-    ensures { IsFlagByOptionRule (one_of (codes "locksets") (rows_of (found_of matches.now))) result }
-{
-    matches.get_flag("locksets")
-}
-
 /// Whether the answer is to be JSON.
 fn command_line_wants_json(matches: &ArgMatches<'_>) -> bool
     ensures { IsFlagByOptionRule (one_of (codes "json") (rows_of (found_of matches.now))) result }
@@ -210,6 +206,27 @@ fn command_line_model(matches: &ArgMatches<'_>) -> TraceModel
     match matches.get_str("model") {
         Some(name) => command_line_model_named(name),
         None => TraceModel::RaceFree,
+    }
+}
+
+/// The words without a lock that this name gives; those of which somebody forgot it, if none has the name.
+fn command_line_locksets_named(name: &str) -> TraceLocksets
+    ensures { result ≡ option_rule_named_locksets name.now }
+{
+    if name == "all" {
+        TraceLocksets::All
+    } else {
+        TraceLocksets::Forgotten
+    }
+}
+
+/// The words without a lock that are to be told, if any are.
+fn command_line_locksets(matches: &ArgMatches<'_>) -> Option<TraceLocksets>
+    ensures { result ≡ option_rule_locksets_given (rows_of (found_of matches.now)) }
+{
+    match matches.get_str("locksets") {
+        Some(name) => Some(command_line_locksets_named(name)),
+        None => None,
     }
 }
 
@@ -358,7 +375,7 @@ fn command_line_trace_options(
         model: command_line_model(matches),
         lax: command_line_is_lax(matches),
         race_is_error: command_line_ends_at_race(matches),
-        locksets: command_line_wants_locksets(matches),
+        locksets: command_line_locksets(matches),
         json: command_line_wants_json(matches),
     })
 }
@@ -454,7 +471,7 @@ fn command_line_answer(alloc: Global, name: &str, matches: &ArgMatches<'_>) -> R
 /// `lrc explain [FILE] [--seed N | --schedule S] [--lock KIND] [--svg | --html] [--state] [--events A..B] [--processors P,..]`,
 /// `lrc explain [FILE] --trace [--model NAME] [--lax]` with the same to say what is shown,
 /// `lrc sample [FILE] [--seeds N] [--lock KIND] [--json]`, `lrc explore [FILE] [--most N] [--until A=V,..] [--outcomes WHAT] [--json]` or
-/// `lrc check [FILE] [--model NAME] [--lax] [--race-is-error] [--locksets] [--json]`.
+/// `lrc check [FILE] [--model NAME] [--lax] [--race-is-error] [--locksets WHICH] [--json]`.
 /// Help names the commands that the program has; the words of the others are read all the same.
 ///
 /// # Errors
@@ -470,6 +487,7 @@ pub fn options<'a>(alloc: Global, words: &'a [String], commands: Commands) -> Re
         alloc,
         LOCKS.as_slice(),
         MODELS.as_slice(),
+        LOCKSET_WORDS.as_slice(),
         DETAILS.as_slice(),
         commands,
     )?

@@ -96,16 +96,21 @@ none of them races, each run of the script is one of them. What is printed:
   verdict race-free under every schedule
                            or `verdict undecided`: the search was given up, and none that it met races
     outcomes N             whole runs have N results, a line each; with `so far`, there may be others
-      words A V .. replies pP V ..
+      words A V .. replies pP V .. schedule S
                              address A has V in the end; with --outcomes loads, the instructions `load` of processor
-                             P answered V .., in order; with --outcomes all, what its `add` loaded is among them
-    hangs never            or `hangs`, then the events of a schedule that can't go on, and who waits for what;
+                             P answered V .., in order; with --outcomes all, what its `add` loaded is among them;
+                             `lrc step --schedule S` shows it
+    hangs never            or `hangs`, then the events of a schedule that can't go on, who waits for what, and
+                           `schedule S`, by which `lrc step` comes there;
                            or `hangs undecided`: the search was given up, and none that it met hangs
-  verdict racy             then the events of a schedule that races, its two accesses behind `race`, and a
-                           schedule that can't go on, if one was met
+  verdict racy             then the events of a schedule that races, its two accesses behind `race`, `schedule S`,
+                           by which `lrc step` makes them, and a schedule that can't go on, if one was met
   states N                 N states were found
 Of a racy script, behind that, what the memory's rules allow: each load answers a latest store of its past.
   outcomes N by the rules  N results, a line each, as above; with `so far`, there may be others
+    words .. schedule S    `lrc step --schedule S` shows it; or `schedule undecided`: the search for one was given up
+    words .. by the rules alone
+                           no schedule shows it; then each load of a run by the rules, with the store it answers
   beginnings N             N beginnings of runs were looked at for that
 With --until, in place of the verdict race-free and what stands below it:
   until shown              a run ends with these words; then what it shows, as above, and
@@ -113,7 +118,9 @@ With --until, in place of the verdict race-free and what stands below it:
   until never              no run ends with them, and none races
   until undecided          the search was given up, and no run that it met ends with them
 and of a racy script, in place of the results by the rules:
-  until by the rules       they allow a run that ends with these words; then what it shows, and its events
+  until shown              a run of this memory ends with these words, as above
+  until by the rules alone they allow one, and no schedule shows any; then what it shows, its events and answers
+  until by the rules       they allow one; then what it shows, and its events: the search for a schedule was given up
   until never by the rules
                            they allow none; or `until undecided by the rules`: that search was given up
 
@@ -140,6 +147,7 @@ What is printed:
     verdict race-free       or `racy`, and then the two events of the first race, and what would have ordered them
     unprotected A: ..       with --locksets: two accesses of word A that hold no lock in common, and two that
                             do; flags, the barrier and their processors' own order keep none of these apart
+    handed over A: ..       with --locksets all: two such accesses that hold none in common, where no two do
     traffic M R W           M messages; R records with W words in all, as its fetches tell
   unfaithful I            no such memory makes event I after those before it, which are faithful; behind the
                           race, if it has one by then:
@@ -197,7 +205,7 @@ pub(crate) const MODEL: &str = "what the loads of the trace owe";
 pub(crate) const RACE_IS_ERROR: &str = "ends with the first race, and with status 8";
 
 pub(crate) const LOCKSETS: &str =
-    "tells the words whose lock was forgotten somewhere, of a faithful trace without a race";
+    "tells the words whose lock was forgotten somewhere, or those that never have one, too; of a trace without a race";
 
 pub(crate) const JSON: &str = "prints JSON in place of text: an object a line";
 

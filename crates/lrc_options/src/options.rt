@@ -122,10 +122,19 @@ pub struct TraceOptions {
     pub lax: bool,
     /// Whether judging ends with a race, and the exit status tells it.
     pub race_is_error: bool,
-    /// Whether the words are told of which somebody forgot the lock.
-    pub locksets: bool,
+    /// Which words are told that need a lock and have none; None if nothing is told of locks.
+    pub locksets: Option<TraceLocksets>,
     /// Whether the answer is JSON, an object a line, and not text.
     pub json: bool,
+}
+
+/// Which words of a trace are told that need a lock and have none.
+#[derive(Clone, Copy, Debug, PartialEq, Eq)]
+pub enum TraceLocksets {
+    /// Those that have one at times: somebody forgot it.
+    Forgotten,
+    /// These, and those that never have one: they are handed over.
+    All,
 }
 
 /// The model of memory by which a trace is judged.

@@ -5,13 +5,16 @@
 //!
 //! **What is only tested** here: that the words of judge's specs mean what they are to mean, by histories worked by
 //! hand; and that histories of 2^20 events are judged in a test's time, by all that `lrc check` asks of them (`big`); which
-//! events are within sizes, and what a cut journal's history has in front (`within`).
+//! traces of more processors than a cluster has are judged (`many`); which events are within sizes, and what a cut journal's
+//! history has in front (`within`).
 
 #[cfg(test)]
 mod big;
 mod callers;
 #[cfg(test)]
 mod counts;
+#[cfg(test)]
+mod many;
 #[cfg(test)]
 mod tests;
 #[cfg(test)]

@@ -1,12 +1,13 @@
 -- A search by the rules, beginning by beginning: what is seen is there once, and what the rules allow isn't lost.
 use Rattle.std.proofs.Common.{ℕ, zero, suc, ◌≡◌, ◌≢◌, ◌+◌, ◌<◌, ◌⊎◌, inl, inr, false, ◌==◌, List, [], ◌∷◌, ◌++◌, Option, Some, length, map, slice_get, refl, sym, ap, subst, ◌∙◌, append_assoc, append-nil, length-append, arith}
 use Rattle.std.specs.Prelude.{None, slice_index_or}
+use Rattle.std.specs.Global.{Vec}
 use Rattle.std.proofs.lemmas.Bool.{eq-eqb, eqb-true, false≢true}
 use Rattle.std.proofs.lemmas.List.{map-append}
 use Rattle.std.proofs.lemmas.Option.{none-some, same_Some, slice_get_within}
 use Rattle.base.specs.InOrderOnce.{Has, InOrder, IsOnce}
 use Rattle.base.proofs.JoinedLists.{joined_list_has-append, joined_list_has-cons, joined_list_has-nil, joined_list_has-map, joined_list_in_order-append, joined_list_in_order-nil, joined_list_in_order_single}
-use Rattle.base.proofs.SlicesAndCounts.{slice_get-append_left, slice_get-last}
+use Rattle.base.proofs.SlicesAndCounts.{slice_get-append_left, slice_get-last, slice_push_cases}
 use Rattle.journal.specs.declared.event.Event.{Event}
 use Rattle.journal.specs.declared.event.Kind.{Kind}
 use Rattle.lrc_script.specs.Lawful.{IsLawful}
@@ -16,11 +17,12 @@ use Rattle.explore.specs.declared.allowed.AllowedOutcomes.{AllowedOutcomes}
 use Rattle.explore.specs.declared.allowed_beginning.AllowedBeginning.{AllowedBeginning}
 use Rattle.explore.specs.declared.allowed_search.AllowedSearch.{AllowedSearch}
 use Rattle.explore.specs.declared.outcome_telling.Detail.{Detail}
+use Rattle.explore.specs.declared.showing.ShownRun.{ShownRun}
 use Rattle.explore.specs.declared.outcome_telling.OutcomeTelling.{OutcomeTelling}
-use Rattle.explore.specs.AllowedRuns.{AreAllowedRunOutcomes, HasAllowedRunBeginnings, IsAllowedRunBeginning, IsAllowedRunOutcome, IsAllowedRun}
+use Rattle.explore.specs.AllowedRuns.{IsAllowedRunShowing, shown_run_outcome, AreAllowedRunOutcomes, HasAllowedRunBeginnings, IsAllowedRunBeginning, IsAllowedRunOutcome, IsAllowedRun}
 use Rattle.explore.specs.AllowedBeginnings.{AreAllowedBeginningCallsFollowed, AreAllowedBeginningCalls, AreAllowedBeginningCallsPlain, IsAllowedBeginningChoice, IsAllowedBeginningEventChosen, AllowedBeginningMayCall, TellsAllowedBeginning, allowed_beginning_events}
 use Rattle.explore.specs.AllowedRoom.{allowed_room_at_most}
-use Rattle.explore.specs.AllowedSearch.{AreAllowedSearchListsApart, AllowedSearchCanShow, IsAllowedSearchFollowed, IsAllowedSearchFront, IsAllowedSearchStep, IsAllowedSearched, IsNotLostByAllowedSearch, allowed_search_found}
+use Rattle.explore.specs.AllowedSearch.{AreAllowedSearchListsApart, AreAllowedSearchRuns, IsNotedInAllowedSearch, AllowedSearchCanShow, IsAllowedSearchFollowed, IsAllowedSearchFront, IsAllowedSearchStep, IsAllowedSearched, IsNotLostByAllowedSearch, allowed_search_found}
 use Rattle.explore.specs.Explored.{explored_outcome}
 use Rattle.explore.specs.OutcomeTelling.{AreOutcomeTellingReplies, outcome_telling_of_script, outcome_telling_replies, outcome_telling_steps}
 use Rattle.explore.specs.FlatSearch.{IsAmongFlatSearched}
@@ -192,8 +194,8 @@ module _ (seen rest : List (List Event)) (g : List Event) (events : List Event) 
 
 -- before the first event
 pub rules_search_start : (s : Plan) (detail : Detail) (b : AllowedBeginning) (x : AllowedSearch) → x.pending.items ≡ b ∷ [] → x.outcomes.keys ≡ []
-    → TellsAllowedBeginning s b → allowed_beginning_events b ≡ [] → IsAllowedSearched s detail 0 x
-rules_search_start s detail b x is none known empty = record {
+    → x.runs.items ≡ [] → TellsAllowedBeginning s b → allowed_beginning_events b ≡ [] → IsAllowedSearched s detail 0 x
+rules_search_start s detail b x is none no_run known empty = record {
   seen = [];
   many = refl;
   seen_each = λ g has. absurd (joined_list_has-nil g has);
@@ -206,7 +208,10 @@ rules_search_start s detail b x is none known empty = record {
     | inl own ↦ subst (TellsAllowedBeginning s) own known
     | inr nothing ↦ absurd (joined_list_has-nil other nothing)
   ];
-  each = λ replies has. absurd (joined_list_has-nil replies (subst (λ ks. Has (map explored_outcome ks) replies) none has));
+  runs =
+      subst (λ ks. AreAllowedSearchRuns s detail (map explored_outcome ks) x.runs.items) (sym none)
+      (subst (AreAllowedSearchRuns s detail []) (sym no_run)
+      (record { long = refl; each = λ i replies run at_outcome. absurd (none-some replies at_outcome) }));
   once = subst (λ ks. IsOnce (map explored_outcome ks)) (sym none) (joined_list_in_order-nil (λ (c d : List (List ℕ)). c ≢ d));
   none_lost = λ replies outcome. inr (
     b,
@@ -222,8 +227,8 @@ rules_search_start s detail b x is none known empty = record {
 -- one more beginning is looked at
 pub rules_search_next : (s : Plan) (detail : Detail) (n : ℕ) (b : AllowedBeginning) (rest : List AllowedBeginning) (x y z : AllowedSearch)
     → IsAllowedSearched s detail n x → x.pending.items ≡ rest ++ b ∷ [] → y.pending.items ≡ rest → y.outcomes ≡ x.outcomes
-    → IsAllowedSearchStep s detail (allowed_beginning_events b) y z → IsAllowedSearched s detail (n + 1) z
-rules_search_next s detail n b rest x y z old was now same looked = record {
+    → y.runs.items ≡ x.runs.items → IsAllowedSearchStep s detail (allowed_beginning_events b) y z → IsAllowedSearched s detail (n + 1) z
+rules_search_next s detail n b rest x y z old was now same same_runs looked = record {
   seen = old.seen ++ (allowed_beginning_events b) ∷ [];
   many = (let one = length-append old.seen ((allowed_beginning_events b) ∷ []) in let count = old.many in omega (arith, one, count));
   seen_each = λ h has. elim ((joined_list_has-append old.seen ((allowed_beginning_events b) ∷ []) h).0 has) [
@@ -240,10 +245,9 @@ rules_search_next s detail n b rest x y z old was now same looked = record {
     | inl before ↦ old.known other (subst (λ (bs : List AllowedBeginning). Has bs other) (sym was) ((joined_list_has-append rest (b ∷ []) other).1 (inl before)))
     | inr more ↦ looked.lengthened.known other more
   ];
-  each = λ replies has. elim (looked.each replies has) [
-    | inl before ↦ old.each replies (found_before replies before)
-    | inr own ↦ (allowed_beginning_events b, own.0, own.1)
-  ];
+  runs = looked.runs
+      (subst (AreAllowedSearchRuns s detail (allowed_search_found y)) (sym same_runs)
+      (subst (λ o. AreAllowedSearchRuns s detail (map explored_outcome o.keys) x.runs.items) (sym same) old.runs));
   once = looked.once (subst (λ ks. IsOnce (map explored_outcome ks)) (sym (ap (λ o. o.keys) same)) old.once);
   none_lost = λ replies outcome. elim (old.none_lost replies outcome) [
     | inl found ↦ inl (looked.keeps replies (found_after replies found))
@@ -263,9 +267,6 @@ rules_search_next s detail n b rest x y z old was now same looked = record {
     opened =
         ap (λ (bs : List AllowedBeginning). map allowed_beginning_events bs) behind ∙ map-append allowed_beginning_events rest looked.lengthened.more
         ∙ ap (λ (es : List (List Event)). map allowed_beginning_events rest ++ es) looked.lengthened.are
-
-    found_before : (replies : List (List ℕ)) → Has (allowed_search_found y) replies → Has (allowed_search_found x) replies
-    found_before replies has = subst (λ o. Has (map explored_outcome o.keys) replies) same has
 
     found_after : (replies : List (List ℕ)) → Has (allowed_search_found x) replies → Has (allowed_search_found y) replies
     found_after replies has = subst (λ o. Has (map explored_outcome o.keys) replies) (sym same) has
@@ -298,14 +299,16 @@ rules_search_next s detail n b rest x y z old was now same looked = record {
 
 -- the same of a search that has the same
 pub rules_search_same : (s : Plan) (detail : Detail) (n : ℕ) (x y : AllowedSearch) → y.pending.items ≡ x.pending.items → y.outcomes ≡ x.outcomes
-    → IsAllowedSearched s detail n x → IsAllowedSearched s detail n y
-rules_search_same s detail n x y pending outcomes old = record {
+    → y.runs.items ≡ x.runs.items → IsAllowedSearched s detail n x → IsAllowedSearched s detail n y
+rules_search_same s detail n x y pending outcomes runs old = record {
   seen = old.seen;
   many = old.many;
   seen_each = old.seen_each;
   apart = subst (λ (bs : List AllowedBeginning). AreAllowedSearchListsApart old.seen (map allowed_beginning_events bs)) (sym pending) old.apart;
   known = λ b has. old.known b (subst (λ (bs : List AllowedBeginning). Has bs b) pending has);
-  each = λ r has. old.each r (subst (λ o. Has (map explored_outcome o.keys) r) outcomes has);
+  runs =
+      subst (λ o. AreAllowedSearchRuns s detail (map explored_outcome o.keys) y.runs.items) (sym outcomes)
+      (subst (AreAllowedSearchRuns s detail (allowed_search_found x)) (sym runs) old.runs);
   once = subst (λ o. IsOnce (map explored_outcome o.keys)) (sym outcomes) old.once;
   none_lost = λ r outcome. elim (old.none_lost r outcome) [
     | inl found ↦ inl (subst (λ o. Has (map explored_outcome o.keys) r) (sym outcomes) found)
@@ -380,11 +383,42 @@ rules_search_whole_shows s detail g replies r lawful follows are shows = go show
         absurd (rules_search_whole_ends s g e lawful follows
         (next_allowed_of_front s (g ++ e ∷ []) w (subst (IsAllowedRunBeginning s) (sym (append_assoc g (e ∷ []) w)) run.beginning)))
 
+-- with one run more, or none
+rules_search_runs_next : (s : Plan) (detail : Detail) (old new : List (List (List ℕ))) (before after : List (Vec Event)) (replies : List (List ℕ))
+    (g : List Event) → IsAllowedRunShowing s detail g replies → IsNotedInAllowedSearch old new before after replies g
+    → AreAllowedSearchRuns s detail old before → AreAllowedSearchRuns s detail new after
+rules_search_runs_next s detail old new before after replies g own (inl was) of =
+    subst (λ os. AreAllowedSearchRuns s detail os after) (sym was.1) (subst (AreAllowedSearchRuns s detail old) (sym was.2) of)
+rules_search_runs_next s detail old new before after replies g own (inr pushed) of =
+    subst (λ os. AreAllowedSearchRuns s detail os after) (sym pushed.3)
+    (subst (AreAllowedSearchRuns s detail (old ++ replies ∷ [])) (sym pushed.4) (record {
+      long = (
+          let long = of.long in
+          let outcomes = length-append old (replies ∷ []) in
+          let runs = length-append before (pushed.0 ∷ []) in
+          omega arith);
+      each = λ i r run at_outcome at_run. (let long = of.long in
+          elim (slice_push_cases old replies i r at_outcome) [
+            | inl earlier ↦ elim (slice_push_cases before pushed.0 i run at_run) [
+              | inl there ↦ of.each i r run earlier.1 there.1
+              | inr now ↦ absurd (let lt = earlier.0 in let is = now.0 in omega arith)
+            ]
+            | inr last ↦ elim (slice_push_cases before pushed.0 i run at_run) [
+              | inl there ↦ absurd (let lt = there.0 in let is = last.0 in omega arith)
+              | inr now ↦
+                  subst (λ (v : Vec Event). IsAllowedRunShowing s detail v.items r) now.1
+                  (subst (λ h. IsAllowedRunShowing s detail h r) (sym pushed.1)
+                  (subst (IsAllowedRunShowing s detail g) last.1 own))
+            ]
+          ]);
+    }))
+
 -- a whole beginning shows what it shows, and nothing comes next
 pub rules_search_looked_at_whole : (s : Plan) (detail : Detail) (b : AllowedBeginning) (replies : List (List ℕ)) (x y : AllowedSearch) → IsLawful s → TellsAllowedBeginning s b
     → Follows s (allowed_beginning_events b) → AreOutcomeTellingReplies s (outcome_telling_of_script s detail) (allowed_beginning_events b) replies → y.pending ≡ x.pending
-    → IsAmongFlatSearched (allowed_search_found x) (allowed_search_found y) replies → IsAllowedSearchStep s detail (allowed_beginning_events b) x y
-rules_search_looked_at_whole s detail b replies x y lawful tells follows are pending among = record {
+    → IsNotedInAllowedSearch (allowed_search_found x) (allowed_search_found y) x.runs.items y.runs.items replies (allowed_beginning_events b)
+    → IsAllowedSearchStep s detail (allowed_beginning_events b) x y
+rules_search_looked_at_whole s detail b replies x y lawful tells follows are pending noted = record {
   events = [];
   events_once = joined_list_in_order-nil (λ (c d : Event). c ≢ d);
   lengthened = record {
@@ -410,6 +444,8 @@ rules_search_looked_at_whole s detail b replies x y lawful tells follows are pen
       ]
     ]
   ];
+  runs = rules_search_runs_next s detail (allowed_search_found x) (allowed_search_found y) x.runs.items y.runs.items replies (allowed_beginning_events b)
+      (record { run = record { beginning = tells.beginning; follows = follows }; told = are }) noted;
   once = λ once. elim among [
     | inl was ↦ subst IsOnce (sym was.1) once
     | inr new ↦ subst IsOnce (sym new.1)
@@ -423,6 +459,9 @@ rules_search_looked_at_whole s detail b replies x y lawful tells follows are pen
   none_lost = λ r shows. inl (subst (Has (allowed_search_found y)) (rules_search_whole_shows s detail (allowed_beginning_events b) replies r lawful follows are shows) found);
 }
   where
+    among : IsAmongFlatSearched (allowed_search_found x) (allowed_search_found y) replies
+    among = elim noted [ inl was ↦ inl (was.0, was.1) | inr pushed ↦ inr (pushed.2, pushed.3) ]
+
     found : Has (allowed_search_found y) replies
     found = elim among [
       | inl was ↦ subst (λ rs. Has rs replies) (sym was.1) was.0
@@ -438,6 +477,9 @@ rules_search_looked_onward s detail g x y unfinished on = record {
   lengthened = on.lengthened;
   keeps = λ r has. subst (λ o. Has (map explored_outcome o.keys) r) (sym on.outcomes) has;
   each = λ r has. inl (subst (λ o. Has (map explored_outcome o.keys) r) on.outcomes has);
+  runs = λ old.
+      subst (λ o. AreAllowedSearchRuns s detail (map explored_outcome o.keys) y.runs.items) (sym on.outcomes)
+      (subst (AreAllowedSearchRuns s detail (allowed_search_found x)) (sym on.runs) old);
   once = λ once. subst (λ o. IsOnce (map explored_outcome o.keys)) (sym on.outcomes) once;
   none_lost = λ r shows. inr (on.none_lost r unfinished shows);
 }
@@ -464,12 +506,13 @@ rules_search_choice_may s g nexts chosen calls plain choice p call at =
 -- and what a run shows is shown after one of them
 pub rules_search_followed : (s : Plan) (detail : Detail) (g : List Event) (nexts chosen : List (Option Kind)) (x y : AllowedSearch) → IsLawful s
     → AreAllowedBeginningCalls s g nexts → AreAllowedBeginningCallsPlain nexts → IsAllowedBeginningChoice nexts chosen → y.outcomes ≡ x.outcomes
-    → AreAllowedBeginningCallsFollowed s g chosen x.pending.items y.pending.items → IsAllowedSearchFollowed s detail g x y
-rules_search_followed s detail g nexts chosen x y lawful calls plain choice outcomes followed = record {
+    → y.runs.items ≡ x.runs.items → AreAllowedBeginningCallsFollowed s g chosen x.pending.items y.pending.items → IsAllowedSearchFollowed s detail g x y
+rules_search_followed s detail g nexts chosen x y lawful calls plain choice outcomes runs followed = record {
   events = followed.events;
   events_once = followed.chosen.once;
   lengthened = followed.lengthened;
   outcomes = outcomes;
+  runs = runs;
   none_lost = λ r unfinished shows.
       let one = after choice r unfinished shows in
       (one.0, (followed.chosen.each one.0).1 one.1, one.2);
@@ -485,11 +528,12 @@ rules_search_followed s detail g nexts chosen x y lawful calls plain choice outc
 -- what the search answers
 pub rules_search_answered : (s : Plan) (detail : Detail) (most n : ℕ) (x : AllowedSearch) (answer : AllowedOutcomes) → IsAllowedSearched s detail n x
     → (n ≡ allowed_room_at_most s most) ⊎ (x.pending.items ≡ []) → answer.beginnings ≡ n
-    → map explored_outcome answer.outcomes.items ≡ allowed_search_found x → answer.are_all ≡ (length x.pending.items == 0)
-    → AreAllowedRunOutcomes s detail most answer
-rules_search_answered s detail most n x answer searched end count outcomes all = record {
+    → map shown_run_outcome answer.outcomes.items ≡ allowed_search_found x
+    → ((r : ShownRun) → Has answer.outcomes.items r → IsAllowedRunShowing s detail r.events.items (shown_run_outcome r))
+    → answer.are_all ≡ (length x.pending.items == 0) → AreAllowedRunOutcomes s detail most answer
+rules_search_answered s detail most n x answer searched end count outcomes runs all = record {
   looked_at = subst (HasAllowedRunBeginnings s) (sym count) (rules_search_seen_many s detail n x searched);
-  each = λ r has. searched.each r (subst (λ os. Has os r) outcomes has);
+  each = runs;
   once = subst IsOnce (sym outcomes) searched.once;
   all = λ yes r outcome.
       subst (λ os. Has os r) (sym outcomes)

@@ -43,33 +43,38 @@ lockset_calls_departures kinds = count_by event_departs kinds
 abbrev pub lockset_calls_hold : ℕ → List Kind → Bool
 lockset_calls_hold l kinds = fold (text_guard_held_after l) false kinds
 
-lockset_calls_one_departure : (k : Kind) (p : ℕ) → event_count event_departs (event p k ∷ []) p ≡ lockset_calls_departures (k ∷ [])
-lockset_calls_one_departure k p = let own = eq-eqb p p refl in rw own refl
+lockset_calls_one_counted : (is : Kind → Bool) (k : Kind) (p : ℕ) → event_count is (event p k ∷ []) p ≡ count_by is (k ∷ [])
+lockset_calls_one_counted is k p = let own = eq-eqb p p refl in rw own refl
 
-pub lockset_calls_departed : (s : Plan) (g : List Event) → IsFlatBeginning s g → (p : ℕ)
-    → event_count event_departs g p ≡ lockset_calls_departures (calls_of g p)
-lockset_calls_departed s = lockset_calls_induction s (λ g. (p : ℕ) → event_count event_departs g p ≡ lockset_calls_departures (calls_of g p)) (λ p. refl)
+-- so many of a processor's events are such ones as of its calls
+pub lockset_calls_counted : (is : Kind → Bool) (s : Plan) (g : List Event) → IsFlatBeginning s g → (p : ℕ)
+    → event_count is g p ≡ count_by is (calls_of g p)
+lockset_calls_counted is s = lockset_calls_induction s (λ g. (p : ℕ) → event_count is g p ≡ count_by is (calls_of g p)) (λ p. refl)
     (λ g q k begins next ih p. elim (cases_eq q p) [
-      | inl is ↦ subst (λ r. event_count event_departs (did g q k) r ≡ lockset_calls_departures (calls_of (did g q k) r)) is (own g q k next.calls.call (ih q))
+      | inl same ↦ subst (λ r. event_count is (did g q k) r ≡ count_by is (calls_of (did g q k) r)) same (own g q k next.calls.call (ih q))
       | inr isnt ↦ other g q k p isnt (ih p)
     ])
   where
-    own : (g : List Event) (q : ℕ) (k : Kind) → is_fetch k ≡ false → event_count event_departs g q ≡ lockset_calls_departures (calls_of g q)
-        → event_count event_departs (did g q k) q ≡ lockset_calls_departures (calls_of (did g q k) q)
+    own : (g : List Event) (q : ℕ) (k : Kind) → is_fetch k ≡ false → event_count is g q ≡ count_by is (calls_of g q)
+        → event_count is (did g q k) q ≡ count_by is (calls_of (did g q k) q)
     own g q k call ih =
-        event_count-append event_departs g (event q k ∷ []) q
-        ∙ ap₂ (λ (m n : ℕ). m + n) ih (lockset_calls_one_departure k q)
-        ∙ sym (slice_count_by-append event_departs (calls_of g q) (k ∷ []))
-        ∙ ap lockset_calls_departures (sym (followed_calls-own g q k call))
+        event_count-append is g (event q k ∷ []) q
+        ∙ ap₂ (λ (m n : ℕ). m + n) ih (lockset_calls_one_counted is k q)
+        ∙ sym (slice_count_by-append is (calls_of g q) (k ∷ []))
+        ∙ ap (count_by is) (sym (followed_calls-own g q k call))
 
-    other : (g : List Event) (q : ℕ) (k : Kind) (p : ℕ) → q ≢ p → event_count event_departs g p ≡ lockset_calls_departures (calls_of g p)
-        → event_count event_departs (did g q k) p ≡ lockset_calls_departures (calls_of (did g q k) p)
+    other : (g : List Event) (q : ℕ) (k : Kind) (p : ℕ) → q ≢ p → event_count is g p ≡ count_by is (calls_of g p)
+        → event_count is (did g q k) p ≡ count_by is (calls_of (did g q k) p)
     other g q k p isnt ih =
-        let sum = event_count-append event_departs g (event q k ∷ []) p in
-        let none : event_count event_departs (event q k ∷ []) p ≡ 0 =
-        elim (time_of_places_one_event event_departs (event q k) p) [ inl zero_more ↦ zero_more | inr one ↦ absurd (isnt one.0) ] in
-        let same : event_count event_departs (did g q k) p ≡ event_count event_departs g p = omega arith in
-        same ∙ ih ∙ ap lockset_calls_departures (sym (followed_calls-others g q p k isnt))
+        let sum = event_count-append is g (event q k ∷ []) p in
+        let none : event_count is (event q k ∷ []) p ≡ 0 =
+        elim (time_of_places_one_event is (event q k) p) [ inl zero_more ↦ zero_more | inr one ↦ absurd (isnt one.0) ] in
+        let same : event_count is (did g q k) p ≡ event_count is g p = omega arith in
+        same ∙ ih ∙ ap (count_by is) (sym (followed_calls-others g q p k isnt))
+
+pub lockset_calls_departed : (s : Plan) (g : List Event) → IsFlatBeginning s g → (p : ℕ)
+    → event_count event_departs g p ≡ lockset_calls_departures (calls_of g p)
+lockset_calls_departed = lockset_calls_counted event_departs
 
 -- a call that takes or gives up no lock
 lockset_calls_own_holds : (g : List Event) (q l : ℕ) (k : Kind) (held : Bool) → Holds g q l ↔ IsTrue held

@@ -2,26 +2,30 @@
 use Rattle.std.proofs.Common.{◌≡◌, ◌≢◌, ℕ, ◌+◌, ◌<◌, ◌≤◌, ◌⊎◌, inl, inr, IsTrue, List, Some, Option, take, subst, sym, ap, ◌∙◌, arith}
 use Rattle.std.specs.Prelude.{None, MatchOption, is_some, true, false}
 use Rattle.std.proofs.lemmas.Bool.{cases_lt}
+use Rattle.std.proofs.lemmas.List.{take-map}
 use Rattle.std.proofs.lemmas.Option.{same_Some}
 use Rattle.base.specs.InOrderOnce.{Has}
-use Rattle.base.specs.Limits.{most_processors}
+use Rattle.base.proofs.SlicesAndCounts.{slice_get-take}
 use Rattle.journal.specs.declared.event.Event.{Event}
 use Rattle.journal.specs.declared.event.Kind.{Kind}
 use Rattle.journal.specs.DidEvent.{event}
-use Rattle.journal.specs.Events.{EventAt, event_address, event_interval_at, event_closes, event_stores}
+use Rattle.journal.specs.Events.{EventAt, event_address, event_stores}
 use Rattle.journal.specs.Races.{Conflict, Race}
-use Rattle.journal.specs.Sizes.{Sizes}
 use Rattle.journal.specs.WellFormed.{Does, Holds}
-use Rattle.journal.proofs.Order.EventPlacesAndCounts.{event_count-mono, event_place_same}
-use Rattle.journal.proofs.Passes.NextRaces.{next_race_by_time, next_race_events}
+use Rattle.journal.proofs.Order.EventPlacesAndCounts.{event_place_same}
+use Rattle.journal.proofs.Passes.NextRaces.{next_race_events}
 use Rattle.judge.specs.declared.locksets.held_locks.HeldLocks.{HeldLocks}
 use Rattle.judge.specs.declared.locksets.watched_word.Guarded.{Guarded}
 use Rattle.judge.specs.declared.locksets.watched_word.LockedAccess.{LockedAccess}
+use Rattle.judge.specs.declared.locksets.watched_word.PairedAccess.{PairedAccess}
+use Rattle.judge.specs.Cuts.{IsCutOf}
+use Rattle.judge.specs.JudgedSizes.{most_judged_processors}
 use Rattle.judge.specs.Locksets.Unlocked.{unlocked_event, unlocked_history}
 use Rattle.judge.specs.Locksets.Held.{AreHeldLocks, HasHeldLock, HeldLocksShare}
-use Rattle.judge.specs.Locksets.Pairs.{IsGuardedPair, IsPairLockHeld, IsUnguardedPair, IsPairToLock}
+use Rattle.judge.specs.Locksets.Pairs.{IsGuardedPair, IsPairLockHeld, IsPairedAccess, IsUnguardedPair, IsPairToLock, TellsGuardedPair, TellsUnguardedPair}
 use Rattle.judge.specs.Locksets.Watched.{AreWatchedRacing, AreWatchedAccesses, IsWatchedNext, HasWatchedStandIn}
-use Rattle.judge.specs.Locksets.Watched.{IsWatchedGuarded, IsWatchedGuardedWith, IsWatchCandidate, IsWatchedUnguarded, IsWatchedUnguardedWith, IsWatchedAccess}
+use Rattle.judge.specs.Locksets.Watched.{IsWatchedGuarded, IsWatchedGuardedWith, IsWatchCandidate, IsWatchedUnguarded, IsWatchedUnguardedWith, IsWatchedAccess, paired_access}
+use Rattle.judge.proofs.cuts.TellingCuts.{cut_tells_race_at}
 use Rattle.judge.proofs.locksets.WithoutLocks.{without_locks_address, without_locks_at, without_locks_store, without_locks_stood, WithoutLocksStoodAt}
 
 -- the address of a race is that of its first event
@@ -31,8 +35,14 @@ needing_race_address {u = u} {i = i} {f = f} r at is =
     let same = event_place_same u i r.first f r.first_at at in
     same_Some _ _ (sym r.conflict.first ∙ (ap (λ (e : Event). event_address e.kind) same ∙ is))
 
--- what is kept and conflicts, uncounted, needs a lock with what comes next
-pub needing_kept : {s : Sizes} {j : List Event} {a n : ℕ} {x y : LockedAccess} {t : ℕ → ℕ} → IsWatchedNext s j a n y t
+-- the cut of what comes next
+needing_cut : {j : List Event} {a n : ℕ} {y : LockedAccess} {t : ℕ → ℕ} → IsWatchedNext j a n y t
+    → IsCutOf (take n (unlocked_history j)) y.processor t
+needing_cut {j = j} {n = n} {y = y} {t = t} comes =
+    subst (λ xs. IsCutOf xs y.processor t) (sym (take-map unlocked_event n j)) comes.cut
+
+-- what is kept and conflicts, and isn't known, needs a lock with what comes next
+pub needing_kept : {j : List Event} {a n : ℕ} {x y : LockedAccess} {t : ℕ → ℕ} → IsWatchedNext j a n y t
     → IsWatchedAccess j a n x → AreWatchedRacing x y t → IsPairToLock j a x.place n
 needing_kept {j = j} {a = a} {n = n} {x = x} {y = y} {t = t} comes kept needs = record {
   race = race;
@@ -64,9 +74,7 @@ needing_kept {j = j} {a = a} {n = n} {x = x} {y = y} {t = t} comes kept needs = 
     }
 
     race : Race (unlocked_history j) x.place n
-    race =
-        (next_race_by_time second_at first_at kept.below needs.apart conflict comes.time).1
-        (let later = needs.later in let same = kept.access.interval in omega arith)
+    race = (cut_tells_race_at second_at first_at kept.below needs.apart conflict (needing_cut comes)).1 needs.later
 
 -- what needs a lock with what comes next, and what is kept for it
 pub record NeedsKept (j : List Event) (xs : List LockedAccess) (y : LockedAccess) (t : ℕ → ℕ) (i : ℕ) : Type 0 where
@@ -76,8 +84,8 @@ pub record NeedsKept (j : List Event) (xs : List LockedAccess) (y : LockedAccess
   pub kept : HasWatchedStandIn j xs i by kind
   pub needs : AreWatchedRacing kept.access y t
 
-pub needing_stands : {s : Sizes} {j : List Event} {a n i : ℕ} {xs : List LockedAccess} {y : LockedAccess} {t : ℕ → ℕ}
-    → IsWatchedNext s j a n y t → AreWatchedAccesses j a n xs → IsPairToLock j a i n → NeedsKept j xs y t i
+pub needing_stands : {j : List Event} {a n i : ℕ} {xs : List LockedAccess} {y : LockedAccess} {t : ℕ → ℕ}
+    → IsWatchedNext j a n y t → AreWatchedAccesses j a n xs → IsPairToLock j a i n → NeedsKept j xs y t i
 needing_stands {j = j} {a = a} {n = n} {i = i} {xs = xs} {y = y} {t = t} comes are needs = record {
   by = first.event.processor;
   kind = first.event.kind;
@@ -119,16 +127,13 @@ needing_stands {j = j} {a = a} {n = n} {i = i} {xs = xs} {y = y} {t = t} comes a
       | inr other ↦ inr (comes.access.stores ∙ (sym (without_locks_store comes.access.kind) ∙ other))
     ]
 
-    low : t r.first.processor ≤ event_interval_at (unlocked_history j) r.first.processor i
-    low = (next_race_by_time second_at r.first_at r.before both.0 both.1 comes.time).0 r
+    low : t r.first.processor ≤ i
+    low = (cut_tells_race_at second_at r.first_at r.before both.0 both.1 (needing_cut comes)).0 r
 
-    later : t kept.access.processor ≤ kept.access.interval
+    later : t kept.access.processor ≤ kept.access.place
     later =
-        let up = event_count-mono event_closes (unlocked_history j) i kept.access.place r.first.processor kept.stands.later in
-        let is = (are.each kept.access kept.has).access.interval in
-        let below = low in
-        let one : t kept.access.processor ≤ event_interval_at (unlocked_history j) kept.access.processor kept.access.place =
-        subst (λ q. t q ≤ event_interval_at (unlocked_history j) q kept.access.place) (same ∙ sym kept.stands.processor) (omega arith) in
+        let up = kept.stands.later in
+        let one : t kept.access.processor ≤ i = subst (λ q. t q ≤ i) (same ∙ sym kept.stands.processor) low in
         omega arith
 
 -- ---- the locks that are held
@@ -158,10 +163,13 @@ needing_from_set l set has = record { by = event set.by set.kind; at = set.does;
 
 -- ---- pairs up to what comes next
 
+-- who made it
+needing_made : {j : List Event} {a i : ℕ} {x : LockedAccess} → IsWatchCandidate j a i x → IsPairedAccess j (paired_access x)
+needing_made {j = j} {x = x} is = (is.kind, subst (λ m. Does j m x.processor is.kind) (sym is.place) is.does)
+
 -- a pair that is found with it
-pub needing_guarded_new : {s : Sizes} {j : List Event} {a n : ℕ} {xs : List LockedAccess} {y : LockedAccess} {t : ℕ → ℕ} {g : Guarded}
-    → IsWatchedNext s j a n y t → AreWatchedAccesses j a n xs → IsWatchedGuardedWith xs y t g
-    → IsGuardedPair j a g.places.0 g.places.1 g.lock
+pub needing_guarded_new : {j : List Event} {a n : ℕ} {xs : List LockedAccess} {y : LockedAccess} {t : ℕ → ℕ} {g : Guarded}
+    → IsWatchedNext j a n y t → AreWatchedAccesses j a n xs → IsWatchedGuardedWith xs y t g → TellsGuardedPair j a g
 needing_guarded_new {j = j} {a = a} {n = n} {y = y} {g = g} comes are found =
     let x = are.each found.access found.has in
     let pair : IsGuardedPair j a found.access.place n g.lock = record {
@@ -169,12 +177,18 @@ needing_guarded_new {j = j} {a = a} {n = n} {y = y} {g = g} comes are found =
       first = needing_from_set g.lock (needing_set_of x.access) found.shares.first;
       second = needing_from_set g.lock (needing_set_of comes.access) found.shares.second;
     } in
-    subst (λ i. IsGuardedPair j a i g.places.1 g.lock) (sym found.first)
-    (subst (λ k. IsGuardedPair j a found.access.place k g.lock) (sym (found.second ∙ comes.access.place)) pair)
+    record {
+      pair = subst (λ (b : PairedAccess). IsGuardedPair j a b.place g.accesses.1.place g.lock) (sym found.first)
+          (subst (λ (b : PairedAccess). IsGuardedPair j a found.access.place b.place g.lock) (sym found.second)
+          (subst (λ k. IsGuardedPair j a found.access.place k g.lock) (sym comes.access.place) pair));
+      first = subst (IsPairedAccess j) (sym found.first) (needing_made x.access);
+      second = subst (IsPairedAccess j) (sym found.second) (needing_made comes.access);
+    }
 
-pub needing_unguarded_new : {s : Sizes} {j : List Event} {a n : ℕ} {xs : List LockedAccess} {y : LockedAccess} {t : ℕ → ℕ} {u : ℕ × ℕ}
-    → IsWatchedNext s j a n y t → AreWatchedAccesses j a n xs → IsWatchedUnguardedWith xs y t u → IsUnguardedPair j a u.0 u.1
-needing_unguarded_new {s = s} {j = j} {a = a} {n = n} {y = y} {u = u} comes are found =
+pub needing_unguarded_new : {j : List Event} {a n : ℕ} {xs : List LockedAccess} {y : LockedAccess} {t : ℕ → ℕ}
+    {u : PairedAccess × PairedAccess}
+    → IsWatchedNext j a n y t → AreWatchedAccesses j a n xs → IsWatchedUnguardedWith xs y t u → TellsUnguardedPair j a u
+needing_unguarded_new {j = j} {a = a} {n = n} {y = y} {u = u} comes are found =
     let x = are.each found.access found.has in
     let pair : IsUnguardedPair j a found.access.place n = record {
       needs = needing_kept comes x found.needs;
@@ -183,12 +197,17 @@ needing_unguarded_new {s = s} {j = j} {a = a} {n = n} {y = y} {u = u} comes are 
           let other = needing_in_set (needing_set_of comes.access) second in
           found.none l (record { first = one; second = other }));
     } in
-    subst (λ i. IsUnguardedPair j a i u.1) (sym found.first)
-    (subst (λ k. IsUnguardedPair j a found.access.place k) (sym (found.second ∙ comes.access.place)) pair)
+    record {
+      pair = subst (λ (b : PairedAccess). IsUnguardedPair j a b.place u.1.place) (sym found.first)
+          (subst (λ (b : PairedAccess). IsUnguardedPair j a found.access.place b.place) (sym found.second)
+          (subst (λ k. IsUnguardedPair j a found.access.place k) (sym comes.access.place) pair));
+      first = subst (IsPairedAccess j) (sym found.first) (needing_made x.access);
+      second = subst (IsPairedAccess j) (sym found.second) (needing_made comes.access);
+    }
 
 -- what is found, if there was none before
-pub needing_guarded_next : {s : Sizes} {j : List Event} {a n : ℕ} {xs : List LockedAccess} {y : LockedAccess} {t : ℕ → ℕ} (o : Option Guarded)
-    → IsWatchedNext s j a n y t → AreWatchedAccesses j a n xs
+pub needing_guarded_next : {j : List Event} {a n : ℕ} {xs : List LockedAccess} {y : LockedAccess} {t : ℕ → ℕ} (o : Option Guarded)
+    → IsWatchedNext j a n y t → AreWatchedAccesses j a n xs
     → ((i k l : ℕ) → k < n → ¬ IsGuardedPair j a i k l)
     → MatchOption o ((x : LockedAccess) (l : ℕ) → Has xs x → AreWatchedRacing x y t → ¬ HeldLocksShare x.held y.held l)
     (IsWatchedGuardedWith xs y t)
@@ -205,8 +224,8 @@ needing_guarded_next {j = j} {a = a} {n = n} None comes are none without = λ i 
       without x.kept.access l x.kept.has x.needs (record { first = one; second = other }))
 ]
 
-pub needing_unguarded_next : {s : Sizes} {j : List Event} {a n : ℕ} {xs : List LockedAccess} {y : LockedAccess} {t : ℕ → ℕ} (o : Option (ℕ × ℕ))
-    → IsWatchedNext s j a n y t → AreWatchedAccesses j a n xs
+pub needing_unguarded_next : {j : List Event} {a n : ℕ} {xs : List LockedAccess} {y : LockedAccess} {t : ℕ → ℕ} (o : Option (PairedAccess × PairedAccess))
+    → IsWatchedNext j a n y t → AreWatchedAccesses j a n xs
     → ((i k : ℕ) → k < n → ¬ IsUnguardedPair j a i k)
     → MatchOption o ((x : LockedAccess) → Has xs x → AreWatchedRacing x y t → (l : ℕ) × HeldLocksShare x.held y.held l)
     (IsWatchedUnguardedWith xs y t)
@@ -228,7 +247,7 @@ pub needing_guarded_old : (j : List Event) (a n : ℕ) (o : Option Guarded) → 
 needing_guarded_old j a n None is of = absurd (cc is)
 needing_guarded_old j a n (Some g) is of = of
 
-pub needing_unguarded_old : (j : List Event) (a n : ℕ) (o : Option (ℕ × ℕ)) → is_some o ≡ true → IsWatchedUnguarded j a n o → IsWatchedUnguarded j a (n + 1) o
+pub needing_unguarded_old : (j : List Event) (a n : ℕ) (o : Option (PairedAccess × PairedAccess)) → is_some o ≡ true → IsWatchedUnguarded j a n o → IsWatchedUnguarded j a (n + 1) o
 needing_unguarded_old j a n None is of = absurd (cc is)
 needing_unguarded_old j a n (Some u) is of = of
 
@@ -238,16 +257,14 @@ pub needing_guarded_none : (j : List Event) (a n : ℕ) (o : Option Guarded) →
 needing_guarded_none j a n None is of = of
 needing_guarded_none j a n (Some g) is of = absurd (cc is)
 
-pub needing_unguarded_none : (j : List Event) (a n : ℕ) (o : Option (ℕ × ℕ)) → is_some o ≡ false → IsWatchedUnguarded j a n o
+pub needing_unguarded_none : (j : List Event) (a n : ℕ) (o : Option (PairedAccess × PairedAccess)) → is_some o ≡ false → IsWatchedUnguarded j a n o
     → (i k : ℕ) → k < n → ¬ IsUnguardedPair j a i k
 needing_unguarded_none j a n None is of = of
 needing_unguarded_none j a n (Some u) is of = absurd (cc is)
 
 -- the processors of what is kept are in range
-pub needing_processors : {s : Sizes} {j : List Event} {a n : ℕ} {xs : List LockedAccess} {y : LockedAccess} {t : ℕ → ℕ} → IsWatchedNext s j a n y t
-    → AreWatchedAccesses j a n xs → (x : LockedAccess) → Has xs x → x.processor < most_processors
-needing_processors comes are x has =
-    let kept = (are.each x has).access in
-    let below = (comes.range x.place (event x.processor kept.kind) kept.does).processor in
-    let few = comes.small.processors in
-    omega arith
+pub needing_processors : {j : List Event} {a n : ℕ} {xs : List LockedAccess} {y : LockedAccess} {t : ℕ → ℕ} → IsWatchedNext j a n y t
+    → AreWatchedAccesses j a n xs → (x : LockedAccess) → Has xs x → x.processor < most_judged_processors
+needing_processors {j = j} {n = n} comes are x has =
+    let kept = are.each x has in
+    comes.range x.place (event x.processor kept.access.kind) (slice_get-take j n x.place kept.below ∙ kept.access.does)

@@ -1,8 +1,8 @@
 -- Who has stored to a word, and what is kept of it, as the history goes on.
-use Rattle.std.proofs.Common.{◌≡◌, ◌≢◌, ◌↔◌, ℕ, ◌+◌, ◌<◌, ◌≤◌, inl, inr, List, Some, true, false, take, subst, sym, refl, ap, ◌∙◌, arith}
+use Rattle.std.proofs.Common.{◌≡◌, ◌≢◌, ◌↔◌, ℕ, ◌+◌, ◌<◌, ◌≤◌, inl, inr, List, [], Some, true, false, take, subst, sym, refl, ap, ◌∙◌, arith}
 use Rattle.std.specs.Prelude.{Option, None}
 use Rattle.std.proofs.lemmas.Bool.{cases_lt}
-use Rattle.std.proofs.lemmas.Option.{same_Some}
+use Rattle.std.proofs.lemmas.Option.{none-some, same_Some}
 use Rattle.base.specs.InOrderOnce.{Has}
 use Rattle.journal.specs.declared.event.Event.{Event}
 use Rattle.journal.specs.declared.event.Kind.{Kind}
@@ -13,14 +13,15 @@ use Rattle.journal.specs.WellFormed.{Does, Holds}
 use Rattle.journal.proofs.Order.EventPlacesAndCounts.{event_place_same, event_place_does_same}
 use Rattle.judge.specs.declared.locksets.watched_word.Guarded.{Guarded}
 use Rattle.judge.specs.declared.locksets.watched_word.LockedAccess.{LockedAccess}
+use Rattle.judge.specs.declared.locksets.watched_word.PairedAccess.{PairedAccess}
 use Rattle.judge.specs.declared.locksets.watched_word.WatchedStorers.{WatchedStorers}
 use Rattle.judge.specs.declared.locksets.watched_word.WatchedStorers.TheVariants.{Nobody, One, Several}
 use Rattle.judge.specs.declared.locksets.watched_word.WatchedWord.{WatchedWord}
 use Rattle.judge.specs.Locksets.Held.{AreHeldLocks}
 use Rattle.judge.specs.Locksets.Unlocked.{unlocked_event, unlocked_history}
 use Rattle.judge.specs.Locksets.Pairs.{IsStoredByPair, MayBeginPair, IsPairToLock}
-use Rattle.judge.specs.Locksets.Watched.{AreWatchedStorers, AreWatchedAccesses, HasWatchedStandIn, IsWatchedKept, IsWatchedGuarded, IsWatchCandidate, IsWatchedUnguarded, IsWatchedAccess, WatchedTells}
-use Rattle.judge.proofs.locksets.WithoutLocks.{without_locks_address, without_locks_at}
+use Rattle.judge.specs.Locksets.Watched.{AreWatchedStorers, AreWatchedAccesses, HasWatchedStandIn, IsUnwatched, IsWatchedKept, IsWatchedGuarded, IsWatchCandidate, IsWatchedUnguarded, IsWatchedAccess, WatchedTells}
+use Rattle.judge.proofs.locksets.WithoutLocks.{without_locks_address, without_locks_at, without_locks_stood}
 
 -- ---- who has stored
 
@@ -207,7 +208,7 @@ watched_word_no_pair {j = j} {a = a} {n = n} {e = e} at away needs =
     away (sym (without_locks_address e.kind) ∙ (sym (ap (λ (f : Event). event_address f.kind) same)
     ∙ (needs.race.conflict.second ∙ ap (λ b. Some b) needs.address)))
 
-watched_word_unguarded_left : (j : List Event) (a n : ℕ) (e : Event) (o : Option (ℕ × ℕ)) → EventAt j n e → event_address e.kind ≢ Some a
+watched_word_unguarded_left : (j : List Event) (a n : ℕ) (e : Event) (o : Option (PairedAccess × PairedAccess)) → EventAt j n e → event_address e.kind ≢ Some a
     → IsWatchedUnguarded j a n o → IsWatchedUnguarded j a (n + 1) o
 watched_word_unguarded_left j a n e None at away none = λ i k lt pair. elim (cases_lt k n) [
   | inl old ↦ none i k old pair
@@ -239,3 +240,27 @@ watched_word_left j a n e w at away tells = record {
   where
     no_access : (q : ℕ) (k : Kind) → Does j n q k → ¬ (event_address k ≡ Some a)
     no_access q k does is = away (ap (λ (f : Event). event_address f.kind) (event_place_same j n e (event q k) at does) ∙ is)
+
+-- ---- words that nothing accesses
+
+-- such a word has no pair
+watched_word_start_no_pair : {j : List Event} {a n i k : ℕ} → IsUnwatched j a n → k < n → ¬ IsPairToLock j a i k
+watched_word_start_no_pair {j = j} {k = k} none lt needs =
+    let r = needs.race in
+    let stood = without_locks_stood j k r.second r.second_at in
+    none k stood.event lt stood.at
+    (sym (without_locks_address stood.event.kind) ∙ (sym (ap (λ (f : Event). event_address f.kind) stood.is)
+    ∙ (r.conflict.second ∙ ap (λ b. Some b) needs.address)))
+
+-- what is kept of it before its first access
+pub watched_word_start : (j : List Event) (a n : ℕ) (w : WatchedWord) → w.storers ≡ Nobody → w.accesses.items ≡ [] → w.unguarded ≡ None
+    → w.guarded ≡ None → IsUnwatched j a n → WatchedTells j a n w
+watched_word_start j a n w storers accesses unguarded guarded none = record {
+  storers = subst (AreWatchedStorers j a n) (sym storers) (λ i q v lt does. none i (event q (Store a v)) lt does refl);
+  accesses = subst (AreWatchedAccesses j a n) (sym accesses) (record {
+    each = λ x has. absurd (none-some x has.1);
+    all = λ i q k lt does is seen. absurd (none i (event q k) lt does is);
+  });
+  unguarded = subst (IsWatchedUnguarded j a n) (sym unguarded) (λ i k lt pair. watched_word_start_no_pair none lt pair.needs);
+  guarded = subst (IsWatchedGuarded j a n) (sym guarded) (λ i k l lt pair. watched_word_start_no_pair none lt pair.needs);
+}

@@ -44,7 +44,7 @@ choosing_source_load_apart : (a v b w p q : ℕ) → event p (Load a v) ≡ even
 choosing_source_load_apart a v b w p q e = let k = ap (λ x. x.kind) e in cc
 
 -- the stores before the load are the journal's
-choosing_source_store_shorter : (j : List Event) (p a v i q b w : ℕ) → Does (did j p (Load a v)) i q (Store b w)
+pub choosing_source_store_shorter : (j : List Event) (p a v i q b w : ℕ) → Does (did j p (Load a v)) i q (Store b w)
     → Does j i q (Store b w)
 choosing_source_store_shorter j p a v i q b w does = elim (slice_push_cases j (event p (Load a v)) i (event q (Store b w)) does) [
   | inl old ↦ old.1

@@ -1,11 +1,17 @@
--- Accesses that only a lock keeps apart, and words of which somebody forgot the lock.
-use Rattle.std.specs.Prelude.{ℕ, ◌≡◌, ◌≢◌, ◌+◌, ◌<◌, List, Option, Some, MatchOption, slice_get, take}
+-- Accesses that only a lock keeps apart, and words of which some of these hold none in common.
+use Rattle.std.specs.Prelude.{ℕ, ◌≡◌, ◌≢◌, ◌+◌, ◌<◌, IsTrue, List, MatchOption, is_some, take}
+use Rattle.base.specs.InOrderOnce.{Has, InOrder}
 use Rattle.journal.specs.declared.event.Event.{Event}
+use Rattle.journal.specs.declared.event.Kind.{Kind}
 use Rattle.journal.specs.declared.event.Kind.TheVariants.{Store}
 use Rattle.journal.specs.Events.{EventAt}
 use Rattle.journal.specs.WellFormed.{Does, Holds}
 use Rattle.journal.specs.Races.{Race}
+use Rattle.judge.specs.declared.locksets.lockset_finder.LocksetWords.{LocksetWords}
+use Rattle.judge.specs.declared.locksets.lockset_finder.LocksetWords.TheVariants.{All, Forgotten}
 use Rattle.judge.specs.declared.locksets.lockset_finder.Unprotected.{Unprotected}
+use Rattle.judge.specs.declared.locksets.watched_word.Guarded.{Guarded}
+use Rattle.judge.specs.declared.locksets.watched_word.PairedAccess.{PairedAccess}
 use Rattle.judge.specs.Locksets.Unlocked.{unlocked_history}
 
 -- two processors have stored to a before place n
@@ -49,12 +55,40 @@ pub record IsUnguardedPair (j : List Event) (a i k : ℕ) : Type 0 where
   pub needs : IsPairToLock j a i k
   pub none : (l : ℕ) → IsPairLockHeld j i l → ¬ IsPairLockHeld j k l
 
--- a lock guards some accesses of a, and others have none: somebody forgot it
-pub record PairsLeaveUnprotected (j : List Event) (a : ℕ) (x : Unprotected) : Type 0 where
-  pub unguarded : IsUnguardedPair j a x.unguarded.0 x.unguarded.1
-  pub guarded : IsGuardedPair j a x.guarded.0 x.guarded.1 x.lock
+-- the processor of x made the event at its place
+abbrev pub IsPairedAccess : List Event → PairedAccess → Type 0
+IsPairedAccess j x = (k : Kind) × Does j x.place x.processor k
 
--- of each address, whether that is so
-abbrev pub PairsTellUnprotected : List Event → List (Option Unprotected) → Type 0
-PairsTellUnprotected j found = (a : ℕ) (o : Option Unprotected) → slice_get found a ≡ Some o
-    → MatchOption o ((x : Unprotected) → ¬ PairsLeaveUnprotected j a x) (PairsLeaveUnprotected j a)
+-- two accesses of a that need a lock, with no lock held at both, by those who made them
+pub record TellsUnguardedPair (j : List Event) (a : ℕ) (x : PairedAccess × PairedAccess) : Type 0 where
+  pub pair : IsUnguardedPair j a x.0.place x.1.place
+  pub first : IsPairedAccess j x.0
+  pub second : IsPairedAccess j x.1
+
+-- two with a lock held at both
+pub record TellsGuardedPair (j : List Event) (a : ℕ) (x : Guarded) : Type 0 where
+  pub pair : IsGuardedPair j a x.accesses.0.place x.accesses.1.place x.lock
+  pub first : IsPairedAccess j x.accesses.0
+  pub second : IsPairedAccess j x.accesses.1
+
+-- some accesses of the word that need a lock have none in common, and others have one, or none do
+pub record PairsLeaveUnprotected (j : List Event) (x : Unprotected) : Type 0 where
+  pub unguarded : TellsUnguardedPair j x.address x.unguarded
+  pub guarded : MatchOption x.guarded ((i k l : ℕ) → ¬ IsGuardedPair j x.address i k l) (TellsGuardedPair j x.address)
+
+-- such a word is asked for: all are, or those of which some accesses have a lock in common
+abbrev pub IsUnprotectedAsked : LocksetWords → Unprotected → Type 0
+IsUnprotectedAsked All x = Unit {0}
+IsUnprotectedAsked Forgotten x = IsTrue (is_some x.guarded)
+
+-- the word at a is told
+pub record IsUnprotectedTold (found : List Unprotected) (a : ℕ) : Type 0 where
+  pub word : Unprotected
+  pub has : Has found word
+  pub address : word.address ≡ a
+
+-- these are the words at the addresses below n that are asked for, all of them, by rising address
+pub record PairsTellUnprotected (asked : LocksetWords) (j : List Event) (n : ℕ) (found : List Unprotected) : Type 0 where
+  pub each : (x : Unprotected) → Has found x → PairsLeaveUnprotected j x × IsUnprotectedAsked asked x × (x.address < n)
+  pub all : (x : Unprotected) → PairsLeaveUnprotected j x → IsUnprotectedAsked asked x → x.address < n → IsUnprotectedTold found x.address
+  pub rising : InOrder (λ (x y : Unprotected). x.address < y.address) found

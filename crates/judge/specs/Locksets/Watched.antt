@@ -4,24 +4,24 @@ use Rattle.base.specs.InOrderOnce.{Has}
 use Rattle.journal.specs.declared.event.Event.{Event}
 use Rattle.journal.specs.declared.event.Kind.{Kind}
 use Rattle.journal.specs.declared.event.Kind.TheVariants.{Store}
-use Rattle.journal.specs.Events.{EventAt, event_address, event_interval_at, event_stores}
-use Rattle.journal.specs.Sizes.{Sizes}
-use Rattle.journal.specs.Times.{IsTimeOf}
+use Rattle.journal.specs.Events.{EventAt, event_address, event_stores}
+use Rattle.journal.specs.EventsInRange.{EventProcessorsInRange}
 use Rattle.journal.specs.WellFormed.{Does}
 use Rattle.judge.specs.declared.locksets.watched_word.Guarded.{Guarded}
 use Rattle.judge.specs.declared.locksets.watched_word.LockedAccess.{LockedAccess}
+use Rattle.judge.specs.declared.locksets.watched_word.PairedAccess.{PairedAccess}
 use Rattle.judge.specs.declared.locksets.watched_word.WatchedStorers.{WatchedStorers}
 use Rattle.judge.specs.declared.locksets.watched_word.WatchedStorers.TheVariants.{Nobody, One, Several}
 use Rattle.judge.specs.declared.locksets.watched_word.WatchedWord.{WatchedWord}
-use Rattle.judge.specs.JudgedSizes.{AreJudgedSizes}
-use Rattle.judge.specs.Miscounted.{IsEventInSizes}
+use Rattle.judge.specs.Cuts.{IsCutOf}
+use Rattle.judge.specs.JudgedSizes.{most_judged_processors}
 use Rattle.judge.specs.Locksets.Unlocked.{unlocked_history}
 use Rattle.judge.specs.Locksets.Held.{AreHeldLocks, HeldLocksShare}
-use Rattle.judge.specs.Locksets.Pairs.{IsGuardedPair, IsStoredByPair, IsUnguardedPair, MayBeginPair}
+use Rattle.judge.specs.Locksets.Pairs.{IsGuardedPair, IsStoredByPair, IsUnguardedPair, MayBeginPair, TellsGuardedPair, TellsUnguardedPair}
 
--- the numbers of each event are within the sizes
-abbrev pub AreWatchedEventsInSizes : Sizes → List Event → Type 0
-AreWatchedEventsInSizes s j = (i : ℕ) (e : Event) → EventAt j i e → IsEventInSizes s e
+-- nothing accesses a before place n
+abbrev pub IsUnwatched : List Event → ℕ → ℕ → Type 0
+IsUnwatched j a n = (i : ℕ) (e : Event) → i < n → EventAt j i e → event_address e.kind ≢ Some a
 
 -- the access of a at place i, with the locks that its processor holds there
 pub record IsWatchCandidate (j : List Event) (a i : ℕ) (x : LockedAccess) : Type 0 where
@@ -30,15 +30,13 @@ pub record IsWatchCandidate (j : List Event) (a i : ℕ) (x : LockedAccess) : Ty
   pub does : Does j i x.processor kind
   pub address : event_address kind ≡ Some a
   pub stores : x.stores ≡ event_stores kind
-  pub interval : x.interval ≡ event_interval_at (unlocked_history j) x.processor i
   pub held : AreHeldLocks (take i j) x.processor x.held
 
--- y is the access of a at place n, and t its processor's timestamp there, where locks order nothing
-pub record IsWatchedNext (s : Sizes) (j : List Event) (a n : ℕ) (y : LockedAccess) (t : ℕ → ℕ) : Type 0 where
-  pub small : AreJudgedSizes s
-  pub range : AreWatchedEventsInSizes s j
+-- y is the access of a at place n, and t is what its processor knows of the others there, where locks order nothing
+pub record IsWatchedNext (j : List Event) (a n : ℕ) (y : LockedAccess) (t : ℕ → ℕ) : Type 0 where
+  pub range : EventProcessorsInRange most_judged_processors (take n j)
   pub access : IsWatchCandidate j a n y
-  pub time : IsTimeOf (take n (unlocked_history j)) y.processor t
+  pub cut : IsCutOf (unlocked_history (take n j)) y.processor t
 
 -- by whom a is stored to before place n
 abbrev pub AreWatchedStorers : List Event → ℕ → ℕ → WatchedStorers → Type 0
@@ -72,13 +70,12 @@ pub record AreWatchedAccesses (j : List Event) (a n : ℕ) (xs : List LockedAcce
   pub all : (i q : ℕ) (k : Kind) → i < n → Does j i q k → event_address k ≡ Some a → MayBeginPair j a i → HasWatchedStandIn j xs i q k
 
 -- a pair of a with no lock in common that ends before place n, if there is one
-abbrev pub IsWatchedUnguarded : List Event → ℕ → ℕ → Option (ℕ × ℕ) → Type 0
-IsWatchedUnguarded j a n o = MatchOption o ((i k : ℕ) → k < n → ¬ IsUnguardedPair j a i k) (λ u. IsUnguardedPair j a u.0 u.1)
+abbrev pub IsWatchedUnguarded : List Event → ℕ → ℕ → Option (PairedAccess × PairedAccess) → Type 0
+IsWatchedUnguarded j a n o = MatchOption o ((i k : ℕ) → k < n → ¬ IsUnguardedPair j a i k) (TellsUnguardedPair j a)
 
 -- and one with a lock in common
 abbrev pub IsWatchedGuarded : List Event → ℕ → ℕ → Option Guarded → Type 0
-IsWatchedGuarded j a n o = MatchOption o ((i k l : ℕ) → k < n → ¬ IsGuardedPair j a i k l)
-    (λ g. IsGuardedPair j a g.places.0 g.places.1 g.lock)
+IsWatchedGuarded j a n o = MatchOption o ((i k l : ℕ) → k < n → ¬ IsGuardedPair j a i k l) (TellsGuardedPair j a)
 
 -- what is kept of a tells what stands before place n
 pub record WatchedTells (j : List Event) (a n : ℕ) (w : WatchedWord) : Type 0 where
@@ -87,11 +84,15 @@ pub record WatchedTells (j : List Event) (a n : ℕ) (w : WatchedWord) : Type 0 
   pub unguarded : IsWatchedUnguarded j a n w.unguarded
   pub guarded : IsWatchedGuarded j a n w.guarded
 
--- x and y, the later one, conflict and are of two processors, and y's timestamp t doesn't count x's interval
+-- x and y, the later one, conflict and are of two processors, and y's processor, which knows t, doesn't know x
 pub record AreWatchedRacing (x y : LockedAccess) (t : ℕ → ℕ) : Type 0 where
   pub apart : x.processor ≢ y.processor
   pub stores : IsTrue x.stores ⊎ IsTrue y.stores
-  pub later : t x.processor ≤ x.interval
+  pub later : t x.processor ≤ x.place
+
+-- an access, as it is told
+abbrev pub paired_access : LockedAccess → PairedAccess
+paired_access x = record { place = x.place; processor = x.processor }
 
 -- such an x among these, with a lock in common with y
 pub record IsWatchedGuardedWith (xs : List LockedAccess) (y : LockedAccess) (t : ℕ → ℕ) (g : Guarded) : Type 0 where
@@ -99,17 +100,17 @@ pub record IsWatchedGuardedWith (xs : List LockedAccess) (y : LockedAccess) (t :
   pub has : Has xs access
   pub needs : AreWatchedRacing access y t
   pub shares : HeldLocksShare access.held y.held g.lock
-  pub first : g.places.0 ≡ access.place
-  pub second : g.places.1 ≡ y.place
+  pub first : g.accesses.0 ≡ paired_access access
+  pub second : g.accesses.1 ≡ paired_access y
 
 -- and one with none in common
-pub record IsWatchedUnguardedWith (xs : List LockedAccess) (y : LockedAccess) (t : ℕ → ℕ) (u : ℕ × ℕ) : Type 0 where
+pub record IsWatchedUnguardedWith (xs : List LockedAccess) (y : LockedAccess) (t : ℕ → ℕ) (u : PairedAccess × PairedAccess) : Type 0 where
   pub access : LockedAccess
   pub has : Has xs access
   pub needs : AreWatchedRacing access y t
   pub none : (l : ℕ) → ¬ HeldLocksShare access.held y.held l
-  pub first : u.0 ≡ access.place
-  pub second : u.1 ≡ y.place
+  pub first : u.0 ≡ paired_access access
+  pub second : u.1 ≡ paired_access y
 
 -- x is like y: of one processor and kind, with the same locks
 pub record IsWatchedAlike (x y : LockedAccess) : Type 0 where

@@ -24,6 +24,12 @@ pub record AreKnownStores (j : List Event) (times : List (List ℕ)) (a q : ℕ)
   pub rising : InOrder (λ (s t : Stored). s.place < t.place) stores
   pub all : (i v : ℕ) → Does j i q (Store a v) → (s : Stored) × Has stores s × (s.place ≡ i)
 
+-- the stores of intervals from the limit on begin at this index
+pub record IsKnownStoreIndex (stores : List Stored) (limit from : ℕ) : Type 0 where
+  pub below : (n : ℕ) (s : Stored) → n < from → slice_get stores n ≡ Some s → s.interval < limit
+  pub above : (n : ℕ) (s : Stored) → from ≤ n → slice_get stores n ≡ Some s → limit ≤ s.interval
+  pub within : from ≤ length stores
+
 -- of these stores, s is the last one of an interval below the limit
 pub record IsLastKnownStoreBelow (stores : List Stored) (limit : ℕ) (s : Stored) : Type 0 where
   pub index : ℕ

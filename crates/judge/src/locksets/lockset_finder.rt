@@ -1,44 +1,56 @@
-//! Finds the words of which somebody forgot the lock.
-ghost use Rattle.std.specs.Prelude.{◌≡◌, ◌+◌, ◌<◌, ◌≤◌, ◌∷◌, ◌++◌, [], ℕ, IfOk, List, MatchOption, OnOk, Some, length, slice_get, vec_len};
-ghost use Rattle.base.specs.Prelude.{most_held, most_processors};
-ghost use Rattle.journal.specs.Sizes.{addresses};
+//! Finds the words some of whose accesses need a lock and have none.
+ghost use Rattle.std.specs.Prelude.{◌≡◌, ◌↔◌, ◌+◌, ◌<◌, ◌≤◌, ◌∷◌, ◌++◌, [], ℕ, IfOk, IsTrue, List, MatchOption, OnOk, Some, length, slice_index, vec_len};
 ghost use Rattle.journal.specs.declared.event.Event.{Event as AnEvent};
-ghost use Rattle.journal.specs.Events.{EventAt, event_stores};
-ghost use Rattle.journal.specs.Prelude.{event_address};
-ghost use Rattle.judge.specs.Prelude.{AreJudgedSizes, judged_sizes_of};
-ghost use Rattle.judge.specs.declared.locksets.lockset_finder.Unprotected.{Unprotected as AnUnprotected};
-ghost use Rattle.judge.specs.declared.locksets.watched_word.WatchedWord.{WatchedWord as AWord};
-ghost use Rattle.judge.specs.Locksets.Prelude.{AreWatchedEventsInSizes, PairsTellUnprotected, IsWatchCandidate};
-ghost use Rattle.judge.specs.Locksets.Prelude.{AreKeptLocksetsOfAll, PairsLeaveUnprotected, AreKeptLocksets, WatchedTells, AreKeptLocksetWords, unlocked_history};
+ghost use Rattle.journal.specs.Events.{event_stores};
+ghost use Rattle.journal.specs.Prelude.{EventAddressesInRange, EventAddressInRange, EventProcessorsInRange, event_address};
+ghost use Rattle.judge.specs.Prelude.{IsSparse, most_judged_events, most_judged_processors, most_sparse_values, sparse_at, sparse_room};
+ghost use Rattle.judge.specs.Locksets.Prelude.{AreKeptLocksetWords, AreKeptLocksetsOfAll, ComesNextToWatch, IsLocksetFinderOf, IsUnguardedPair, IsUnprotectedAsked};
+ghost use Rattle.judge.specs.Locksets.Prelude.{IsWatchCandidate, IsWatchedNext, PairsLeaveUnprotected, PairsTellUnprotected, WatchedTells};
 
+use crate::cut::Cut;
+use crate::cuts::Cuts;
 use crate::locksets::held_locks::HeldLocks;
-use crate::locksets::unlocked::unlocked_history;
-use crate::locksets::watched_word::{Guarded, LockedAccess, WatchedWord};
-use crate::sizes::Sizes;
-use journal::{Event, EventClocks, Kind};
+use crate::locksets::unlocked::unlocked_event;
+use crate::locksets::watched_word::{Guarded, LockedAccess, PairedAccess, WatchedWord};
+use crate::sparse_table::SparseTable;
+use journal::{Event, Kind};
 use std::alloc::{AllocError, Global};
 
-/// A word of which somebody forgot the lock, by the places of accesses that only a lock keeps apart.
+/// Which words are told, of those some of whose accesses only a lock would keep apart, and hold none in common.
 #[derive(Clone, Copy, Debug, PartialEq, Eq)]
-pub struct Unprotected {
-    /// Two that hold no lock in common.
-    pub unguarded: (usize, usize),
-    /// Two that do.
-    pub guarded: (usize, usize),
-    /// A lock that these hold.
-    pub lock: usize,
+pub enum LocksetWords {
+    /// Those of which other such accesses hold one in common: somebody forgot it.
+    Forgotten,
+    /// These, and those that no lock guards: they are handed over from one processor to the next.
+    All,
 }
 
-/// A history, taken an event at a time, of which it tells the words of which somebody forgot the lock.
+/// A word some of whose accesses only a lock would keep apart, and hold none in common.
+#[derive(Clone, Copy, Debug, PartialEq, Eq)]
+pub struct Unprotected {
+    pub address: usize,
+    /// Two such accesses that hold no lock in common.
+    pub unguarded: (PairedAccess, PairedAccess),
+    /// Two that do, if there are such: then somebody forgot the lock. The word is handed over where there are none.
+    pub guarded: Option<Guarded>,
+}
+
+/// A history, taken an event at a time, of which it tells the words that need a lock and have none at times, or never.
+///
+/// It says nothing of a word that only one processor stores to, nor of accesses that flags, the barrier or their
+/// processor's own order keep apart. An access takes time in the order of the sets of locks with which its word was accessed,
+/// times the processors, and times the locks of its own set and of each of those. It takes memory in the order of the words
+/// that are accessed, and of the accesses that are kept of each: from the first store by a second processor on the last one of
+/// each processor, kind and set of locks held, however long the history is.
 #[derive(Drop)]
-struct LocksetFinder {
-    sizes: Sizes,
-    /// The timestamps, where locks order nothing.
-    clocks: EventClocks,
+pub struct LocksetFinder {
+    addresses: usize,
+    /// What each processor knows of the others, where locks order nothing.
+    cuts: Cuts,
     /// The locks that each processor holds.
     held: Vec<HeldLocks>,
-    /// What is kept of each address.
-    words: Vec<WatchedWord>,
+    /// By address what is kept of each word that is accessed.
+    words: SparseTable<WatchedWord>,
 }
 
 /// The address that is accessed, and whether it is stored to.
@@ -74,145 +86,169 @@ fn finder_locks_at_start(alloc: Global, count: usize) -> Result<Vec<HeldLocks>, 
     Ok(held)
 }
 
-/// So many words, before the first event. The only error is running out of memory.
-fn finder_words_at_start(alloc: Global, count: usize) -> Result<Vec<WatchedWord>, AllocError>
-    ensures long { IfOk result (λ v. vec_len v ≡ count) }
-    ensures tells { IfOk result (λ v. (j : List AnEvent) → AreKeptLocksetWords j 0 v.items) }
+/// Takes note of an access of the word at this address, which comes next; its processor knows this of the others. The only
+/// error is running out of memory.
+fn watch_finder_word(
+    alloc: Global,
+    words: &mut SparseTable<WatchedWord>,
+    address: usize,
+    access: LockedAccess,
+    cut: &Cut,
+) -> Result<(), AllocError>
+    requires sparse { IsSparse words.old }
+    requires room { address < sparse_room words.old }
+    requires few { vec_len words.old.kept < most_sparse_values }
+    requires next { (h : List AnEvent) × (n : ℕ) × IsWatchedNext h address n access (slice_index cut.now)
+        × AreKeptLocksetWords h n (sparse_at words.old) }
+    ensures room { sparse_room words.new ≡ sparse_room words.old }
+    ensures few { vec_len words.new.kept ≤ vec_len words.old.kept + 1 }
+    ensures sparse { OnOk result (IsSparse words.new) }
+    ensures noted { OnOk result ((h : List AnEvent) (n : ℕ) → IsWatchedNext h address n access (slice_index cut.now)
+        → AreKeptLocksetWords h n (sparse_at words.old) → AreKeptLocksetWords h (n + 1) (sparse_at words.new)) }
 {
-    let mut words = Vec::with_capacity(alloc, count)?;
-    for _ in 0..count {
-        words.push(WatchedWord::new(alloc))?;
+    match words.place(address) {
+        Some(place) => words.kept[place].note(access, cut),
+        None => {
+            let mut word = WatchedWord::new(alloc);
+            word.note(access, cut)?;
+            words.add(address, word)
+        }
     }
-    Ok(words)
 }
 
-/// What was found of a word.
-fn finder_answer_of(word: &WatchedWord) -> Option<Unprotected>
-    ensures { (j : List AnEvent) (a : ℕ) → WatchedTells j a (length j) word.now
-        → MatchOption result ((x : AnUnprotected) → ¬ PairsLeaveUnprotected j a x) (PairsLeaveUnprotected j a) }
+/// What was found of the word at this address.
+fn finder_answer_of(words: &SparseTable<WatchedWord>, address: usize) -> Option<Unprotected>
+    requires { IsSparse words.now }
+    ensures { (j : List AnEvent) → AreKeptLocksetWords j (length j) (sparse_at words.now)
+        → MatchOption result ((i k : ℕ) → ¬ IsUnguardedPair j address i k)
+        (λ x. PairsLeaveUnprotected j x × (x.address ≡ address)) }
 {
+    let word = &words.kept[words.place(address)?];
     let unguarded = word.unguarded?;
-    let Guarded { places, lock } = word.guarded?;
     Some(Unprotected {
+        address,
         unguarded,
-        guarded: places,
-        lock,
+        guarded: word.guarded,
     })
 }
 
+/// Whether such a word is to be told.
+fn is_unprotected_asked(asked: LocksetWords, word: Unprotected) -> bool
+    ensures { IsTrue result ↔ IsUnprotectedAsked asked word }
+{
+    match asked {
+        LocksetWords::Forgotten => word.guarded.is_some(),
+        LocksetWords::All => true,
+    }
+}
+
+/// Adds what was found of the word at this address, if that is asked for. The only error is running out of memory.
+fn add_finder_answer(
+    found: &mut Vec<Unprotected>,
+    asked: LocksetWords,
+    words: &SparseTable<WatchedWord>,
+    address: usize,
+) -> Result<(), AllocError>
+    requires { IsSparse words.now }
+    ensures { OnOk result ((j : List AnEvent) → AreKeptLocksetWords j (length j) (sparse_at words.now)
+        → PairsTellUnprotected asked j address found.old.items → PairsTellUnprotected asked j (address + 1) found.new.items) }
+{
+    if let Some(answer) = finder_answer_of(words, address) {
+        if is_unprotected_asked(asked, answer) {
+            found.push(answer)?;
+        }
+    }
+    Ok(())
+}
+
 impl LocksetFinder {
-    /// Before the first event of a history of these sizes. The only error is running out of memory.
-    fn new(alloc: Global, sizes: Sizes) -> Result<LocksetFinder, AllocError>
-        requires { AreJudgedSizes (judged_sizes_of sizes) }
-        ensures tells { IfOk result (λ x. (j : List AnEvent) → AreKeptLocksets j 0 x) }
-        ensures sizes { IfOk result (λ x. x.sizes ≡ sizes) }
+    /// Before the first event, of a history of `processors` processors, at most `MOST_JUDGED_PROCESSORS`, and `addresses`
+    /// addresses. The only error is running out of memory.
+    pub fn new(
+        alloc: Global,
+        processors: usize,
+        addresses: usize,
+    ) -> Result<LocksetFinder, AllocError>
+        requires { processors ≤ most_judged_processors }
+        ensures tells { IfOk result (IsLocksetFinderOf []) }
+        ensures processors { IfOk result (λ x. x.cuts.present ≡ processors) }
+        ensures addresses { IfOk result (λ x. x.addresses ≡ addresses) }
     {
         Ok(LocksetFinder {
-            sizes,
-            clocks: EventClocks::new(alloc, sizes.processors)?,
-            held: finder_locks_at_start(alloc, sizes.processors)?,
-            words: finder_words_at_start(alloc, sizes.pages * sizes.words)?,
+            addresses,
+            cuts: Cuts::new(alloc, processors)?,
+            held: finder_locks_at_start(alloc, processors)?,
+            words: SparseTable::new(alloc, addresses)?,
         })
     }
 
-    /// The access that the processor makes at this place. The only error is running out of memory.
-    fn access(
-        &self,
-        processor: usize,
-        stores: bool,
-        place: usize,
-    ) -> Result<LockedAccess, AllocError>
-        requires processor { processor < self.now.sizes.processors }
-        requires few { self.now.sizes.processors ≤ most_processors }
-        requires tells { (j : List AnEvent) × AreKeptLocksets j place self.now }
-        ensures { IfOk result (λ x. (j : List AnEvent) (a : ℕ) (e : AnEvent) → AreKeptLocksets j place self.now → EventAt j place e
-            → e.processor ≡ processor → event_address e.kind ≡ Some a → stores ≡ event_stores e.kind
-            → IsWatchCandidate j a place x) }
+    /// The access that comes next, by this processor, with the locks that it holds. The only error is running out of memory.
+    fn access(&self, processor: usize, stores: bool) -> Result<LockedAccess, AllocError>
+        requires processor { processor < self.now.cuts.present }
+        requires tells { (j : List AnEvent) × IsLocksetFinderOf j self.now }
+        ensures { IfOk result (λ x. (h j : List AnEvent) (a : ℕ) (e : AnEvent) → IsLocksetFinderOf j self.now
+            → ComesNextToWatch h j e → e.processor ≡ processor → event_address e.kind ≡ Some a → stores ≡ event_stores e.kind
+            → IsWatchCandidate h a (length j) x) }
     {
         let held = self.held[processor].copied()?;
         Ok(LockedAccess {
             processor,
             stores,
-            place,
-            interval: self.clocks.of(processor)[processor],
+            place: self.cuts.place,
             held,
         })
     }
 
-    /// Takes note of the word that the event at this place accesses, if it accesses one. The only error is running out of
+    /// Takes note of the word that the event, which comes next, accesses, if it accesses one. The only error is running out of
     /// memory.
-    fn watch(&mut self, event: Event, place: usize) -> Result<(), AllocError>
-        requires { (j : List AnEvent) × AreJudgedSizes (judged_sizes_of self.old.sizes)
-            × AreWatchedEventsInSizes (judged_sizes_of self.old.sizes) j × EventAt j place event × AreKeptLocksets j place self.old }
+    fn watch(&mut self, alloc: Global, event: Event) -> Result<(), AllocError>
+        requires few { self.old.cuts.place < most_judged_events }
+        requires processor { event.processor < self.old.cuts.present }
+        requires address { EventAddressInRange self.old.addresses event.kind }
+        requires so_far { (j : List AnEvent) × IsLocksetFinderOf j self.old }
         ensures rest { self.new ≡ record self.old { words = self.new.words } }
-        ensures long { vec_len self.new.words ≡ vec_len self.old.words }
-        ensures words { OnOk result ((j : List AnEvent) → AreJudgedSizes (judged_sizes_of self.old.sizes)
-            → AreWatchedEventsInSizes (judged_sizes_of self.old.sizes) j → EventAt j place event → AreKeptLocksets j place self.old
-            → AreKeptLocksetWords j (place + 1) self.new.words.items) }
+        ensures room { sparse_room self.new.words ≡ sparse_room self.old.words }
+        ensures few { vec_len self.new.words.kept ≤ vec_len self.old.words.kept + 1 }
+        ensures sparse { OnOk result (IsSparse self.new.words) }
+        ensures words { OnOk result ((h j : List AnEvent) → IsLocksetFinderOf j self.old → ComesNextToWatch h j event
+            → AreKeptLocksetWords h (length j + 1) (sparse_at self.new.words)) }
     {
         let Some((address, stores)) = finder_access_of(event.kind) else {
             return Ok(());
         };
-        let access = self.access(event.processor, stores, place)?;
-        let time = self.clocks.of(event.processor);
-        self.words[address].note(access, time)
+        let access = self.access(event.processor, stores)?;
+        let cut = self.cuts.of(event.processor);
+        watch_finder_word(alloc, &mut self.words, address, access, cut)
     }
 
-    /// Takes note of the event at this place, the next one; `firm` is the history in which locks order nothing. The only
-    /// error is running out of memory, after which it may tell no history.
-    fn note(&mut self, events: &[Event], firm: &[Event], place: usize) -> Result<(), AllocError>
-        requires place { place < length events.now }
-        requires few { length events.now ≤ most_held }
-        requires small { AreJudgedSizes (judged_sizes_of self.old.sizes) }
-        requires range { AreWatchedEventsInSizes (judged_sizes_of self.old.sizes) events.now }
-        requires firm { firm.now ≡ unlocked_history events.now }
-        requires tells { AreKeptLocksets events.now place self.old }
-        ensures tells { OnOk result (AreKeptLocksets events.now (place + 1) self.new) }
-        ensures sizes { self.new.sizes ≡ self.old.sizes }
+    /// Takes note of the event, which comes next. The only error is running out of memory, after which it may tell no
+    /// history.
+    pub fn note(&mut self, alloc: Global, event: Event) -> Result<(), AllocError>
+        requires few { self.old.cuts.place < most_judged_events }
+        requires processor { event.processor < self.old.cuts.present }
+        requires address { EventAddressInRange self.old.addresses event.kind }
+        requires so_far { (j : List AnEvent) × IsLocksetFinderOf j self.old }
+        ensures tells { OnOk result ((j : List AnEvent) → IsLocksetFinderOf j self.old
+            → IsLocksetFinderOf (j ++ event ∷ []) self.new) }
+        ensures processors { self.new.cuts.present ≡ self.old.cuts.present }
+        ensures addresses { self.new.addresses ≡ self.old.addresses }
     {
-        let event = events[place];
-        self.watch(event, place)?;
+        self.watch(alloc, event)?;
         update_finder_locks(&mut self.held, event)?;
-        self.clocks.note(firm, place)
+        self.cuts.note(unlocked_event(event))
     }
 
-    /// What was found of each address. The only error is running out of memory.
-    fn found(&self, alloc: Global) -> Result<Vec<Option<Unprotected>>, AllocError>
-        ensures long { IfOk result (λ v. vec_len v ≡ vec_len self.now.words) }
-        ensures found { IfOk result (λ v. (j : List AnEvent) → AreKeptLocksetWords j (length j) self.now.words.items
-            → PairsTellUnprotected j v.items) }
+    /// The words that need a lock and have none, those that are asked for, by rising address. The only error is running out of
+    /// memory.
+    pub fn found(&self, alloc: Global, asked: LocksetWords) -> Result<Vec<Unprotected>, AllocError>
+        requires { (j : List AnEvent) × IsLocksetFinderOf j self.now }
+        ensures { IfOk result (λ v. (j : List AnEvent) → IsLocksetFinderOf j self.now
+            → PairsTellUnprotected asked j self.now.addresses v.items) }
     {
-        let mut found = Vec::with_capacity(alloc, self.words.len())?;
-        for word in &self.words {
-            found.push(finder_answer_of(word))?;
+        let mut found = Vec::new(alloc);
+        for address in 0..self.addresses {
+            add_finder_answer(&mut found, asked, &self.words, address)?;
         }
         Ok(found)
     }
-}
-
-/// Of each address of a history, whether somebody forgot its lock: whether some of its accesses that only a lock keeps
-/// apart hold one in common, and others don't. The history's numbers are within the sizes. The only error is running out of
-/// memory.
-///
-/// It says nothing of a word that only one processor stores to, nor of accesses that flags, the barrier or their
-/// processor's own order keep apart, nor of a word whose accesses never hold a lock in common. An access takes time in the
-/// order of the sets of locks with which its word was accessed, times the processors, and times the locks of its own set and
-/// of each of those.
-pub fn unprotected_words(
-    alloc: Global,
-    sizes: Sizes,
-    events: &[Event],
-) -> Result<Vec<Option<Unprotected>>, AllocError>
-    requires few { length events.now ≤ most_held }
-    requires sizes { AreJudgedSizes (judged_sizes_of sizes) }
-    requires range { AreWatchedEventsInSizes (judged_sizes_of sizes) events.now }
-    ensures long { IfOk result (λ v. vec_len v ≡ addresses (judged_sizes_of sizes)) }
-    ensures found { IfOk result (λ v. PairsTellUnprotected events.now v.items) }
-{
-    let firm = unlocked_history(alloc, events)?;
-    let mut locksets = LocksetFinder::new(alloc, sizes)?;
-    for place in 0..events.len() {
-        locksets.note(events, &firm, place)?;
-    }
-    locksets.found(alloc)
 }

@@ -1,15 +1,15 @@
 //! A word's accesses, and those of them that only a lock keeps apart.
 ghost use Rattle.std.specs.Prelude.{◌≡◌, ◌↔◌, ◌+◌, ◌<◌, ℕ, IsTrue, List, MatchOption, OnOk, slice_index};
-ghost use Rattle.base.specs.Prelude.{Has, most_processors};
+ghost use Rattle.base.specs.Prelude.{Has};
+ghost use Rattle.judge.specs.Prelude.{most_judged_processors};
 ghost use Rattle.journal.specs.declared.event.Event.{Event};
-ghost use Rattle.journal.specs.Sizes.{Sizes};
 ghost use Rattle.judge.specs.declared.locksets.watched_word.LockedAccess.{LockedAccess};
 ghost use Rattle.judge.specs.Locksets.Prelude.{AreWatchedRacing, AreWatchedStorers, IsWatchedNext, HeldLocksShare, IsWatchedKept};
 ghost use Rattle.judge.specs.Locksets.Prelude.{IsWatchedGuarded, IsWatchedGuardedWith, IsWatchedAlike, IsWatchCandidate, IsWatchedUnguarded};
-ghost use Rattle.judge.specs.Locksets.Prelude.{IsWatchedUnguardedWith, WatchedTells};
+ghost use Rattle.judge.specs.Locksets.Prelude.{IsUnwatched, IsWatchedUnguardedWith, WatchedTells, paired_access};
 
+use crate::cut::Cut;
 use crate::locksets::held_locks::HeldLocks;
-use journal::Clock;
 use std::alloc::{AllocError, Global};
 
 /// An access of a word, with the locks that its processor held.
@@ -19,16 +19,23 @@ pub(crate) struct LockedAccess {
     /// Whether it is a store.
     pub(crate) stores: bool,
     pub(crate) place: usize,
-    /// How many intervals its processor had closed before it, where locks order nothing.
-    pub(crate) interval: u32,
     pub(crate) held: HeldLocks,
 }
 
+/// One of two accesses that only a lock keeps apart.
+#[derive(Clone, Copy, Debug, PartialEq, Eq)]
+pub struct PairedAccess {
+    /// Its place in the history, counted from 0.
+    pub place: usize,
+    /// Who made it.
+    pub processor: usize,
+}
+
 /// Two accesses that only a lock keeps apart, and a lock that was held at both.
-#[derive(Clone, Copy)]
-pub(crate) struct Guarded {
-    pub(crate) places: (usize, usize),
-    pub(crate) lock: usize,
+#[derive(Clone, Copy, Debug, PartialEq, Eq)]
+pub struct Guarded {
+    pub accesses: (PairedAccess, PairedAccess),
+    pub lock: usize,
 }
 
 /// Who has stored to a word.
@@ -49,8 +56,20 @@ pub(crate) struct WatchedWord {
     /// Of each processor, kind and set of locks the last access, since a second processor has stored.
     pub(crate) accesses: Vec<LockedAccess>,
     /// Two accesses that only a lock keeps apart, and that hold none in common.
-    pub(crate) unguarded: Option<(usize, usize)>,
+    pub(crate) unguarded: Option<(PairedAccess, PairedAccess)>,
     pub(crate) guarded: Option<Guarded>,
+}
+
+impl LockedAccess {
+    /// The access, as it is told.
+    fn paired(&self) -> PairedAccess
+        ensures { result ≡ paired_access self.now }
+    {
+        PairedAccess {
+            place: self.place,
+            processor: self.processor,
+        }
+    }
 }
 
 impl WatchedStorers {
@@ -76,33 +95,33 @@ impl WatchedStorers {
     }
 }
 
-/// Whether the accesses, of which the second one's processor has this timestamp, need a lock.
-fn are_watched_racing(earlier: &LockedAccess, later: &LockedAccess, time: &Clock) -> bool
-    requires { earlier.now.processor < most_processors }
-    ensures { IsTrue result ↔ AreWatchedRacing earlier.now later.now (slice_index time.now) }
+/// Whether the accesses, of which the second one's processor knows this of the others, need a lock.
+fn are_watched_racing(earlier: &LockedAccess, later: &LockedAccess, cut: &Cut) -> bool
+    requires { earlier.now.processor < most_judged_processors }
+    ensures { IsTrue result ↔ AreWatchedRacing earlier.now later.now (slice_index cut.now) }
 {
     earlier.processor != later.processor
         && (earlier.stores || later.stores)
-        && time[earlier.processor] <= earlier.interval
+        && cut[earlier.processor] as usize <= earlier.place
 }
 
 /// The first of these accesses that needs a lock with a later one and has one in common with it.
 fn watched_word_first_guarded(
     accesses: &[LockedAccess],
     later: &LockedAccess,
-    time: &Clock,
+    cut: &Cut,
 ) -> Option<Guarded>
-    requires { (x : LockedAccess) → Has accesses.now x → x.processor < most_processors }
+    requires { (x : LockedAccess) → Has accesses.now x → x.processor < most_judged_processors }
     ensures { MatchOption result
-        ((x : LockedAccess) (l : ℕ) → Has accesses.now x → AreWatchedRacing x later.now (slice_index time.now)
+        ((x : LockedAccess) (l : ℕ) → Has accesses.now x → AreWatchedRacing x later.now (slice_index cut.now)
         → ¬ HeldLocksShare x.held later.now.held l)
-        (IsWatchedGuardedWith accesses.now later.now (slice_index time.now)) }
+        (IsWatchedGuardedWith accesses.now later.now (slice_index cut.now)) }
 {
     for access in accesses {
-        if are_watched_racing(access, later, time) {
+        if are_watched_racing(access, later, cut) {
             if let Some(lock) = access.held.common(&later.held) {
-                let places = (access.place, later.place);
-                return Some(Guarded { places, lock });
+                let accesses = (access.paired(), later.paired());
+                return Some(Guarded { accesses, lock });
             }
         }
     }
@@ -113,17 +132,17 @@ fn watched_word_first_guarded(
 fn watched_word_first_unguarded(
     accesses: &[LockedAccess],
     later: &LockedAccess,
-    time: &Clock,
-) -> Option<(usize, usize)>
-    requires { (x : LockedAccess) → Has accesses.now x → x.processor < most_processors }
+    cut: &Cut,
+) -> Option<(PairedAccess, PairedAccess)>
+    requires { (x : LockedAccess) → Has accesses.now x → x.processor < most_judged_processors }
     ensures { MatchOption result
-        ((x : LockedAccess) → Has accesses.now x → AreWatchedRacing x later.now (slice_index time.now)
+        ((x : LockedAccess) → Has accesses.now x → AreWatchedRacing x later.now (slice_index cut.now)
         → (l : ℕ) × HeldLocksShare x.held later.now.held l)
-        (IsWatchedUnguardedWith accesses.now later.now (slice_index time.now)) }
+        (IsWatchedUnguardedWith accesses.now later.now (slice_index cut.now)) }
 {
     for access in accesses {
-        if are_watched_racing(access, later, time) && access.held.common(&later.held).is_none() {
-            return Some((access.place, later.place));
+        if are_watched_racing(access, later, cut) && access.held.common(&later.held).is_none() {
+            return Some((access.paired(), later.paired()));
         }
     }
     None
@@ -154,9 +173,9 @@ fn keep_watched_access(
 }
 
 impl WatchedWord {
-    /// Before the first event.
+    /// Before its first access.
     pub(crate) fn new(alloc: Global) -> WatchedWord
-        ensures { (j : List Event) (a : ℕ) → WatchedTells j a 0 result }
+        ensures { (j : List Event) (a n : ℕ) → IsUnwatched j a n → WatchedTells j a n result }
     {
         WatchedWord {
             storers: WatchedStorers::Nobody,
@@ -167,41 +186,45 @@ impl WatchedWord {
     }
 
     /// Two accesses with a lock in common, up to the one that comes next.
-    fn guarded_with(&self, access: &LockedAccess, time: &Clock) -> Option<Guarded>
-        requires { (s : Sizes) × (j : List Event) × (a : ℕ) × (n : ℕ) × WatchedTells j a n self.now
-            × IsWatchedNext s j a n access.now (slice_index time.now) }
-        ensures { (s : Sizes) (j : List Event) (a n : ℕ) → WatchedTells j a n self.now
-            → IsWatchedNext s j a n access.now (slice_index time.now) → IsWatchedGuarded j a (n + 1) result }
+    fn guarded_with(&self, access: &LockedAccess, cut: &Cut) -> Option<Guarded>
+        requires { (j : List Event) × (a : ℕ) × (n : ℕ) × WatchedTells j a n self.now
+            × IsWatchedNext j a n access.now (slice_index cut.now) }
+        ensures { (j : List Event) (a n : ℕ) → WatchedTells j a n self.now
+            → IsWatchedNext j a n access.now (slice_index cut.now) → IsWatchedGuarded j a (n + 1) result }
     {
         if self.guarded.is_some() {
             return self.guarded;
         }
-        watched_word_first_guarded(&self.accesses, access, time)
+        watched_word_first_guarded(&self.accesses, access, cut)
     }
 
     /// Two with none in common.
-    fn unguarded_with(&self, access: &LockedAccess, time: &Clock) -> Option<(usize, usize)>
-        requires { (s : Sizes) × (j : List Event) × (a : ℕ) × (n : ℕ) × WatchedTells j a n self.now
-            × IsWatchedNext s j a n access.now (slice_index time.now) }
-        ensures { (s : Sizes) (j : List Event) (a n : ℕ) → WatchedTells j a n self.now
-            → IsWatchedNext s j a n access.now (slice_index time.now) → IsWatchedUnguarded j a (n + 1) result }
+    fn unguarded_with(
+        &self,
+        access: &LockedAccess,
+        cut: &Cut,
+    ) -> Option<(PairedAccess, PairedAccess)>
+        requires { (j : List Event) × (a : ℕ) × (n : ℕ) × WatchedTells j a n self.now
+            × IsWatchedNext j a n access.now (slice_index cut.now) }
+        ensures { (j : List Event) (a n : ℕ) → WatchedTells j a n self.now
+            → IsWatchedNext j a n access.now (slice_index cut.now) → IsWatchedUnguarded j a (n + 1) result }
     {
         if self.unguarded.is_some() {
             return self.unguarded;
         }
-        watched_word_first_unguarded(&self.accesses, access, time)
+        watched_word_first_unguarded(&self.accesses, access, cut)
     }
 
-    /// Takes note of an access of the word, which comes next; its processor has this timestamp. The only error is running
+    /// Takes note of an access of the word, which comes next; its processor knows this of the others. The only error is running
     /// out of memory.
-    pub(crate) fn note(&mut self, access: LockedAccess, time: &Clock) -> Result<(), AllocError>
-        requires { (s : Sizes) × (j : List Event) × (a : ℕ) × (n : ℕ) × WatchedTells j a n self.old
-            × IsWatchedNext s j a n access (slice_index time.now) }
-        ensures { OnOk result ((s : Sizes) (j : List Event) (a n : ℕ) → WatchedTells j a n self.old
-            → IsWatchedNext s j a n access (slice_index time.now) → WatchedTells j a (n + 1) self.new) }
+    pub(crate) fn note(&mut self, access: LockedAccess, cut: &Cut) -> Result<(), AllocError>
+        requires { (j : List Event) × (a : ℕ) × (n : ℕ) × WatchedTells j a n self.old
+            × IsWatchedNext j a n access (slice_index cut.now) }
+        ensures { OnOk result ((j : List Event) (a n : ℕ) → WatchedTells j a n self.old
+            → IsWatchedNext j a n access (slice_index cut.now) → WatchedTells j a (n + 1) self.new) }
     {
-        let guarded = self.guarded_with(&access, time);
-        let unguarded = self.unguarded_with(&access, time);
+        let guarded = self.guarded_with(&access, cut);
+        let unguarded = self.unguarded_with(&access, cut);
         self.guarded = guarded;
         self.unguarded = unguarded;
         self.storers = self.storers.with(&access);

@@ -29,14 +29,14 @@ type LastStores = [Option<Stored>; MOST_PROCESSORS];
 pub struct ReadableSources {
     pub(crate) processors: usize,
     pub(crate) addresses: usize,
-    pub(crate) clocks: EventClocks,
+    clocks: EventClocks,
     known: Known,
     /// The stores in order: of each address a row for each processor, sixteen rows an address.
-    pub(crate) stores: SparseTable<Vec<Stored>>,
+    stores: SparseTable<Vec<Stored>>,
 }
 
 /// Whether the event stores this value.
-pub(crate) fn is_store_of(event: Event, value: u32) -> bool
+fn is_store_of(event: Event, value: u32) -> bool
     ensures { IsTrue result ↔ ((a : ℕ) × (event.kind ≡ Store a value)) }
 {
     match event.kind {
@@ -101,7 +101,7 @@ impl ReadableSources {
     }
 
     /// The stores of the processor `by` to the address.
-    pub(crate) fn stores_of(&self, address: usize, by: usize) -> &[Stored]
+    fn stores_of(&self, address: usize, by: usize) -> &[Stored]
         requires tells { (j : List Event) × AreKeptSourcesOf j self.now }
         requires address { address < self.now.addresses }
         requires by { by < most_processors }

@@ -1,7 +1,7 @@
 //! Stores that a past may have, in order.
 ghost use Rattle.std.specs.Prelude.{◌≤◌, MatchOption};
 ghost use Rattle.base.specs.InOrderOnce.{InOrder};
-ghost use Rattle.judge.specs.Sources.Prelude.{IsUnorderedIndex, IsLastKnownStoreBelow, NoKnownStoreBelow};
+ghost use Rattle.judge.specs.Sources.Prelude.{IsKnownStoreIndex, IsLastKnownStoreBelow, NoKnownStoreBelow};
 
 /// A store. It takes 12 bytes.
 #[derive(Clone, Copy)]
@@ -17,7 +17,7 @@ pub(crate) struct Stored {
 /// Where the stores of intervals from the limit on begin, looked for by halving. Their intervals rise.
 pub(crate) fn first_stored_interval_from(stores: &[Stored], limit: usize) -> usize
     requires { InOrder (λ s t. s.interval ≤ t.interval) stores.now }
-    ensures { IsUnorderedIndex stores.now limit result }
+    ensures { IsKnownStoreIndex stores.now limit result }
 {
     stores.partition_point(|store| (store.interval as usize) < limit)
 }

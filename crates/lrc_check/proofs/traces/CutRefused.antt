@@ -56,7 +56,7 @@ cut_refused_line_no_event n place e same =
     omega (arith, cut_refused_begins_alike 99 101 _ _ same)
 
 -- what a fault says of that line
-cut_refused_said : (f : TraceFault) (t : Sizes) (n : ℕ) → 0 < n → n < 2 ^ 32 → TraceFaultSaysOfLine f t [] (cut_refused_line n) → f ≡ Cut
+cut_refused_said : (f : TraceFault) (t : Sizes) (n : ℕ) → 0 < n → n < 2 ^ 32 → TraceFaultSaysOfLine f t 0 (cut_refused_line n) → f ≡ Cut
 cut_refused_said Cut t n some small says = refl
 cut_refused_said BadLine t n some small says = absurd (says.1 refl (cut_refused_line_is_cut n some small))
 cut_refused_said BadNumber t n some small says =
@@ -69,12 +69,12 @@ cut_refused_said f t n some small says =
     (says.2.line_is ∙ event_words_are_line says.0 says.1)))
 
 cut_refused_bad_line_behind : (f : TraceFault) (t : Sizes) (n : ℕ) (rest : List ℕ) (more : List (List ℕ)) → 0 < n → n < 2 ^ 32
-    → parts_of_read_line 10 rest ≡ cut_refused_line n ∷ more → IsFaultyTraceLine (trace_text t []) rest (TraceFaultSaysOfLine f t []) → f ≡ Cut
+    → parts_of_read_line 10 rest ≡ cut_refused_line n ∷ more → IsFaultyTraceLine (trace_text t []) rest (TraceFaultSaysOfLine f t 0) → f ≡ Cut
 cut_refused_bad_line_behind f t n rest more some small parts bad =
     let lines : (bad.line ∷ parts_of_read_line 10 bad.more) ≡ (cut_refused_line n ∷ more) =
     sym (separator_behind_first_word 10 bad.line bad.more bad.cut.one_line) ∙ ap (parts_of_read_line 10) (sym bad.cut.bytes_are) ∙ parts in
     let same : bad.line ≡ cut_refused_line n = cc in
-    cut_refused_said f t n some small (subst (TraceFaultSaysOfLine f t []) same bad.holds)
+    cut_refused_said f t n some small (subst (TraceFaultSaysOfLine f t 0) same bad.holds)
 
 cut_refused_said_behind : (f : TraceFault) (t : Sizes) (n : ℕ) (rest : List ℕ) (more : List (List ℕ)) → 0 < n → n < 2 ^ 32
     → 0 < length more → f ≢ NoMemory → parts_of_read_line 10 rest ≡ cut_refused_line n ∷ more → IsTraceFaultBehind f t [] rest → f ≡ Cut

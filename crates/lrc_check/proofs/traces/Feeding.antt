@@ -1,17 +1,25 @@
 -- What is read of a text that comes line by line and piece by piece, with its labels.
-use Rattle.std.proofs.Common.{◌≡◌, ◌≢◌, ℕ, List, [], ◌∷◌, ◌++◌, Option, Some, None, refl, sym, ap, subst, ◌∙◌, append_assoc, append-nil}
-use Rattle.lrc_script.specs.LineReading.{IsLineReadOff}
+use Rattle.std.proofs.Common.{◌≡◌, ◌≢◌, ℕ, ◌+◌, ◌<◌, Bool, cond, true, false, ◌&&◌, List, [], ◌∷◌, ◌++◌, Option, Some, None, refl, sym, ap, subst, ◌∙◌, append_assoc, append-nil, length, slice_index_or, arith}
+use Rattle.std.specs.Prelude.{is_none}
+use Rattle.std.proofs.lemmas.List.{length-append}
+use Rattle.journal.specs.declared.event.Event.{Event}
+use Rattle.lrc_script.specs.LineReading.{IsLineReadOff, parts_of_read_line}
 use Rattle.lrc_script.proofs.Reading.Separators.{HasNoSeparator}
 use Rattle.lrc_check.specs.declared.traces.fault.TraceFault.{TraceFault}
 use Rattle.lrc_check.specs.declared.traces.fault.TraceFault.TheVariants.{NoMemory}
 use Rattle.lrc_check.specs.declared.traces.trace.Trace.{Trace}
-use Rattle.lrc_check.specs.Traces.Begun.{IsTraceBegun, trace_begun_text, trace_begun_line_number}
+use Rattle.lrc_check.specs.Traces.Begun.{IsTraceBegun, IsTraceLeft, IsTraceSoFar, trace_begun_events, trace_begun_line_count, trace_begun_line_number, trace_begun_sizes, trace_begun_text, trace_text_so_far}
 use Rattle.lrc_check.specs.Traces.TraceFaults.{IsTraceFaultLasting, IsTraceFault}
-use Rattle.lrc_check.specs.Traces.FedText.{FedTextBeginsTrace, IsFedTextOf, FedTextFaultStays, FedText, fed_text_labels_with, fed_text_with}
-use Rattle.lrc_check.specs.Traces.Labels.{without_trace_labels, line_without_trace_label, trace_label_by_lines, trace_labels_of}
+use Rattle.lrc_check.specs.Traces.FedText.{FedTextBeginsTrace, IsFedTextOf, IsFedTextWhole, FedTextFaultStays, FedText, HasReadFedText, fed_text_labels_with, fed_text_line_number, fed_text_with}
+use Rattle.lrc_check.specs.Traces.LawfulTraces.{IsLawfulTrace}
+use Rattle.lrc_check.specs.Traces.LabelLines.{AreTraceLabelsLeft, trace_line_count}
+use Rattle.lrc_check.specs.Traces.Labels.{without_trace_labels, line_without_trace_label, trace_event_label, trace_label_by_lines, trace_labels_of}
 use Rattle.lrc_check.specs.Traces.Sizes.{trace_sizes_of}
+use Rattle.lrc_check.proofs.traces.LabelLines.{label_lines_let_go, label_lines_of_event, label_lines_unread}
+use Rattle.lrc_check.proofs.traces.TextParts.{text_parts_of_no_other_trace}
+use Rattle.lrc_check.specs.Traces.TraceText.{trace_text}
 use Rattle.lrc_check.proofs.traces.Labelling.{labelling_lines_last, labelling_lines_read_on}
-use Rattle.lrc_check.proofs.traces.TraceWalk.{trace_walk_fault_only, trace_walk_first_fault, trace_walk_next_fault}
+use Rattle.lrc_check.proofs.traces.TraceWalk.{trace_walk_fault_behind, trace_walk_fault_only, trace_walk_first_fault}
 
 -- ---- a line
 
@@ -34,18 +42,22 @@ feeding_line_fault f n before bytes line after whole cut lasts was more =
     (lasts (without_trace_labels (after ++ more)))
 
 -- memory ran out before it was read
-pub feeding_memory_fault : (begun : Option Trace) (line : List ℕ) → IsTraceBegun begun → HasNoSeparator 10 line
-    → IsTraceFaultLasting (trace_begun_text begun ++ (line ++ 10 ∷ [])) (trace_begun_line_number begun) NoMemory
-feeding_memory_fault None line h clean = trace_walk_first_fault NoMemory line clean tt
-feeding_memory_fault (Some t) line h clean = trace_walk_next_fault NoMemory (trace_sizes_of t.sizes) t.events.items line h clean tt
+pub feeding_memory_fault : (gone : ℕ) (front : List Event) (begun : Option Trace) (line : List ℕ) → IsTraceBegun gone front begun
+    → HasNoSeparator 10 line
+    → IsTraceFaultLasting (trace_begun_text front begun ++ (line ++ 10 ∷ [])) (trace_begun_line_number gone begun) NoMemory
+feeding_memory_fault gone front None line h clean = trace_walk_first_fault NoMemory line clean tt
+feeding_memory_fault gone front (Some t) line h clean =
+    trace_walk_fault_behind NoMemory (trace_sizes_of t.sizes) gone front t.events.items line h clean tt
 
 -- the number and the fault of a line of which a growth was refused
-pub feeding_refused_label : (begun : Option Trace) (line : List ℕ) (e : ℕ × TraceFault) → IsTraceBegun begun → HasNoSeparator 10 line
-    → e.0 ≡ trace_begun_line_number begun → e.1 ≡ NoMemory → IsTraceFaultLasting (trace_begun_text begun ++ (line ++ 10 ∷ [])) e.0 e.1
-feeding_refused_label begun line e h clean number fault =
-    subst (λ (n : ℕ). IsTraceFaultLasting (trace_begun_text begun ++ (line ++ 10 ∷ [])) n e.1) (sym number)
-    (subst (λ (f : TraceFault). IsTraceFaultLasting (trace_begun_text begun ++ (line ++ 10 ∷ [])) (trace_begun_line_number begun) f) (sym fault)
-    (feeding_memory_fault begun line h clean))
+pub feeding_refused_label : (gone : ℕ) (front : List Event) (begun : Option Trace) (line : List ℕ) (e : ℕ × TraceFault)
+    → IsTraceBegun gone front begun → HasNoSeparator 10 line → e.0 ≡ trace_begun_line_number gone begun → e.1 ≡ NoMemory
+    → IsTraceFaultLasting (trace_begun_text front begun ++ (line ++ 10 ∷ [])) e.0 e.1
+feeding_refused_label gone front begun line e h clean number fault =
+    let text = trace_begun_text front begun ++ (line ++ 10 ∷ []) in
+    subst (λ (n : ℕ). IsTraceFaultLasting text n e.1) (sym number)
+    (subst (λ (f : TraceFault). IsTraceFaultLasting text (trace_begun_line_number gone begun) f) (sym fault)
+    (feeding_memory_fault gone front begun line h clean))
 
 -- the same of the same text
 pub feeding_fault_same : (e : ℕ × TraceFault) (x y : List ℕ) → x ≡ y → IsTraceFault x e.0 e.1 → IsTraceFault y e.0 e.1
@@ -71,20 +83,51 @@ feeding_line_read change old now left kept end behind piece none cut was more =
 
 -- ---- what was read of all bytes
 
-pub feeding_further : (x y : FedText) (bytes piece : List ℕ)
-    → ((more : List ℕ) → fed_text_with y more ≡ fed_text_with x (piece ++ more))
-    → ((more : List ℕ) → fed_text_labels_with y more ≡ fed_text_labels_with x (piece ++ more))
-    → IsFedTextOf bytes x → IsFedTextOf (bytes ++ piece) y
-feeding_further x y bytes piece text labels h = record {
-  text = λ more. text more ∙ h.text (piece ++ more) ∙ ap without_trace_labels (sym (append_assoc bytes piece more));
-  labels = λ more. labels more ∙ h.labels (piece ++ more) ∙ ap trace_labels_of (sym (append_assoc bytes piece more));
+pub feeding_further : (x y : FedText) (bytes piece : List ℕ) (front : List Event) (told : List ℕ)
+    → (IsTraceSoFar x.sizes x.gone front x.events → IsTraceSoFar y.sizes y.gone front y.events)
+    → (IsTraceSoFar x.sizes x.gone front x.events → (more : List ℕ) → fed_text_with front y more ≡ fed_text_with front x (piece ++ more))
+    → ((more : List ℕ) → fed_text_labels_with [] y more ≡ fed_text_labels_with [] x (piece ++ more))
+    → (AreTraceLabelsLeft x.headed x.gone (trace_line_count x.sizes x.events) told x.labels
+    → AreTraceLabelsLeft y.headed y.gone (trace_line_count y.sizes y.events) told y.labels)
+    → IsFedTextOf bytes front told x → IsFedTextOf (bytes ++ piece) front told y
+feeding_further x y bytes piece front told trace text labels lines h = record {
+  text = λ more. text h.trace more ∙ h.text (piece ++ more) ∙ ap without_trace_labels (sym (append_assoc bytes piece more));
+  labels = λ more.
+      ap (λ (t : List ℕ). told ++ t) (labels more) ∙ h.labels (piece ++ more)
+      ∙ ap trace_labels_of (sym (append_assoc bytes piece more));
+  trace = trace h.trace;
+  lines = lines h.lines;
 }
 
-pub feeding_fault_further : (x : FedText) (bytes piece : List ℕ) (n : ℕ) (f : TraceFault)
-    → ((more : List ℕ) → IsTraceFault (fed_text_with x (piece ++ more)) n f) → IsFedTextOf bytes x → FedTextFaultStays (bytes ++ piece) n f
-feeding_fault_further x bytes piece n f fault h more =
+pub feeding_fault_further : (x : FedText) (bytes piece : List ℕ) (front : List Event) (told : List ℕ) (n : ℕ) (f : TraceFault)
+    → (IsTraceSoFar x.sizes x.gone front x.events → (more : List ℕ) → IsTraceFault (fed_text_with front x (piece ++ more)) n f)
+    → IsFedTextOf bytes front told x → FedTextFaultStays (bytes ++ piece) n f
+feeding_fault_further x bytes piece front told n f fault h more =
     subst (λ (t : List ℕ). IsTraceFault t n f)
-    (h.text (piece ++ more) ∙ ap without_trace_labels (sym (append_assoc bytes piece more))) (fault more)
+    (h.text (piece ++ more) ∙ ap without_trace_labels (sym (append_assoc bytes piece more))) (fault h.trace more)
+
+-- what was read, whether or not a line was refused
+pub feeding_read_further : (x y : FedText) (bytes piece : List ℕ) (front : List Event) (told : List ℕ)
+    → (IsTraceSoFar x.sizes x.gone front x.events → IsTraceSoFar y.sizes y.gone front y.events)
+    → (IsTraceSoFar x.sizes x.gone front x.events → (more : List ℕ)
+    → (rest : List ℕ) × (fed_text_with front x (piece ++ more) ≡ trace_text_so_far y.sizes (front ++ y.events) ++ rest))
+    → IsFedTextOf bytes front told x → HasReadFedText (bytes ++ piece) front y
+feeding_read_further x y bytes piece front told trace text h = record {
+  trace = trace h.trace;
+  text = λ more.
+      let begins = text h.trace more in (
+        begins.0,
+        ap without_trace_labels (append_assoc bytes piece more) ∙ sym (h.text (piece ++ more)) ∙ begins.1,
+      );
+}
+
+-- no line was refused
+pub feeding_read : (x : FedText) (bytes : List ℕ) (front : List Event) (told : List ℕ) → IsFedTextOf bytes front told x
+    → HasReadFedText bytes front x
+feeding_read x bytes front told h = record {
+  trace = h.trace;
+  text = λ more. (without_trace_labels (x.unfinished ++ more), sym (h.text more));
+}
 
 -- no trace begins so
 pub feeding_fault_never_begins : (bytes : List ℕ) (n : ℕ) (f : TraceFault) → f ≢ NoMemory → FedTextFaultStays bytes n f → ¬ FedTextBeginsTrace bytes
@@ -102,3 +145,94 @@ pub feeding_labels_whole : (labels rest bytes : List ℕ) → rest ≡ [] → la
 feeding_labels_whole labels rest bytes none h =
     sym (append-nil labels) ∙ ap (λ (t : List ℕ). labels ++ trace_labels_of (t ++ [])) (sym none) ∙ h
     ∙ ap trace_labels_of (append-nil bytes)
+
+-- what was read so far, as readers have it
+abbrev pub feeding_fed_text : ℕ → Bool → Option Trace → List ℕ → List ℕ → FedText
+feeding_fed_text gone headed begun labels unfinished = record {
+  gone = gone;
+  headed = headed;
+  sizes = trace_begun_sizes begun;
+  events = trace_begun_events begun;
+  labels = labels;
+  unfinished = unfinished;
+}
+
+-- the line behind those that were read
+pub feeding_line_number : (gone : ℕ) (headed : Bool) (begun : Option Trace) (labels unfinished : List ℕ) → IsTraceLeft gone begun
+    → trace_begun_line_number gone begun ≡ fed_text_line_number (feeding_fed_text gone headed begun labels unfinished)
+feeding_line_number gone headed None labels unfinished left = omega (arith, left)
+feeding_line_number gone headed (Some t) labels unfinished left = omega arith
+
+pub feeding_whole : (gone : ℕ) (headed : Bool) (begun : Option Trace) (labels unfinished bytes : List ℕ) (front : List Event) (told : List ℕ)
+    → begun ≢ None → unfinished ≡ [] → IsFedTextOf bytes front told (feeding_fed_text gone headed begun labels unfinished)
+    → IsFedTextWhole bytes front told (feeding_fed_text gone headed begun labels unfinished)
+feeding_whole gone headed None labels unfinished bytes front told some none h = absurd (some refl)
+feeding_whole gone headed (Some t) labels unfinished bytes front told some none h =
+    let s = trace_sizes_of t.sizes in
+    let es = front ++ t.events.items in
+    let all : without_trace_labels bytes ≡ trace_text s es =
+    sym (ap without_trace_labels (append-nil bytes)) ∙ sym (h.text [])
+    ∙ ap (λ (x : List ℕ). trace_text s es ++ without_trace_labels (x ++ [])) none ∙ append-nil (trace_text s es) in
+    record {
+      sizes = t.sizes;
+      known = refl;
+      trace = h.trace.1;
+      text = all;
+      again = text_parts_of_no_other_trace s es (without_trace_labels bytes) h.trace.1 all;
+      labels = feeding_labels_whole (told ++ labels) unfinished bytes none
+          (append_assoc told labels (trace_labels_of (unfinished ++ [])) ∙ h.labels []);
+    }
+
+-- ---- what was read was let go of
+
+feeding_let_go_trace : (begun : Option Trace) (gone : ℕ) (front : List Event) → IsTraceBegun gone front begun
+    → IsTraceSoFar (trace_begun_sizes begun) (gone + length (trace_begun_events begun)) (front ++ trace_begun_events begun) []
+feeding_let_go_trace None gone front h =
+    (omega (arith, h.0, length-append front []), append-nil (front ++ []) ∙ h.1)
+feeding_let_go_trace (Some t) gone front h = (
+  omega (arith, h.0, length-append front t.events.items),
+  subst (IsLawfulTrace (trace_sizes_of t.sizes)) (sym (append-nil (front ++ t.events.items))) h.1,
+)
+
+feeding_let_go_lines : (begun : Option Trace) (headed : Bool) (gone : ℕ) (told labels : List ℕ) → IsTraceLeft gone begun
+    → AreTraceLabelsLeft headed gone (trace_begun_line_count begun) told labels
+    → AreTraceLabelsLeft (headed && is_none begun) (gone + length (trace_begun_events begun)) (trace_line_count (trace_begun_sizes begun) [])
+    (told ++ labels) []
+feeding_let_go_lines None true gone told labels none h =
+    let same : gone + 0 ≡ gone = omega arith in rw same (label_lines_unread true gone told labels none h)
+feeding_let_go_lines None false gone told labels none h =
+    let same : gone + 0 ≡ gone = omega arith in rw same (label_lines_unread false gone told labels none h)
+feeding_let_go_lines (Some t) true gone told labels left h = label_lines_let_go true gone (length t.events.items) told labels h
+feeding_let_go_lines (Some t) false gone told labels left h = label_lines_let_go false gone (length t.events.items) told labels h
+
+pub feeding_let_go : (gone : ℕ) (headed : Bool) (begun : Option Trace) (labels unfinished bytes : List ℕ) (front : List Event) (told : List ℕ)
+    (y : FedText) → IsTraceLeft gone begun → y.gone ≡ gone + length (trace_begun_events begun) → y.headed ≡ headed && is_none begun
+    → y.sizes ≡ trace_begun_sizes begun → y.events ≡ [] → y.labels ≡ [] → y.unfinished ≡ unfinished
+    → IsFedTextOf bytes front told (feeding_fed_text gone headed begun labels unfinished)
+    → IsFedTextOf bytes (front ++ trace_begun_events begun) (told ++ labels) y
+feeding_let_go gone headed begun labels unfinished bytes front told y left count head sizes events none rest h = record {
+  text = λ more. rw (sizes, events, rest, append-nil (front ++ trace_begun_events begun)) (h.text more);
+  labels = λ more. rw (none, rest) (append_assoc told labels (trace_labels_of (unfinished ++ more)) ∙ h.labels more);
+  trace = rw (sizes, count, events) (feeding_let_go_trace begun gone front h.trace);
+  lines = rw (head, sizes, count, events, none) (feeding_let_go_lines begun headed gone told labels left h.lines);
+}
+
+pub feeding_read_let_go : (gone : ℕ) (headed : Bool) (begun : Option Trace) (labels unfinished bytes : List ℕ) (front : List Event) (y : FedText)
+    → y.gone ≡ gone + length (trace_begun_events begun) → y.sizes ≡ trace_begun_sizes begun → y.events ≡ []
+    → HasReadFedText bytes front (feeding_fed_text gone headed begun labels unfinished)
+    → HasReadFedText bytes (front ++ trace_begun_events begun) y
+feeding_read_let_go gone headed begun labels unfinished bytes front y count sizes events h = record {
+  trace = rw (sizes, count, events) (feeding_let_go_trace begun gone front h.trace);
+  text = λ more. rw (sizes, events, append-nil (front ++ trace_begun_events begun)) (h.text more);
+}
+
+-- ---- the label of an event that is left
+
+pub feeding_label : (gone : ℕ) (headed : Bool) (begun : Option Trace) (labels unfinished bytes : List ℕ) (front : List Event) (told : List ℕ)
+    (index : ℕ) → index < length (trace_begun_events begun)
+    → IsFedTextOf bytes front told (feeding_fed_text gone headed begun labels unfinished)
+    → slice_index_or (parts_of_read_line 10 labels) (cond headed (index + 1) index) [] ≡ trace_event_label (trace_labels_of bytes) (gone + index)
+feeding_label gone headed None labels unfinished bytes front told index less h = absurd (omega arith)
+feeding_label gone headed (Some t) labels unfinished bytes front told index less h =
+    label_lines_of_event headed gone (length t.events.items) index told labels (trace_labels_of (unfinished ++ [])) (trace_labels_of bytes)
+    h.lines less (h.labels [] ∙ ap trace_labels_of (append-nil bytes))

@@ -5,7 +5,6 @@ use Rattle.std.specs.List.{AllByRecursion}
 use Rattle.std.specs.Fmt.{decimal}
 use Rattle.std.proofs.lemmas.List.{append_cancel_right}
 use Rattle.std.proofs.lemmas.List.Elements.{All-contains, All-from_recursion}
-use Rattle.base.specs.Limits.{most_held}
 use Rattle.journal.specs.declared.event.Event.{Event}
 use Rattle.journal.specs.declared.event.Kind.{Kind}
 use Rattle.journal.specs.declared.event.Kind.TheVariants as kind
@@ -17,7 +16,7 @@ use Rattle.lrc_check.specs.declared.traces.fault.TraceFault.{TraceFault}
 use Rattle.lrc_check.specs.declared.traces.fault.TraceFault.TheVariants.{Cut, BadLine, BadNumber, BadPlace, BadProcessor, OutOfRange, BadLock, BadFlag, TooLong}
 use Rattle.lrc_check.specs.Traces.Sizes.{AreTraceSizes}
 use Rattle.lrc_check.specs.Traces.TraceText.{trace_text}
-use Rattle.lrc_check.specs.Traces.LawfulTraces.{IsLawfulTrace, IsWithinLawfulTrace}
+use Rattle.lrc_check.specs.Traces.LawfulTraces.{IsLawfulTrace, IsWithinLawfulTrace, most_traced_events}
 use Rattle.lrc_check.specs.Traces.Names.{trace_name_numbers}
 use Rattle.lrc_check.specs.Traces.TraceLines.{HasBadTraceLineNumber, IsTraceLineOfCut, IsTraceLineOfEvent, IsNoTraceLineNumber, IsTraceLineShaped}
 use Rattle.lrc_check.specs.Traces.TraceFaults.{BeginsTraceText, TraceFaultSaysOfEvent, IsTraceFaultPast, TraceFaultSaysOfLine}
@@ -55,7 +54,7 @@ never_past_sizes BadFlag s (kind.Await f) within past = omega arith
 never_past_sizes _ s k within past = absurd past
 
 -- an event that may come next is none of which a fault says something
-never_due_event : (f : TraceFault) (s : Sizes) (count place : ℕ) (e g : Event) → IsWithinLawfulTrace s g → count < most_held
+never_due_event : (f : TraceFault) (s : Sizes) (count place : ℕ) (e g : Event) → IsWithinLawfulTrace s g → count < most_traced_events
     → place ≡ count → e ≡ g → TraceFaultSaysOfEvent f s count place e → ⊥
 never_due_event BadPlace s count place e g within room there same says = says there
 never_due_event BadProcessor s count place e g within room there same says =
@@ -108,7 +107,7 @@ never_due_bad_number s es line h next b =
 
 -- a line of which a fault says what is wrong isn't due
 never_due_if_faulty : (f : TraceFault) (s : Sizes) (es : List Event) (line : List ℕ) → AreTraceSizes s → IsNextOfTextParts s es line
-    → TraceFaultSaysOfLine f s es line → ⊥
+    → TraceFaultSaysOfLine f s (length es) line → ⊥
 never_due_if_faulty Cut s es line h next says = never_due_as_cut s es line h next says.1
 never_due_if_faulty BadLine s es line h next says = says.0 _ _ _ _ (never_next_unshaped s es line h next)
 never_due_if_faulty BadNumber s es line h next says = never_due_bad_number s es line h next says
@@ -116,6 +115,6 @@ never_due_if_faulty f s es line h next says = never_due_event_line f s es line s
 
 -- no trace has it there
 pub never_begins : (f : TraceFault) (s : Sizes) (es : List Event) (line : List ℕ) → IsLawfulTrace s es → HasNoSeparator 10 line
-    → TraceFaultSaysOfLine f s es line → BeginsTraceText (trace_text s es ++ (line ++ 10 ∷ [])) → ⊥
+    → TraceFaultSaysOfLine f s (length es) line → BeginsTraceText (trace_text s es ++ (line ++ 10 ∷ [])) → ⊥
 never_begins f s es line h clean says begins =
     never_due_if_faulty f s es line h.sizes (text_parts_next_due s es line h clean begins) says

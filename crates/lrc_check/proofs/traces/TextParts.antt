@@ -7,7 +7,6 @@ use Rattle.std.proofs.lemmas.Bool.{eqb-true}
 use Rattle.std.proofs.lemmas.List.{append_cancel_right, length-append}
 use Rattle.std.proofs.lemmas.List.Elements.{recursion_from_All}
 use Rattle.std.proofs.lemmas.List.Splits.{length-slice_split}
-use Rattle.base.specs.Limits.{most_held}
 use Rattle.journal.specs.declared.event.Event.{Event}
 use Rattle.journal.specs.declared.event.Kind.{Kind}
 use Rattle.journal.specs.declared.event.Kind.TheVariants as kind
@@ -23,7 +22,7 @@ use Rattle.lrc_report.specs.ReportText.{report_event_text, report_events_text}
 use Rattle.lrc_check.specs.Traces.Sizes.{AreTraceSizes, trace_sizes_as_script}
 use Rattle.lrc_check.specs.Traces.Heads.{trace_head_numbers_of}
 use Rattle.lrc_check.specs.Traces.TraceText.{trace_text_first_line, trace_text}
-use Rattle.lrc_check.specs.Traces.LawfulTraces.{HasLawfulTraceWords, IsNoOtherLawfulTrace, IsLawfulTrace, IsWithinLawfulTrace}
+use Rattle.lrc_check.specs.Traces.LawfulTraces.{HasLawfulTraceWords, IsNoOtherLawfulTrace, IsLawfulTrace, IsWithinLawfulTrace, most_traced_events}
 use Rattle.lrc_check.specs.Traces.Names.{trace_name_numbers}
 use Rattle.lrc_check.specs.Traces.TraceFaults.{BeginsTraceText}
 use Rattle.lrc_check.proofs.traces.EventWords.{AreEventWordsNumbers, event_words_clean_line, event_words_bytes, event_words_clean_bytes, event_words_clean_decimals, event_words_decimals_same, event_words_differ, event_words_plain_word, event_words_splits_agree, event_words_are_line}
@@ -41,12 +40,12 @@ text_parts_head_numbers_few p n w l g false h = h
 
 pub text_parts_head_small : (s : Sizes) → AreTraceSizes s → AreDecimalNumbers (trace_head_numbers_of s)
 text_parts_head_small s h =
-    let judged = h.judged in
+    let streamed = h.streamed in
     text_parts_head_numbers_few s.processors s.pages s.words s.locks s.flags (eqb s.flags 0) (
-      omega (arith, judged.processors),
+      omega (arith, streamed.processors),
       (
-        omega (arith, judged.pages),
-        (omega (arith, judged.words), (omega (arith, judged.locks), (omega (arith, judged.flags), tt))),
+        omega (arith, streamed.pages),
+        (omega (arith, streamed.words), (omega (arith, streamed.locks), (omega (arith, streamed.flags), tt))),
       ),
     )
 
@@ -102,24 +101,24 @@ text_parts_heads_differ s t h k e =
 
 text_parts_kind_small : (s : Sizes) (k : Kind) → AreTraceSizes s → WellFormedKindInRange s k → HasLawfulTraceWords k → AreDecimalNumbers (trace_name_numbers k)
 text_parts_kind_small s (kind.Load a v) h range words =
-    (omega (arith, h.judged.addresses, range), (words, tt))
+    (omega (arith, h.streamed.addresses, range), (words, tt))
 text_parts_kind_small s (kind.Store a v) h range words =
-    (omega (arith, h.judged.addresses, range), (words, tt))
+    (omega (arith, h.streamed.addresses, range), (words, tt))
 text_parts_kind_small s (kind.Fetch w n r d) h range words =
-    (omega (arith, h.judged.pages, range), (words.0, (words.1, (words.2, tt))))
-text_parts_kind_small s (kind.Ask l) h range words = (omega (arith, h.judged.locks, range), tt)
-text_parts_kind_small s (kind.Acquire l) h range words = (omega (arith, h.judged.locks, range), tt)
-text_parts_kind_small s (kind.Release l) h range words = (omega (arith, h.judged.locks, range), tt)
+    (omega (arith, h.streamed.pages, range), (words.0, (words.1, (words.2, tt))))
+text_parts_kind_small s (kind.Ask l) h range words = (omega (arith, h.streamed.locks, range), tt)
+text_parts_kind_small s (kind.Acquire l) h range words = (omega (arith, h.streamed.locks, range), tt)
+text_parts_kind_small s (kind.Release l) h range words = (omega (arith, h.streamed.locks, range), tt)
 text_parts_kind_small s kind.Arrive h range words = tt
 text_parts_kind_small s kind.Depart h range words = tt
-text_parts_kind_small s (kind.Set f) h range words = (omega (arith, h.judged.flags, range), tt)
-text_parts_kind_small s (kind.Watch f) h range words = (omega (arith, h.judged.flags, range), tt)
-text_parts_kind_small s (kind.Await f) h range words = (omega (arith, h.judged.flags, range), tt)
+text_parts_kind_small s (kind.Set f) h range words = (omega (arith, h.streamed.flags, range), tt)
+text_parts_kind_small s (kind.Watch f) h range words = (omega (arith, h.streamed.flags, range), tt)
+text_parts_kind_small s (kind.Await f) h range words = (omega (arith, h.streamed.flags, range), tt)
 
-pub text_parts_event_small : (s : Sizes) (i : ℕ) (e : Event) → AreTraceSizes s → i ≤ most_held → IsWithinLawfulTrace s e → AreEventWordsNumbers i e
+pub text_parts_event_small : (s : Sizes) (i : ℕ) (e : Event) → AreTraceSizes s → i ≤ most_traced_events → IsWithinLawfulTrace s e → AreEventWordsNumbers i e
 text_parts_event_small s i e h le within = (
   omega (arith, le),
-  (omega (arith, within.processor, h.judged.processors), text_parts_kind_small s e.kind h within.kind within.words),
+  (omega (arith, within.processor, h.streamed.processors), text_parts_kind_small s e.kind h within.kind within.words),
 )
 
 -- events at their places, from i on
@@ -127,7 +126,7 @@ abbrev pub AreTextPartsSmall : ℕ → List Event → Type 0
 AreTextPartsSmall i [] = Unit {0}
 AreTextPartsSmall i (e ∷ es) = AreEventWordsNumbers i e × AreTextPartsSmall (i + 1) es
 
-text_parts_events_small : (s : Sizes) (i : ℕ) (es : List Event) → AreTraceSizes s → i + length es ≤ most_held
+text_parts_events_small : (s : Sizes) (i : ℕ) (es : List Event) → AreTraceSizes s → i + length es ≤ most_traced_events
     → AllByRecursion (IsWithinLawfulTrace s) es → AreTextPartsSmall i es
 text_parts_events_small s i [] h le within = tt
 text_parts_events_small s i (e ∷ es) h le within =
@@ -207,7 +206,7 @@ pub record IsNextOfTextParts (s : Sizes) (es : List Event) (line : List ℕ) : T
   pub event : Event
   pub line_is : line ≡ event_words_bytes (length es) event
   pub within : IsWithinLawfulTrace s event
-  pub room : length es < most_held
+  pub room : length es < most_traced_events
 
 -- a line among those of events
 record IsAmongTextParts (i : ℕ) (es fs : List Event) (line : List ℕ) : Type 0 where

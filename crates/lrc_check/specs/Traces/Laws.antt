@@ -1,6 +1,6 @@
 -- What is promised of traces.
 use Rattle.std.specs.Prelude.{◌≡◌, ◌≤◌, List, ◌++◌, length, All, ◌≢◌, ℕ, ◌<◌}
-use Rattle.base.specs.Limits.{most_cut, most_held}
+use Rattle.base.specs.Limits.{most_cut}
 use Rattle.journal.specs.declared.event.Event.{Event}
 use Rattle.journal.specs.Sizes.{Sizes}
 use Rattle.journal.specs.Log.{Log}
@@ -11,7 +11,7 @@ use Rattle.lrc_check.specs.declared.traces.fault.TraceFault.TheVariants.{Cut, No
 use Rattle.lrc_check.specs.Traces.Sizes.{AreTraceSizes}
 use Rattle.lrc_check.specs.Traces.TraceText.{trace_text_first_line, trace_text}
 use Rattle.lrc_check.specs.Traces.Labels.{without_trace_labels}
-use Rattle.lrc_check.specs.Traces.LawfulTraces.{HasLawfulTraceWords, IsNoOtherLawfulTrace, IsLawfulTrace}
+use Rattle.lrc_check.specs.Traces.LawfulTraces.{HasLawfulTraceWords, IsNoOtherLawfulTrace, IsLawfulTrace, most_traced_events}
 use Rattle.lrc_check.specs.Traces.TraceFaults.{IsTraceFault}
 
 -- a trace's text has no label
@@ -22,9 +22,9 @@ UnlabelledTraceLaw = (s : Sizes) (es : List Event) → IsLawfulTrace s es → wi
 abbrev pub OneTraceLaw : Type 0
 OneTraceLaw = (s : Sizes) (es : List Event) → IsLawfulTrace s es → IsNoOtherLawfulTrace (trace_text s es) s es
 
--- a well formed journal of words, no longer than a journal can be, is a trace
+-- a well formed journal of words, no longer than a trace may be, is a trace
 abbrev pub WellFormedTraceLaw : Type 0
-WellFormedTraceLaw = (s : Sizes) (es : List Event) → AreTraceSizes s → length es ≤ most_held → WellFormed s es
+WellFormedTraceLaw = (s : Sizes) (es : List Event) → AreTraceSizes s → length es ≤ most_traced_events → WellFormed s es
     → All (λ e. HasLawfulTraceWords e.kind) es → IsLawfulTrace s es
 
 -- what is printed of a journal of which nothing was cut off is, behind the line of its sizes, the text of a trace of

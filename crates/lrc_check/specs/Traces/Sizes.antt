@@ -1,7 +1,7 @@
 -- The sizes of a trace.
 use Rattle.std.specs.Prelude.{◌≤◌}
 use Rattle.journal.specs.Sizes.{Sizes}
-use Rattle.judge.specs.JudgedSizes.{AreJudgedSizes}
+use Rattle.judge.specs.JudgedSizes.{AreStreamedSizes}
 use Rattle.lrc_script.specs.Plan.{Plan, plan_of_sizes}
 use Rattle.lrc_check.specs.declared.traces.trace.TraceSizes.{TraceSizes}
 
@@ -15,9 +15,10 @@ trace_sizes_of s = record {
   flags = s.flags;
 }
 
--- the sizes that a trace may have: those of a history that is judged, with a processor, a page and a word at least
+-- the sizes that a trace may have: those of a history that is judged as it comes, with a processor, a page and a word at
+-- least
 pub record AreTraceSizes (s : Sizes) : Type 0 where
-  pub judged : AreJudgedSizes s
+  pub streamed : AreStreamedSizes s
   pub some_processors : 1 ≤ s.processors
   pub some_pages : 1 ≤ s.pages
   pub some_words : 1 ≤ s.words

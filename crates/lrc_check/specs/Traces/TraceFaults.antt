@@ -1,6 +1,5 @@
 -- What each fault says of the bytes.
 use Rattle.std.specs.Prelude.{◌≡◌, ◌≢◌, ℕ, ◌+◌, ◌<◌, ◌≤◌, ◌⊎◌, List, [], ◌∷◌, ◌++◌, length}
-use Rattle.base.specs.Limits.{most_held}
 use Rattle.journal.specs.declared.event.Event.{Event}
 use Rattle.journal.specs.declared.event.Kind.{Kind}
 use Rattle.journal.specs.declared.event.Kind.TheVariants as kind
@@ -15,7 +14,7 @@ use Rattle.lrc_check.specs.declared.traces.fault.TraceFault.TheVariants.{Truncat
 use Rattle.lrc_check.specs.Traces.Sizes.{AreTraceSizes}
 use Rattle.lrc_check.specs.Traces.Heads.{AreNoTraceHeadNumbers, IsTraceHeadOfNumbers}
 use Rattle.lrc_check.specs.Traces.TraceText.{trace_text_first_line, trace_text}
-use Rattle.lrc_check.specs.Traces.LawfulTraces.{IsLawfulTrace}
+use Rattle.lrc_check.specs.Traces.LawfulTraces.{IsLawfulTrace, most_traced_events}
 use Rattle.lrc_check.specs.Traces.TraceLines.{HasBadTraceLineNumber, HasNoTraceLineShape, IsTraceLineOfCut, IsTraceLineOfEvent}
 
 -- a fault of the first line, by what a script's reader calls it
@@ -49,16 +48,16 @@ IsTraceFaultPast _ s k = ⊥
 abbrev pub TraceFaultSaysOfEvent : TraceFault → Sizes → ℕ → ℕ → Event → Type 0
 TraceFaultSaysOfEvent BadPlace s count place e = place ≢ count
 TraceFaultSaysOfEvent BadProcessor s count place e = s.processors ≤ e.processor
-TraceFaultSaysOfEvent TooLong s count place e = most_held ≤ count
+TraceFaultSaysOfEvent TooLong s count place e = most_traced_events ≤ count
 TraceFaultSaysOfEvent fault s count place e = IsTraceFaultPast fault s e.kind
 
--- what a fault says of a line behind these events
-abbrev pub TraceFaultSaysOfLine : TraceFault → Sizes → List Event → List ℕ → Type 0
-TraceFaultSaysOfLine Cut s es line = (es ≡ []) × IsTraceLineOfCut line
-TraceFaultSaysOfLine BadLine s es line = HasNoTraceLineShape line × ((es ≡ []) → ¬ IsTraceLineOfCut line)
-TraceFaultSaysOfLine BadNumber s es line = HasBadTraceLineNumber line
-TraceFaultSaysOfLine fault s es line =
-    (place : ℕ) × (e : Event) × IsTraceLineOfEvent line place e × TraceFaultSaysOfEvent fault s (length es) place e
+-- what a fault says of a line behind so many events
+abbrev pub TraceFaultSaysOfLine : TraceFault → Sizes → ℕ → List ℕ → Type 0
+TraceFaultSaysOfLine Cut s count line = (count ≡ 0) × IsTraceLineOfCut line
+TraceFaultSaysOfLine BadLine s count line = HasNoTraceLineShape line × ((count ≡ 0) → ¬ IsTraceLineOfCut line)
+TraceFaultSaysOfLine BadNumber s count line = HasBadTraceLineNumber line
+TraceFaultSaysOfLine fault s count line =
+    (place : ℕ) × (e : Event) × IsTraceLineOfEvent line place e × TraceFaultSaysOfEvent fault s count place e
 
 -- why a line is no event's, unless memory ran out
 abbrev pub IsTraceFaultOfNoEvent : TraceFault → List ℕ → Type 0
@@ -67,10 +66,10 @@ IsTraceFaultOfNoEvent BadLine line = HasNoTraceLineShape line
 IsTraceFaultOfNoEvent BadNumber line = HasBadTraceLineNumber line
 IsTraceFaultOfNoEvent _ line = ⊥
 
--- why a line adds no event to these, unless memory ran out
-abbrev pub TraceFaultRefuses : TraceFault → Sizes → List Event → List ℕ → Type 0
-TraceFaultRefuses NoMemory s es line = Unit {0}
-TraceFaultRefuses fault s es line = TraceFaultSaysOfLine fault s es line
+-- why a line adds no event to so many, unless memory ran out
+abbrev pub TraceFaultRefuses : TraceFault → Sizes → ℕ → List ℕ → Type 0
+TraceFaultRefuses NoMemory s count line = Unit {0}
+TraceFaultRefuses fault s count line = TraceFaultSaysOfLine fault s count line
 
 -- the line has sizes that a trace may have
 pub record TraceLineHasSizes (line : List ℕ) (s : Sizes) : Type 0 where
@@ -104,7 +103,7 @@ IsTraceFaultInHead fault bytes = IsFaultyTraceLine [] bytes (TraceFaultSaysOfHea
 abbrev pub IsTraceFaultBehind : TraceFault → Sizes → List Event → List ℕ → Type 0
 IsTraceFaultBehind Truncated s es rest = HasNoLineFeed rest × (0 < length rest)
 IsTraceFaultBehind NoMemory s es rest = HasLine rest
-IsTraceFaultBehind fault s es rest = IsFaultyTraceLine (trace_text s es) rest (TraceFaultSaysOfLine fault s es)
+IsTraceFaultBehind fault s es rest = IsFaultyTraceLine (trace_text s es) rest (TraceFaultSaysOfLine fault s (length es))
 
 -- line n is the first that isn't due: the lines before it are the text of a trace, and the fault says what is wrong
 pub record IsTraceFaultAt (s : Sizes) (bytes : List ℕ) (n : ℕ) (fault : TraceFault) : Type 0 where

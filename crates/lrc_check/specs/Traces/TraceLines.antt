@@ -1,8 +1,7 @@
 -- What a line of a trace is.
-use Rattle.std.specs.Prelude.{◌≡◌, ◌≢◌, ℕ, ◌^◌, ◌<◌, List, [], ◌∷◌, ◌++◌, length, codes, Contains, Ok, Some}
+use Rattle.std.specs.Prelude.{◌≡◌, ◌≢◌, ℕ, ◌+◌, ◌^◌, ◌<◌, List, [], ◌∷◌, ◌++◌, length, codes, Contains, Ok, Some}
 use Rattle.std.specs.List.{AllByRecursion}
 use Rattle.std.specs.Fmt.{decimal}
-use Rattle.base.specs.Limits.{most_held}
 use Rattle.journal.specs.declared.event.Event.{Event}
 use Rattle.journal.specs.declared.event.Kind.{Kind}
 use Rattle.journal.specs.Sizes.{Sizes}
@@ -11,7 +10,7 @@ use Rattle.lrc_script.specs.ScriptFaults.{IsLineSplit}
 use Rattle.lrc_script.specs.LineReading.{line_read_numbers_after}
 use Rattle.lrc_report.specs.ReportText.{report_cut_text, report_event_text}
 use Rattle.lrc_check.specs.declared.traces.event_name.EventName.{EventName}
-use Rattle.lrc_check.specs.Traces.LawfulTraces.{IsWithinLawfulTrace}
+use Rattle.lrc_check.specs.Traces.LawfulTraces.{IsWithinLawfulTrace, most_traced_events}
 use Rattle.lrc_check.specs.Traces.Names.{trace_name_operand_count, trace_name_meaning, trace_name_numbers, trace_name_word}
 
 -- the line is the word `event` and others, with one space before each: a place, a processor, a name, and as many
@@ -60,12 +59,12 @@ pub record IsTraceLineDue (s : Sizes) (count place : ℕ) (e : Event) : Type 0 w
   pub place_is : place ≡ count
   pub processor : e.processor < s.processors
   pub kind : WellFormedKindInRange s e.kind
-  pub room : count < most_held
+  pub room : count < most_traced_events
 
--- the line is that of an event that may come next, and adds it
-pub record TraceLineRead (s : Sizes) (before : List Event) (line : List ℕ) (after : List Event) : Type 0 where
+-- the line is that of an event that may come behind so many and these, and adds it
+pub record TraceLineRead (s : Sizes) (gone : ℕ) (before : List Event) (line : List ℕ) (after : List Event) : Type 0 where
   pub event : Event
   pub after_is : after ≡ before ++ event ∷ []
-  pub line_is : IsTraceLineOfEvent line (length before) event
+  pub line_is : IsTraceLineOfEvent line (gone + length before) event
   pub within : IsWithinLawfulTrace s event
-  pub room : length before < most_held
+  pub room : gone + length before < most_traced_events

@@ -41,7 +41,7 @@ pub enum TraceFault {
     /// A flag's number isn't below the cluster's flags.
     #[error("no such flag")]
     BadFlag,
-    /// One event more than a journal can hold.
+    /// One event more than a trace may have, `MOST_TRACED_EVENTS`.
     #[error("too many events")]
     TooLong,
     /// A growth was refused while the line was read.

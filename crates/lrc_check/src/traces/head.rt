@@ -46,7 +46,7 @@ fn read_trace_head_numbers(alloc: Global, line: &[u8]) -> Result<Numbers, Script
 fn are_trace_head_sizes(sizes: TraceSizes) -> bool
     ensures { IsTrue result ↔ AreTraceSizes (trace_sizes_of sizes) }
 {
-    trace_history_sizes(sizes).are_judged()
+    trace_history_sizes(sizes).are_streamed()
         && 1 <= sizes.processors
         && 1 <= sizes.pages
         && 1 <= sizes.words

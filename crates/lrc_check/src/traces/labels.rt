@@ -69,6 +69,17 @@ fn first_of_trace_labels(lines: &[u8]) -> &[u8]
     }
 }
 
+/// The line at this index, counted from 0, nothing if there are no more.
+fn line_of_trace_labels(lines: &[u8], index: usize) -> &[u8]
+    ensures { result.now ≡ slice_index_or (parts_of_read_line 10 lines.now) index [] }
+{
+    let mut behind = lines;
+    for _ in 0..index {
+        behind = rest_of_trace_labels(behind);
+    }
+    first_of_trace_labels(behind)
+}
+
 /// A byte of a label as it is shown among other words: one that is no printable sign of ASCII as `?`.
 fn printable_byte_of_trace_label(byte: u8) -> u8
     ensures { result ≡ trace_label_byte_shown byte }
@@ -124,15 +135,26 @@ impl TraceLabels {
         Ok(())
     }
 
+    /// Forgets the labels, and keeps their memory for the next ones.
+    pub(crate) fn clear(&mut self)
+        ensures { self.new ≡ [] }
+    {
+        self.lines.clear();
+    }
+
     /// The label of the event at this place, without a byte if it has none. It takes time in the order of the lines.
     pub fn of(&self, place: usize) -> &[u8]
         ensures { result.now ≡ trace_event_label self.now place }
     {
-        let mut behind = rest_of_trace_labels(&self.lines);
-        for _ in 0..place {
-            behind = rest_of_trace_labels(behind);
-        }
-        first_of_trace_labels(behind)
+        line_of_trace_labels(rest_of_trace_labels(&self.lines), place)
+    }
+
+    /// The label at this index among those that are there, counted from 0, without a byte if it has none. It takes time in the
+    /// order of the lines.
+    pub fn at(&self, index: usize) -> &[u8]
+        ensures { result.now ≡ slice_index_or (parts_of_read_line 10 self.now) index [] }
+    {
+        line_of_trace_labels(&self.lines, index)
     }
 
     /// The labels of the first so many events, as they are shown among other words. It takes time in the order of the lines. The

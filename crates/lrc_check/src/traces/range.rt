@@ -4,8 +4,8 @@ ghost use Rattle.lrc_check.specs.Traces.Prelude.{TraceFaultSaysOfEvent, AreTrace
 ghost use Rattle.journal.specs.WellFormed.{WellFormedKindInRange};
 
 use crate::traces::fault::TraceFault;
-use crate::traces::trace::TraceSizes;
-use journal::{Event, Kind, MOST_HELD};
+use crate::traces::trace::{MOST_TRACED_EVENTS, TraceSizes};
+use journal::{Event, Kind};
 
 /// The fault of a kind that names an address, a page, a lock or a flag past the sizes.
 fn trace_range_fault_of_kind(sizes: &TraceSizes, kind: Kind) -> Option<TraceFault>
@@ -45,7 +45,7 @@ pub fn trace_range_fault_of_event(
         Some(TraceFault::BadProcessor)
     } else if let Some(fault) = trace_range_fault_of_kind(sizes, event.kind) {
         Some(fault)
-    } else if count >= MOST_HELD {
+    } else if count >= MOST_TRACED_EVENTS {
         Some(TraceFault::TooLong)
     } else {
         None

@@ -1,22 +1,28 @@
 //! The reader of a trace whose text comes in pieces.
-ghost use Rattle.std.specs.Prelude.{◌≡◌, ◌≢◌, ℕ, List, [], ◌++◌, IfOk, IfErr, OnOk};
+ghost use Rattle.std.specs.Prelude.{◌≡◌, ◌≢◌, ℕ, ◌+◌, ◌<◌, List, [], ◌++◌, IfOk, IfErr, OnOk, length};
+ghost use Rattle.journal.specs.declared.event.Event.{Event};
 ghost use Rattle.lrc_script.specs.Prelude.{HasNoLineFeed};
 ghost use Rattle.lrc_check.specs.declared.traces.fault.TraceFault.TheVariants.{NoMemory, Truncated};
-ghost use Rattle.lrc_check.specs.Traces.Prelude.{FedTextBeginsTrace, IsNoOtherLawfulTrace, IsNoLawfulTrace, IsFedTextOf, IsLawfulTrace, IsTraceBegun, IsTraceFault};
-ghost use Rattle.lrc_check.specs.Traces.Prelude.{FedTextFaultStays, without_trace_labels, trace_begun_text, trace_labels_of, trace_sizes_of, trace_text};
+ghost use Rattle.lrc_check.specs.Traces.Prelude.{FedTextBeginsTrace, IsNoOtherLawfulTrace, IsNoLawfulTrace, IsFedTextOf, IsFedTextWhole, IsLawfulTrace, IsTraceBegun, IsTraceLeft, IsTraceFault};
+ghost use Rattle.lrc_check.specs.Traces.Prelude.{AreTraceLabelsBehind, AreTraceSizesKept, BeginsWithTraceBegun, FedTextFaultStays, HasReadFedText, IsTraceReadOn, without_trace_labels, fed_text_line_number, trace_event_label, trace_begun_events, trace_begun_line_count, trace_begun_line_number, trace_begun_sizes, trace_begun_text, trace_labels_of, trace_sizes_of, trace_text};
 
 use crate::traces::fault::TraceFault;
 use crate::traces::labels::{TraceLabels, split_trace_label};
-use crate::traces::trace::{LabelledTrace, Trace};
-use crate::traces::trace_lines::{end, next_trace_line_number, read_trace_lines};
+use crate::traces::trace::{LabelledTrace, Trace, TraceSizes};
+use crate::traces::trace_lines::{end, end_trace_lines, next_trace_line_number, read_trace_lines};
+use journal::Event;
 use lrc_script::line::split_line;
 use std::alloc::Global;
 use std::marker::Model;
 
 /// A trace whose text comes in pieces, cut anywhere. It keeps the events of the lines that are whole, the labels, and the
-/// bytes of the line that isn't: so the text is never there as a whole. Contracts see what was read of the bytes.
+/// bytes of the line that isn't: so the text is never there as a whole. What was read can be taken piece by piece, and let
+/// go of (`let_go`). Contracts see what was read of the bytes and not let go of.
 #[derive(Drop)]
 pub struct Reader {
+    gone: usize,
+    /// Whether the labels begin with that of the line of the sizes, or will.
+    headed: bool,
     begun: Option<Trace>,
     labels: TraceLabels,
     unfinished: Vec<u8>,
@@ -24,68 +30,115 @@ pub struct Reader {
 
 impl Model for Reader {
     ghost use Rattle.lrc_script.specs.ScriptFaults.{HasNoLineFeed};
-    ghost use Rattle.lrc_check.specs.Traces.Begun.{IsTraceBegun, trace_begun_text};
+    ghost use Rattle.lrc_check.specs.Traces.Begun.{IsTraceLeft, trace_begun_events, trace_begun_sizes};
     ghost use Rattle.lrc_check.specs.Traces.FedText.{FedText};
 
     ghost Value = { FedText };
 
-    ghost view = { λ r. record { lines = trace_begun_text r.begun; labels = r.labels; unfinished = r.unfinished.items } };
+    ghost view = { λ r. record {
+      gone = r.gone;
+      headed = r.headed;
+      sizes = trace_begun_sizes r.begun;
+      events = trace_begun_events r.begun;
+      labels = r.labels;
+      unfinished = r.unfinished.items;
+    } };
 
-    ghost invariant = { λ r. IsTraceBegun r.begun × HasNoLineFeed r.unfinished.items };
+    ghost invariant = { λ r. IsTraceLeft r.gone r.begun × HasNoLineFeed r.unfinished.items };
 }
 
 /// Keeps more of the line that isn't whole.
 fn keep(
+    gone: usize,
     begun: &Option<Trace>,
     unfinished: &mut Vec<u8>,
     bytes: &[u8],
 ) -> Result<(), (usize, TraceFault)>
-    requires { IsTraceBegun begun.now }
+    requires { IsTraceLeft gone begun.now }
     ensures kept { OnOk result (unfinished.new.items ≡ unfinished.old.items ++ bytes.now) }
+    ensures number { IfErr result (λ e. e.0 ≡ trace_begun_line_number gone begun.now) }
     ensures fault { IfErr result (λ e. e.1 ≡ NoMemory) }
 {
     match unfinished.extend_from_slice(bytes) {
         Ok(()) => Ok(()),
-        Err(_) => Err((next_trace_line_number(begun), TraceFault::NoMemory)),
+        Err(_) => Err((next_trace_line_number(gone, begun), TraceFault::NoMemory)),
     }
 }
 
 /// Reads the line that the piece ends and the whole lines behind it, and keeps what stands behind those.
 fn read_piece(
     alloc: Global,
+    gone: usize,
     begun: &mut Option<Trace>,
     labels: &mut TraceLabels,
     unfinished: &mut Vec<u8>,
     piece: &[u8],
 ) -> Result<(), (usize, TraceFault)>
-    requires begun { IsTraceBegun begun.old }
+    requires left { IsTraceLeft gone begun.old }
     requires unfinished { HasNoLineFeed unfinished.old.items }
-    ensures begun { OnOk result (IsTraceBegun begun.new) }
+    ensures on { IsTraceReadOn gone begun.old begun.new }
+    ensures read { (front : List Event) → IsTraceBegun gone front begun.old → (more : List ℕ) → BeginsWithTraceBegun front begun.new
+        (trace_begun_text front begun.old ++ without_trace_labels (unfinished.old.items ++ (piece.now ++ more))) }
     ensures unfinished { OnOk result (HasNoLineFeed unfinished.new.items) }
-    ensures text { OnOk result ((more : List ℕ) → trace_begun_text begun.new ++ without_trace_labels (unfinished.new.items ++ more)
-        ≡ trace_begun_text begun.old ++ without_trace_labels (unfinished.old.items ++ (piece.now ++ more))) }
+    ensures text { OnOk result ((front : List Event) → IsTraceBegun gone front begun.old → (more : List ℕ)
+        → trace_begun_text front begun.new ++ without_trace_labels (unfinished.new.items ++ more)
+        ≡ trace_begun_text front begun.old ++ without_trace_labels (unfinished.old.items ++ (piece.now ++ more))) }
     ensures labels { OnOk result ((more : List ℕ) → labels.new ++ trace_labels_of (unfinished.new.items ++ more)
         ≡ labels.old ++ trace_labels_of (unfinished.old.items ++ (piece.now ++ more))) }
-    ensures fault { IfErr result (λ e. e.1 ≢ NoMemory → (more : List ℕ)
-        → IsTraceFault (trace_begun_text begun.old ++ without_trace_labels (unfinished.old.items ++ (piece.now ++ more))) e.0 e.1) }
+    ensures lines { OnOk result ((n : ℕ) → AreTraceLabelsBehind n (trace_begun_line_count begun.old) labels.old
+        → AreTraceLabelsBehind n (trace_begun_line_count begun.new) labels.new) }
+    ensures number { IfErr result (λ e. e.0 ≡ trace_begun_line_number gone begun.new) }
+    ensures fault { IfErr result (λ e. e.1 ≢ NoMemory → (front : List Event) → IsTraceBegun gone front begun.old → (more : List ℕ)
+        → IsTraceFault (trace_begun_text front begun.old ++ without_trace_labels (unfinished.old.items ++ (piece.now ++ more))) e.0 e.1) }
 {
     let Some((end, behind)) = split_line(piece) else {
-        return keep(begun, unfinished, piece);
+        return keep(gone, begun, unfinished, piece);
     };
-    keep(begun, unfinished, end)?;
-    keep(begun, unfinished, b"\n")?;
-    read_trace_lines(alloc, begun, labels, unfinished)?;
-    let rest = read_trace_lines(alloc, begun, labels, behind)?;
+    keep(gone, begun, unfinished, end)?;
+    keep(gone, begun, unfinished, b"\n")?;
+    read_trace_lines(alloc, gone, begun, labels, unfinished)?;
+    let rest = read_trace_lines(alloc, gone, begun, labels, behind)?;
     unfinished.clear();
-    keep(begun, unfinished, rest)
+    keep(gone, begun, unfinished, rest)
+}
+
+/// The events that were read and not let go of.
+fn events_of_trace_begun(begun: &Option<Trace>) -> &[Event]
+    ensures { result.now ≡ trace_begun_events begun.now }
+{
+    match begun {
+        None => &[],
+        Some(trace) => &trace.events,
+    }
+}
+
+/// Lets go of the events, and answers how many they were. Their memory is kept for the next ones.
+fn let_go_of_trace_begun(begun: &mut Option<Trace>) -> usize
+    ensures count { result ≡ length (trace_begun_events begun.old) }
+    ensures sizes { trace_begun_sizes begun.new ≡ trace_begun_sizes begun.old }
+    ensures events { trace_begun_events begun.new ≡ [] }
+{
+    match begun {
+        None => 0,
+        Some(trace) => {
+            let count = trace.events.len();
+            trace.events.clear();
+            count
+        }
+    }
 }
 
 impl Reader {
     /// Before the first piece.
     pub fn new(alloc: Global) -> Reader
-        ensures { IsFedTextOf [] result }
+        ensures fed { IsFedTextOf [] [] [] result }
+        ensures gone { result.gone ≡ 0 }
+        ensures sizes { result.sizes ≡ None }
+        ensures events { result.events ≡ [] }
     {
         Reader {
+            gone: 0,
+            headed: true,
             begun: None,
             labels: TraceLabels::new(alloc),
             unfinished: Vec::new(alloc),
@@ -98,46 +151,151 @@ impl Reader {
     /// # Errors
     ///
     /// The first line with a fault, counted from 1; on one line the faults are tested in the order that `TraceFault` tells.
-    /// Each but `NoMemory` comes only where no trace has a text that begins with these bytes. `Truncated` never comes.
-    pub fn feed(self, alloc: Global, piece: &[u8]) -> Result<Reader, (usize, TraceFault)>
-        ensures fed { IfOk result (λ r. (bytes : List ℕ) → IsFedTextOf bytes self → IsFedTextOf (bytes ++ piece.now) r) }
+    /// Each but `NoMemory` comes only where no trace has a text that begins with these bytes. `Truncated` never comes. The
+    /// events of the lines before it are there, with their labels, and nothing of what comes behind them.
+    pub fn feed(&mut self, alloc: Global, piece: &[u8]) -> Result<(), (usize, TraceFault)>
+        // Whatever was let go of, this is read behind it.
+        ensures fed { OnOk result ((bytes : List ℕ) (front : List Event) (told : List ℕ) → IsFedTextOf bytes front told self.old
+            → IsFedTextOf (bytes ++ piece.now) front told self.new) }
+        ensures gone { self.new.gone ≡ self.old.gone }
+        ensures sizes { AreTraceSizesKept self.old.sizes self.new.sizes }
+        ensures events { (more : List Event) × (self.new.events ≡ self.old.events ++ more) }
+        // What was read is a beginning, also where a line is refused.
+        ensures read { (bytes : List ℕ) (front : List Event) (told : List ℕ) → IsFedTextOf bytes front told self.old
+            → HasReadFedText (bytes ++ piece.now) front self.new }
+        // All lines before that one were read.
+        ensures number { IfErr result (λ e. e.0 ≡ fed_text_line_number self.new) }
         // No beginning of a trace's text is refused, unless memory runs out.
-        ensures only { IfErr result (λ e. e.1 ≢ NoMemory → (bytes : List ℕ) → IsFedTextOf bytes self
-            → ¬ FedTextBeginsTrace (bytes ++ piece.now)) }
+        ensures only { IfErr result (λ e. e.1 ≢ NoMemory → (bytes : List ℕ) (front : List Event) (told : List ℕ)
+            → IsFedTextOf bytes front told self.old → ¬ FedTextBeginsTrace (bytes ++ piece.now)) }
         // However the bytes go on, that line has that fault.
-        ensures fault { IfErr result (λ e. e.1 ≢ NoMemory → (bytes : List ℕ) → IsFedTextOf bytes self
-            → FedTextFaultStays (bytes ++ piece.now) e.0 e.1) }
+        ensures fault { IfErr result (λ e. e.1 ≢ NoMemory → (bytes : List ℕ) (front : List Event) (told : List ℕ)
+            → IsFedTextOf bytes front told self.old → FedTextFaultStays (bytes ++ piece.now) e.0 e.1) }
     {
-        let Reader {
-            mut begun,
-            mut labels,
-            mut unfinished,
-        } = self;
-        read_piece(alloc, &mut begun, &mut labels, &mut unfinished, piece)?;
-        Ok(Reader {
-            begun,
-            labels,
-            unfinished,
-        })
+        match read_piece(
+            alloc,
+            self.gone,
+            &mut self.begun,
+            &mut self.labels,
+            &mut self.unfinished,
+            piece,
+        ) {
+            Ok(()) => Ok(()),
+            Err(fault) => {
+                // What is left of the piece is no beginning of a line.
+                self.unfinished.clear();
+                Err(fault)
+            }
+        }
     }
 
-    /// The trace that has the bytes, without their labels, as its text, and the labels, after the last piece.
+    /// How many events were let go of.
+    pub fn gone(&self) -> usize
+        ensures { result ≡ self.now.gone }
+    {
+        self.gone
+    }
+
+    /// The sizes, if their line was read.
+    pub fn sizes(&self) -> Option<TraceSizes>
+        ensures { result ≡ self.now.sizes }
+    {
+        match &self.begun {
+            None => None,
+            Some(trace) => Some(trace.sizes),
+        }
+    }
+
+    /// The events that were read and not let go of. The first is at the place `gone`.
+    pub fn events(&self) -> &[Event]
+        ensures { result.now ≡ self.now.events }
+    {
+        events_of_trace_begun(&self.begun)
+    }
+
+    /// The labels of the lines that were read and not let go of, one for each. The first is that of the line of the sizes, until
+    /// it is let go of.
+    pub fn labels(&self) -> &TraceLabels
+        ensures { result.now ≡ self.now.labels }
+    {
+        &self.labels
+    }
+
+    /// Whether the first of the labels is that of the line of the sizes, or will be.
+    pub fn is_headed(&self) -> bool
+        ensures { result ≡ self.now.headed }
+    {
+        self.headed
+    }
+
+    /// The label of the event at this index among `events`, without a byte if it has none. It takes time in the order of the
+    /// lines.
+    pub fn label(&self, index: usize) -> &[u8]
+        requires { index < length self.now.events }
+        ensures { (bytes : List ℕ) (front : List Event) (told : List ℕ) → IsFedTextOf bytes front told self.now
+            → result.now ≡ trace_event_label (trace_labels_of bytes) (self.now.gone + index) }
+    {
+        let line = if self.headed { index + 1 } else { index };
+        self.labels.at(line)
+    }
+
+    /// Lets go of the events that were read and of the labels, also of that of the line of the sizes if it was read. Their memory
+    /// is kept for the next ones. Places and line numbers go on as if they were still there.
+    pub fn let_go(&mut self)
+        ensures fed { (bytes : List ℕ) (front : List Event) (told : List ℕ) → IsFedTextOf bytes front told self.old
+            → IsFedTextOf bytes (front ++ self.old.events) (told ++ self.old.labels) self.new }
+        // Also behind a line that was refused.
+        ensures read { (bytes : List ℕ) (front : List Event) → HasReadFedText bytes front self.old
+            → HasReadFedText bytes (front ++ self.old.events) self.new }
+        ensures gone { self.new.gone ≡ self.old.gone + length self.old.events }
+        ensures sizes { self.new.sizes ≡ self.old.sizes }
+        ensures events { self.new.events ≡ [] }
+        ensures labels { self.new.labels ≡ [] }
+    {
+        self.headed = self.headed && self.begun.is_none();
+        self.gone += let_go_of_trace_begun(&mut self.begun);
+        self.labels.clear();
+    }
+
+    /// Whether the trace ends here, after the last piece: whether the bytes, without their labels, are its text.
+    ///
+    /// # Errors
+    ///
+    /// `Truncated` alone, with the number of the line that has to be there or to end.
+    pub fn end(&self) -> Result<(), (usize, TraceFault)>
+        ensures whole { OnOk result ((bytes : List ℕ) (front : List Event) (told : List ℕ) → IsFedTextOf bytes front told self.now
+            → IsFedTextWhole bytes front told self.now) }
+        ensures only { IfErr result (λ _. (bytes : List ℕ) (front : List Event) (told : List ℕ) → IsFedTextOf bytes front told self.now
+            → IsNoLawfulTrace (without_trace_labels bytes)) }
+        ensures truncated { IfErr result (λ e. e.1 ≡ Truncated) }
+        ensures fault { IfErr result (λ e. (bytes : List ℕ) (front : List Event) (told : List ℕ) → IsFedTextOf bytes front told self.now
+            → IsTraceFault (without_trace_labels bytes) e.0 e.1) }
+    {
+        let (left, _) = split_trace_label(&self.unfinished);
+        end_trace_lines(self.gone, &self.begun, left)?;
+        Ok(())
+    }
+
+    /// The trace that has the bytes, without their labels, as its text, and the labels, after the last piece. It is for a reader
+    /// that let go of nothing: of another it answers only what is left, and `end` says whether the trace ends.
     ///
     /// # Errors
     ///
     /// `Truncated` alone, with the number of the line that has to be there or to end.
     pub fn finish(self) -> Result<LabelledTrace, (usize, TraceFault)>
         ensures found { IfOk result (λ t. IsLawfulTrace (trace_sizes_of t.trace.sizes) t.trace.events.items
-            × ((bytes : List ℕ) → IsFedTextOf bytes self
+            × ((bytes : List ℕ) → IsFedTextOf bytes [] [] self
             → without_trace_labels bytes ≡ trace_text (trace_sizes_of t.trace.sizes) t.trace.events.items)) }
-        ensures again { IfOk result (λ t. (bytes : List ℕ) → IsFedTextOf bytes self
+        ensures again { IfOk result (λ t. (bytes : List ℕ) → IsFedTextOf bytes [] [] self
             → IsNoOtherLawfulTrace (without_trace_labels bytes) (trace_sizes_of t.trace.sizes) t.trace.events.items) }
-        ensures labels { IfOk result (λ t. (bytes : List ℕ) → IsFedTextOf bytes self → t.labels ≡ trace_labels_of bytes) }
-        ensures only { IfErr result (λ _. (bytes : List ℕ) → IsFedTextOf bytes self → IsNoLawfulTrace (without_trace_labels bytes)) }
+        ensures labels { IfOk result (λ t. (bytes : List ℕ) → IsFedTextOf bytes [] [] self → t.labels ≡ trace_labels_of bytes) }
+        ensures only { IfErr result (λ _. (bytes : List ℕ) → IsFedTextOf bytes [] [] self → IsNoLawfulTrace (without_trace_labels bytes)) }
         ensures truncated { IfErr result (λ e. e.1 ≡ Truncated) }
-        ensures fault { IfErr result (λ e. (bytes : List ℕ) → IsFedTextOf bytes self → IsTraceFault (without_trace_labels bytes) e.0 e.1) }
+        ensures fault { IfErr result (λ e. (bytes : List ℕ) → IsFedTextOf bytes [] [] self → IsTraceFault (without_trace_labels bytes) e.0 e.1) }
     {
         let Reader {
+            gone: _,
+            headed: _,
             begun,
             labels,
             unfinished,

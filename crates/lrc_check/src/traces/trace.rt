@@ -7,7 +7,11 @@ use crate::traces::fault::TraceFault;
 use crate::traces::labels::{TraceLabels, split_trace_label};
 use crate::traces::trace_lines::{end, read_trace_lines};
 use journal::Event;
+use judge::MOST_JUDGED_EVENTS;
 use std::alloc::Global;
+
+/// The most events of a trace: each place fits a word.
+pub const MOST_TRACED_EVENTS: usize = MOST_JUDGED_EVENTS;
 
 /// The sizes of a cluster of `processors` processors that share `pages` pages of `words` words, `locks` locks and
 /// `flags` flags.
@@ -57,7 +61,7 @@ pub fn read(alloc: Global, bytes: &[u8]) -> Result<LabelledTrace, (usize, TraceF
 {
     let mut begun = None;
     let mut labels = TraceLabels::new(alloc);
-    let rest = read_trace_lines(alloc, &mut begun, &mut labels, bytes)?;
+    let rest = read_trace_lines(alloc, 0, &mut begun, &mut labels, bytes)?;
     let (left, _) = split_trace_label(rest);
     let trace = end(begun, left)?;
     Ok(LabelledTrace { trace, labels })

@@ -1,8 +1,8 @@
 //! One line of a trace.
-ghost use Rattle.std.specs.Prelude.{◌≡◌, IsTrue, ◌↔◌, [], ◌∷◌, IfOk, IfErr, IfSome, OnOk, MatchOption};
+ghost use Rattle.std.specs.Prelude.{◌≡◌, ◌+◌, ◌≤◌, IsTrue, ◌↔◌, [], ◌∷◌, length, IfOk, IfErr, IfSome, OnOk, OnErr, MatchOption};
 ghost use Rattle.lrc_script.specs.Prelude.{parts_behind_in_read_line, script_line_space};
 ghost use Rattle.lrc_check.specs.Traces.Prelude.{TraceLineGivesKind, HasNoTraceLineShape, TraceLineRead, IsTraceLineOfCut, IsTraceLineOfEvent, IsTraceFaultOfNoEvent, IsTraceLineShaped};
-ghost use Rattle.lrc_check.specs.Traces.Prelude.{AreTraceSizes, TraceFaultRefuses, trace_sizes_of};
+ghost use Rattle.lrc_check.specs.Traces.Prelude.{AreTraceSizes, TraceFaultRefuses, most_traced_events, trace_sizes_of};
 
 use crate::traces::event_name::EventName;
 use crate::traces::fault::TraceFault;
@@ -150,29 +150,34 @@ fn tells_cut_trace_events(line: &[u8]) -> bool
     }
 }
 
-/// Adds the event of a line to those before it. `read` is what was read of the line already.
+/// Adds the event of a line to those before it, behind the `gone` first ones, which aren't there. `read` is what was read of
+/// the line already.
 pub fn add(
     alloc: Global,
     sizes: &TraceSizes,
+    gone: usize,
     events: &mut Vec<Event>,
     line: &[u8],
     read: Option<(usize, Event)>,
 ) -> Result<(), TraceFault>
     requires sizes { AreTraceSizes (trace_sizes_of sizes.now) }
+    requires few { gone + length events.old.items ≤ most_traced_events }
     requires read { IfSome read (λ x. IsTraceLineOfEvent line.now x.0 x.1) }
-    ensures found { OnOk result (TraceLineRead (trace_sizes_of sizes.now) events.old.items line.now events.new.items) }
-    ensures fault { IfErr result (λ e. TraceFaultRefuses e (trace_sizes_of sizes.now) events.old.items line.now) }
+    ensures found { OnOk result (TraceLineRead (trace_sizes_of sizes.now) gone events.old.items line.now events.new.items) }
+    ensures fault { IfErr result (λ e. TraceFaultRefuses e (trace_sizes_of sizes.now) (gone + length events.old.items) line.now) }
+    ensures unchanged { OnErr result (events.new.items ≡ events.old.items) }
 {
+    let count = gone + events.len();
     let (place, event) = match read {
         Some(read) => read,
         None => {
-            if events.is_empty() && tells_cut_trace_events(line) {
+            if count == 0 && tells_cut_trace_events(line) {
                 return Err(TraceFault::Cut);
             }
             read_trace_event(alloc, line)?
         }
     };
-    if let Some(fault) = trace_range_fault_of_event(sizes, events.len(), place, &event) {
+    if let Some(fault) = trace_range_fault_of_event(sizes, count, place, &event) {
         return Err(fault);
     }
     events.push(event)?;

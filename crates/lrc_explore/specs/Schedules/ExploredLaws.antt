@@ -17,9 +17,9 @@ use Rattle.conformance.specs.ScriptReports.{IsScriptReport}
 use Rattle.explore.specs.Prefixes.FlatBeginnings.{AreFlatBeginningsRaceFree}
 use Rattle.explore.specs.declared.explored.Explored.{Explored}
 use Rattle.explore.specs.declared.explored.Hanging.TheVariants as hanging
-use Rattle.explore.specs.declared.explored.ScriptOutcome.{ScriptOutcome}
+use Rattle.explore.specs.declared.explored.ShownOutcome.{ShownOutcome}
 use Rattle.explore.specs.declared.explored.Verdict.TheVariants as verdict
-use Rattle.explore.specs.Explored.{IsExplored, explored_outcome}
+use Rattle.explore.specs.Explored.{IsExplored, shown_outcome}
 use Rattle.explore.specs.FlatOutcomes.{AreFlatOutcomeReplies}
 use Rattle.explore.specs.declared.outcome_telling.Detail.{Detail}
 use Rattle.explore.specs.OutcomeTelling.{AreOutcomeTellingReplies, outcome_telling_of_script}
@@ -51,12 +51,12 @@ explored_schedule_words_shown r = map (λ (x : ℕ × ℕ). x.1) r.shown.items
 
 -- what the loads of the history answered is one of the outcomes, so far as it is told; it ends at processor 0 with what the
 -- report shows, and so does what is told, if each processor has a section
-pub record IsExploredScheduleListed (s : Plan) (d : Detail) (outcomes : List ScriptOutcome) (r : Report) (h : List Event) : Type 0 where
+pub record IsExploredScheduleListed (s : Plan) (d : Detail) (outcomes : List ShownOutcome) (r : Report) (h : List Event) : Type 0 where
   pub answered : List (List ℕ)
   pub are : AreFlatOutcomeReplies s h answered
   pub replies : List (List ℕ)
   pub told : AreOutcomeTellingReplies s (outcome_telling_of_script s d) h replies
-  pub listed : Has (map explored_outcome outcomes) replies
+  pub listed : Has (map shown_outcome outcomes) replies
   pub shown : (words : List ℕ) → slice_get answered 0 ≡ Some words → AreExploredScheduleLastWords words (explored_schedule_words_shown r)
   pub ends : length s.sections ≡ s.processors → (words : List ℕ) → slice_get replies 0 ≡ Some words
       → AreExploredScheduleLastWords words (explored_schedule_words_shown r)

@@ -27,7 +27,7 @@ const HEADS: [(&str, usize, TraceFault); 18] = [
     ("cluster 1 1 1 x/", 1, BadNumber),
     ("cluster 01 1 1 0/", 1, BadNumber),
     ("cluster 0 1 1 0/", 1, BadSize),
-    ("cluster 17 1 1 0/", 1, BadSize),
+    ("cluster 65 1 1 0/", 1, BadSize),
     ("cluster 1 1 1 0 0/", 1, BadSize),
     ("cluster 1 1 1 65537/", 1, BadSize),
     ("cluster 1 1 1 0 65537/", 1, BadSize),
@@ -85,7 +85,7 @@ const PLACES: [(&str, usize, TraceFault); 21] = [
     ),
     ("cluster 1 1 1 0/event 1 9 load 99 0/", 2, BadPlace),
     ("cluster 1 1 1 0/event 0 1 arrive/", 2, BadProcessor),
-    ("cluster 16 1 1 0/event 0 16 arrive/", 2, BadProcessor),
+    ("cluster 64 1 1 0/event 0 64 arrive/", 2, BadProcessor),
     ("cluster 1 1 1 0/event 0 9 load 99 0/", 2, BadProcessor),
     ("cluster 1 1 1 0/event 0 0 load 1 0/", 2, OutOfRange),
     (

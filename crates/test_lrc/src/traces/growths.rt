@@ -30,8 +30,8 @@ fn bytes_again(alloc: Global, text: &str) -> Result<Vec<u8>, AllocError> {
     }
 }
 
-/// How the bytes come: as a whole, and in pieces that end within a line.
-const CUTS: [Cut; 2] = [Cut::Never, Cut::Each(23)];
+/// How the bytes come: as a whole, and in pieces that end within a line, with and without letting go.
+const CUTS: [Cut; 3] = [Cut::Never, Cut::Each(23), Cut::LettingGo(23)];
 
 /// Reads the bytes, and once more where a growth was refused: that is told with one of the first lines.
 fn read_again<R: Abort>(

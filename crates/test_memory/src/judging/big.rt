@@ -55,6 +55,7 @@ fn is_faithful<R: Abort + AllocGlobal>(
         model: MemoryModel::LazyRelease,
         lax: false,
         ends_at_race: false,
+        locksets: None,
     };
     let found = judge_history(rt.alloc(), sizes, events, rules)?;
     match found.verdict {

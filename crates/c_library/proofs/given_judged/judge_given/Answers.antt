@@ -1,4 +1,5 @@
-use Rattle.std.proofs.Common.{◌≡◌, List, map, subst, ◌∙◌}
+use Rattle.std.proofs.Common.{◌≡◌, List, length, map, subst, ap, ◌∙◌, arith}
+use Rattle.std.proofs.lemmas.List.{length-map}
 use Rattle.journal.specs.declared.event.Event.{Event}
 use Rattle.journal.specs.Sizes.{Sizes}
 use Rattle.judge.specs.JudgedSizes.{AreJudgedSizes, judged_sizes_of}
@@ -29,3 +30,15 @@ returns-clause-told c =
           c.rules.ensures c.in_ok-found.ensures));
       is = c.told_verdict.ensures;
     }
+
+pub judge_history-requires-clause-sizes : goal.judge_history-requires-clause-sizes
+judge_history-requires-clause-sizes c =
+    (c.are_judged.ensures.0 c.if-not-are_judged.false).streamed
+
+pub judge_history-requires-clause-few : goal.judge_history-requires-clause-few
+judge_history-requires-clause-few c =
+    let es = c.args.events.now in
+    let few = c.are_given_few.ensures.0 c.if-not-are_given_few.false in
+    let is : c.deref.result.now ≡ map given_event_of es = c.deref.ensures.value ∙ c.in_ok-history.ensures in
+    let long : length c.deref.result.now ≡ length es = ap length is ∙ length-map es given_event_of in
+    omega (arith, few, long)

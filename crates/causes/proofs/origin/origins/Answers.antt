@@ -1,5 +1,4 @@
 use Rattle.std.proofs.Common.{subst, sym, arith}
-use Rattle.std.proofs.Math.Nat.{mul-le-mul_left}
 use Rattle.judge.specs.declared.sizes.Sizes.{Sizes as Given}
 use Rattle.judge.specs.Miscounted.{IsEventInSizes}
 use Rattle.judge.specs.JudgedSizes.{judged_sizes_of}
@@ -24,8 +23,7 @@ all_origins-requires-clause-looked c = record {
       let few = c.events-events.ensures.few_processors in
       omega arith);
   few =
-      (let words = mul-le-mul_left c.sizes-sizes.result.pages c.sizes-sizes.ensures.small.words in
-      let pages = c.sizes-sizes.ensures.small.pages in
+      (let addresses = c.sizes-sizes.ensures.judged.streamed.addresses in
       let same = c.in_ok-of.ensures.addresses in
       omega arith);
 }

@@ -2,16 +2,12 @@ use Rattle.std.proofs.Common.{◌≡◌, ◌-◌, List, drop, length, take, ap, 
 use Rattle.std.proofs.lemmas.Bool.{false≢true}
 use Rattle.std.proofs.lemmas.List.{take_rest}
 use Rattle.journal.specs.declared.event.Kind.{Kind}
-use Rattle.conformance.specs.FlatRuns.{FlatRunHasNoFetch}
 use Rattle.conformance.specs.Follows.{calls_of}
 use Rattle.lrc_script.specs.Plan.{plan_of}
 use Rattle.explore.specs.AllowedBeginnings.{allowed_beginning_events}
 use Rattle.explore.specs.AllowedUntilSearch.{AreAllowedUntilLoads}
 use Rattle.explore.proofs.allowed_runs.AllowedUntil.{allowed_until_told}
 use Rattle.explore.proofs.allowed_until_search.has_allowed_until_words.Goals as goal
-
-pub allowed_calls_of-requires : goal.allowed_calls_of-requires
-allowed_calls_of-requires c = subst FlatRunHasNoFetch (sym c.events.ensures) c.requires.told.beginning.no_fetch
 
 pub returns-then-not-is_whole : goal.returns-then-not-is_whole
 returns-then-not-is_whole c = (

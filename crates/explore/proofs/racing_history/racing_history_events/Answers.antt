@@ -17,7 +17,7 @@ use Rattle.explore.specs.FoundStates.{found_states}
 use Rattle.explore.specs.Machines.{MachineKnows}
 use Rattle.explore.specs.Racing.{AreRacing, IsRacingBeginning}
 use Rattle.explore.proofs.LikeMachines.{like_machine_knows}
-use Rattle.explore.proofs.MachineSteps.{machine_step_next_within, machine_step_rows_many}
+use Rattle.explore.proofs.MachineSteps.{machine_step_next_within, machine_step_rows_many, machine_step_some_at}
 use Rattle.explore.proofs.racing_history.racing_history_events.Goals as goal
 
 module _ (s : Plan) (x : FoundStates) (steps : List (Vec ScriptCall)) (ns : Neighbours) (are : AreRacing s x steps ns) (f : FlatState)
@@ -50,14 +50,16 @@ step-requires c =
     let are = c.requires.1 in
     let x = c.args.found.now in
     let ns = c.args.neighbours in
-    let f = c.at.result.now in
-    let g = some_events s x c.args.steps.now ns are f c.at.ensures in
+    let stored = machine_step_some_at (found_states x) ns.place are.are.within in
+    let f = stored.0 in
+    let like = c.in_ok-state.ensures f stored.1 in
+    let g = some_events s x c.args.steps.now ns are f stored.1 in
     record {
       plan = s;
       lawful = are.lawful;
       events = g.0;
-      knows = like_machine_knows s g.0 f c.in_ok-state.state c.in_ok-state.ensures g.1;
-      next = first_next s x c.args.steps.now ns are f c.at.ensures g.0 g.1;
+      knows = like_machine_knows s g.0 f c.in_ok-state.state like g.1;
+      next = first_next s x c.args.steps.now ns are f stored.1 g.0 g.1;
     }
 
 pub next-requires-clause-processor : goal.next-requires-clause-processor
@@ -66,9 +68,11 @@ next-requires-clause-processor c =
     let are = c.requires.1 in
     let x = c.args.found.now in
     let ns = c.args.neighbours in
-    let f = c.at.result.now in
-    let g = some_events s x c.args.steps.now ns are f c.at.ensures in
-    second_row s x c.args.steps.now ns are f c.at.ensures g.0 g.1
+    let stored = machine_step_some_at (found_states x) ns.place are.are.within in
+    let f = stored.0 in
+    let like = c.in_ok-state.ensures f stored.1 in
+    let g = some_events s x c.args.steps.now ns are f stored.1 in
+    second_row s x c.args.steps.now ns are f stored.1 g.0 g.1
 
 pub next-requires-clause-running : goal.next-requires-clause-running
 next-requires-clause-running c =
@@ -76,15 +80,17 @@ next-requires-clause-running c =
     let are = c.requires.1 in
     let x = c.args.found.now in
     let ns = c.args.neighbours in
-    let f = c.at.result.now in
-    let g = some_events s x c.args.steps.now ns are f c.at.ensures in
+    let stored = machine_step_some_at (found_states x) ns.place are.are.within in
+    let f = stored.0 in
+    let like = c.in_ok-state.ensures f stored.1 in
+    let g = some_events s x c.args.steps.now ns are f stored.1 in
     record {
       plan = s;
       lawful = are.lawful;
       events = did g.0 ns.first.processor ns.first.kind;
       knows =
-          c.in_ok-step.ensures.knows s g.0 are.lawful (like_machine_knows s g.0 f c.in_ok-state.state c.in_ok-state.ensures g.1)
-          (first_next s x c.args.steps.now ns are f c.at.ensures g.0 g.1);
+          c.in_ok-step.ensures.knows s g.0 are.lawful (like_machine_knows s g.0 f c.in_ok-state.state like g.1)
+          (first_next s x c.args.steps.now ns are f stored.1 g.0 g.1);
     }
 
 pub unwrap-kind-requires : goal.unwrap-kind-requires
@@ -93,12 +99,14 @@ unwrap-kind-requires c =
     let are = c.requires.1 in
     let x = c.args.found.now in
     let ns = c.args.neighbours in
-    let f = c.at.result.now in
-    let g = some_events s x c.args.steps.now ns are f c.at.ensures in
-    let r = races s x c.args.steps.now ns are f c.at.ensures g.0 g.1 in
+    let stored = machine_step_some_at (found_states x) ns.place are.are.within in
+    let f = stored.0 in
+    let like = c.in_ok-state.ensures f stored.1 in
+    let g = some_events s x c.args.steps.now ns are f stored.1 in
+    let r = races s x c.args.steps.now ns are f stored.1 g.0 g.1 in
     let knows =
-    c.in_ok-step.ensures.knows s g.0 are.lawful (like_machine_knows s g.0 f c.in_ok-state.state c.in_ok-state.ensures g.1)
-    (first_next s x c.args.steps.now ns are f c.at.ensures g.0 g.1) in
+    c.in_ok-step.ensures.knows s g.0 are.lawful (like_machine_knows s g.0 f c.in_ok-state.state like g.1)
+    (first_next s x c.args.steps.now ns are f stored.1 g.0 g.1) in
     let is = (c.next.ensures s (did g.0 ns.first.processor ns.first.kind) are.lawful knows r.kind).1 r.beginning in
     subst IsSome (sym is) refl
 
@@ -106,13 +114,15 @@ pub returns : goal.returns
 returns c = λ s are.
     let x = c.args.found.now in
     let ns = c.args.neighbours in
-    let f = c.at.result.now in
+    let stored = machine_step_some_at (found_states x) ns.place are.are.within in
+    let f = stored.0 in
+    let like = c.in_ok-state.ensures f stored.1 in
     let g = c.in_ok-events.events.items in
-    let known = c.in_ok-events.ensures s are.found f c.at.ensures in
-    let r = races s x c.args.steps.now ns are f c.at.ensures g known in
+    let known = c.in_ok-events.ensures s are.lawful are.found f stored.1 in
+    let r = races s x c.args.steps.now ns are f stored.1 g known in
     let knows =
-    c.in_ok-step.ensures.knows s g are.lawful (like_machine_knows s g f c.in_ok-state.state c.in_ok-state.ensures known)
-    (first_next s x c.args.steps.now ns are f c.at.ensures g known) in
+    c.in_ok-step.ensures.knows s g are.lawful (like_machine_knows s g f c.in_ok-state.state like known)
+    (first_next s x c.args.steps.now ns are f stored.1 g known) in
     let is = (c.next.ensures s (did g ns.first.processor ns.first.kind) are.lawful knows r.kind).1 r.beginning in
     let same = same_Some c.unwrap-kind.result r.kind (sym c.unwrap-kind.ensures ∙ is) in
     let before = did g ns.first.processor ns.first.kind in
@@ -122,3 +132,9 @@ returns c = λ s are.
     ∙ ap (λ (k : Kind). did before ns.second.processor k) same in
     subst (IsRacingBeginning s) (sym items)
     (record { beginning = r.beginning; first = length g; second = length g + 1; race = r.race })
+
+pub at-requires-clause-place : goal.at-requires-clause-place
+at-requires-clause-place c = c.requires.1.are.within
+
+pub at-requires-clause-kept : goal.at-requires-clause-kept
+at-requires-clause-kept c = c.requires.1.found.kept

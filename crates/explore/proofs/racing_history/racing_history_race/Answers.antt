@@ -4,13 +4,14 @@ use Rattle.journal.specs.declared.event.Event.{Event}
 use Rattle.journal.specs.Races.{RaceFree}
 use Rattle.journal.specs.Sizes.{Sizes}
 use Rattle.judge.specs.SizedHistory.{IsHistoryInSizes, SizedHistory}
-use Rattle.judge.specs.JudgedSizes.{AreJudgedSizesSmall}
+use Rattle.judge.specs.JudgedSizes.{AreJudgedSizes, AreJudgedSizesSmall}
 use Rattle.causes.specs.declared.racing.FirstRace.{FirstRace}
 use Rattle.causes.specs.Heard.{IsHeardAtRace}
 use Rattle.lrc_script.specs.Lawful.{IsLawful}
 use Rattle.lrc_script.specs.Plan.{Plan, plan_of}
 use Rattle.conformance.specs.Follows.{plan_sizes}
 use Rattle.explore.specs.Prefixes.FlatBeginnings.{IsFlatBeginning}
+use Rattle.judge.proofs.SizesJudged.{sizes_judged_small}
 use Rattle.explore.proofs.Lengths.{history_length_few}
 use Rattle.explore.proofs.racing_history.racing_history_race.Goals as goal
 
@@ -35,7 +36,7 @@ unwrap-history-requires c =
     let g = c.args.events.now in
     let same = sym c.racing_history_sizes.ensures in
     c.new.ensures.fits.1 (record {
-      small = subst AreJudgedSizesSmall same (lawful_small s c.requires.lawful);
+      judged = subst AreJudgedSizes same (sizes_judged_small (plan_sizes s) (lawful_small s c.requires.lawful));
       opening = omega arith;
       few_opening = omega arith;
       few = (let few = history_length_few s g c.requires.lawful c.requires.begins in omega arith);

@@ -1,11 +1,10 @@
 use Rattle.std.proofs.Common.{ℕ, ◌≡◌, ◌<◌, ◌≤◌, ◌↔◌, inl, inr, Bool, false, IsTrue, length, refl, subst, sym, ◌∙◌, arith}
 use Rattle.std.proofs.lemmas.Bool.{cases_lt, false≢true}
-use Rattle.std.proofs.lemmas.Option.{same_Some}
 use Rattle.explore.specs.FoundStates.{found_states}
-use Rattle.explore.specs.Machines.{MachineKnows}
 use Rattle.explore.specs.FlatSearch.{HasMoreToFlatSearch, IsFlatSearchedAt}
 use Rattle.explore.specs.UntilSearched.{SearchedUntilWithoutEnding}
-use Rattle.explore.proofs.MachineSteps.{machine_step_none_of}
+use Rattle.explore.proofs.LikeMachines.{like_machine_knows}
+use Rattle.explore.proofs.MachineSteps.{machine_step_none_of, machine_step_some_at}
 use Rattle.explore.proofs.UntilSearched.{until_search_none_next}
 use Rattle.explore.proofs.until.look_until.Goals as goal
 
@@ -49,8 +48,17 @@ pub has_until_words-requires : goal.has_until_words-requires
 has_until_words-requires g c =
     let s = c.requires.searched.0 in
     let old = c.loop-place.invariant.searched s c.requires.searched.1 c.requires.searched.2 in
-    let h = old.searched.found.known c.loop-place.place c.at.result.now c.at.ensures in
-    record { plan = s; lawful = c.requires.searched.1; events = h.0; knows = h.1 }
+    let within = old.searched.within in
+    let is = c.len-states.ensures.count in
+    let isnt = c.if-place-states.false in
+    let stored = machine_step_some_at (found_states c.loop-place.search.found) c.loop-place.place (omega (arith, within, is, isnt)) in
+    let h = old.searched.found.known c.loop-place.place stored.0 stored.1 in
+    record {
+      plan = s;
+      lawful = c.requires.searched.1;
+      events = h.0;
+      knows = like_machine_knows s h.0 stored.0 c.in_ok-state.state (c.in_ok-state.ensures stored.0 stored.1) h.1;
+    }
 
 pub returns-then-has_until_words-clause-looked : goal.returns-then-has_until_words-clause-looked
 returns-then-has_until_words-clause-looked g c = λ s lawful searched.
@@ -63,7 +71,7 @@ returns-then-has_until_words-clause-looked g c = λ s lawful searched.
       end = record {
         within = omega (arith, within, is, isnt);
         ends = λ m h at knows.
-            let mine = subst (MachineKnows s h) (same_Some m c.at.result.now (sym at ∙ c.at.ensures)) knows in
+            let mine = like_machine_knows s h m c.in_ok-state.state (c.in_ok-state.ensures m at) knows in
             (c.has_until_words.ensures s h lawful mine).0 c.if-has_until_words.true;
       };
     }
@@ -96,7 +104,7 @@ loop-place-preserved g c = record {
         none = until_search_none_next s c.args.words.now (found_states c.loop-place.search.found) (found_states c.look_at.new.self.found)
             c.loop-place.place (c.in_ok-neighbours.ensures.found s more).0 lt
             (λ m h at knows ends.
-            let mine = subst (MachineKnows s h) (same_Some m c.at.result.now (sym at ∙ c.at.ensures)) knows in
+            let mine = like_machine_knows s h m c.in_ok-state.state (c.in_ok-state.ensures m at) knows in
             false≢true (sym c.if-has_until_words.false ∙ (c.has_until_words.ensures s h lawful mine).1 ends)) old.none;
       };
   few = λ s lawful searched one.
@@ -177,3 +185,15 @@ returns-clause-telling g c = c.loop-place.invariant.telling
 
 pub returns-clause-few : goal.returns-clause-few
 returns-clause-few g c = c.loop-place.invariant.few
+
+pub at-requires-clause-place : goal.at-requires-clause-place
+at-requires-clause-place g c =
+    let old = c.loop-place.invariant.searched c.requires.searched.0 c.requires.searched.1 c.requires.searched.2 in
+    let within = old.searched.within in
+    let is = c.len-states.ensures.count in
+    let isnt = c.if-place-states.false in
+    omega (arith, within, is, isnt)
+
+pub at-requires-clause-kept : goal.at-requires-clause-kept
+at-requires-clause-kept g c =
+    (c.loop-place.invariant.searched c.requires.searched.0 c.requires.searched.1 c.requires.searched.2).searched.found.kept

@@ -13,5 +13,5 @@ invariant-loop-place g l = record {
   few : (s : Plan) → AreLawfulMachineSteps s l.steps → FlatSearchedUpTo s l.initial.search l.steps 0
       → length (found_states l.initial.search.found) ≤ 1 → length (found_states l.search.found) ≤ l.most + 16;
   telling : (s : Plan) → AreLawfulMachineSteps s l.steps → FlatSearchedUpTo s l.initial.search l.steps 0
-      → l.search.found.telling ≡ l.initial.search.found.telling;
+      → l.search.found.first.telling ≡ l.initial.search.found.first.telling;
 }

@@ -7,7 +7,9 @@ use Rattle.journal.specs.DidEvent.{event}
 use Rattle.journal.specs.Events.{EventAt}
 use Rattle.journal.specs.Sizes.{Sizes}
 use Rattle.journal.proofs.Order.EventPlacesAndCounts.{event_place_same, event_place_inside}
+use Rattle.journal.proofs.Passes.NextClocks.{next_clocks_front}
 use Rattle.judge.specs.declared.sizes.Sizes.{Sizes as Given}
+use Rattle.judge.specs.DueCounts.{TellsDueCounts}
 use Rattle.judge.specs.declared.miscounted.Miscounted.{Miscounted}
 use Rattle.judge.specs.LaxWellFormed.{LaxWellFormed}
 use Rattle.judge.specs.JudgedSizes.{judged_sizes_of}
@@ -55,12 +57,15 @@ pub miscount-requires-clause-within : goal.miscount-requires-clause-within
 miscount-requires-clause-within c =
     let events = c.args.events.now in
     let k = c.loop-place.place in
-    within c.loop-place.gaps.sizes c.args.sizes events c.loop-place.invariant.sizes c.requires.well k (here events k)
+    within c.loop-place.counts.stored.sizes c.args.sizes events c.loop-place.invariant.sizes c.requires.well k (here events k)
     (there events k c.loop-place-test.true)
 
 pub note-requires-clause-within : goal.note-requires-clause-within
 note-requires-clause-within c =
-    within c.loop-place.gaps.sizes c.args.sizes c.args.events.now c.loop-place.invariant.sizes c.requires.well
+    let events = c.args.events.now in
+    let k = c.loop-place.place in
+    within c.loop-place.counts.stored.sizes c.args.sizes events c.loop-place.invariant.sizes c.requires.well k (here events k)
+    (there events k c.loop-place-test.true)
 
 pub returns-in-Some : goal.returns-in-Some
 returns-in-Some c =
@@ -80,7 +85,9 @@ loop-place-preserved c =
     let e = here events k in
     let old = c.loop-place.invariant in
     record {
-      tells = c.in_ok-note.ensures.tells;
+      tells = subst (λ j. TellsDueCounts j c.note.new.self)
+          (sym (next_clocks_front events k e (there events k c.loop-place-test.true)))
+          (c.in_ok-note.ensures.tells (take k events) old.tells);
       sizes = c.note.ensures.sizes ∙ old.sizes;
       counted = counted_next (judged_sizes_of c.args.sizes) events k e (there events k c.loop-place-test.true) old.counted
           (subst (λ (x : Given). IsNotMiscounted (judged_sizes_of x) (take k events) e) old.sizes

@@ -5,17 +5,17 @@ use Rattle.journal.specs.declared.event.Kind.{Kind}
 use Rattle.journal.specs.declared.event.Kind.TheVariants.{Fetch}
 use Rattle.journal.specs.Sizes.{Sizes}
 use Rattle.journal.specs.PageImages.{GapCounts, StoredInGapOfPageImage}
-use Rattle.judge.specs.declared.gaps.GapAmounts.{GapAmounts}
+use Rattle.judge.specs.declared.due_counts.DueAmounts.{DueAmounts}
 use Rattle.judge.specs.JudgedSizes.{judged_sizes_of}
 use Rattle.judge.proofs.ValueCounts.{value_count_unique}
 use Rattle.judge.proofs.GapParts.{GapPartRecords, GapPartWrites}
 use Rattle.judge.proofs.miscounted.miscount.Goals as goal
 
-abbrev made : ℕ → ℕ → ℕ → GapAmounts
+abbrev made : ℕ → ℕ → ℕ → DueAmounts
 made w r d = record { writers = w; records = r; words = d }
 
 -- a gap has one of each count
-unique : (s : Sizes) (j : List Event) (p n w r d : ℕ) (due : GapAmounts)
+unique : (s : Sizes) (j : List Event) (p n w r d : ℕ) (due : DueAmounts)
     → GapCounts s j p n due.writers due.records due.words → GapCounts s j p n w r d
     → due ≡ record { writers = w; records = r; words = d }
 unique s j p n w r d due is other =
@@ -38,16 +38,16 @@ counts s j p n w r d k is due m w' r' d' same =
 
 pub returns-then-is_not_miscounted-clause-verdict : goal.returns-then-is_not_miscounted-clause-verdict
 returns-then-is_not_miscounted-clause-verdict c = λ j tells.
-    let s = judged_sizes_of c.args.gaps.now.sizes in
+    let s = judged_sizes_of c.args.counts.now.stored.sizes in
     let f = c.in-Fetch in
     let p = c.args.event.processor in
     let same = c.if-is_not_miscounted.ensures.0 refl in
-    let P : GapAmounts → Type 0 = λ x. GapCounts s j p f.page x.writers x.records x.words in
+    let P : DueAmounts → Type 0 = λ x. GapCounts s j p f.page x.writers x.records x.words in
     counts s j p f.page f.writers f.records f.words c.args.event.kind f.is (subst P same (c.due-due.ensures j tells))
 
 pub returns-else-is_not_miscounted-clause-verdict : goal.returns-else-is_not_miscounted-clause-verdict
 returns-else-is_not_miscounted-clause-verdict c = λ j tells.
-    let s = judged_sizes_of c.args.gaps.now.sizes in
+    let s = judged_sizes_of c.args.counts.now.stored.sizes in
     let f = c.in-Fetch in
     let p = c.args.event.processor in
     let due = c.due-due.ensures j tells in

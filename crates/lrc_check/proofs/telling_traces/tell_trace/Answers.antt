@@ -1,4 +1,5 @@
 use Rattle.std.proofs.Common.{◌∙◌, List, false, length, take, refl, ap, subst, sym}
+use Rattle.std.specs.Prelude.{None}
 use Rattle.std.proofs.lemmas.List.{length-take-le}
 use Rattle.journal.specs.declared.event.Event.{Event}
 use Rattle.judge.specs.SizedHistory.{SizedHistory}
@@ -7,7 +8,7 @@ use Rattle.lrc_check.specs.ToldTraces.{IsToldTraceUpToLie, is_told_trace_a_lie}
 use Rattle.lrc_check.specs.Traces.Labels.{AreTraceLabelsShown}
 use Rattle.lrc_check.specs.Traces.Sizes.{trace_sizes_of}
 use Rattle.lrc_check.proofs.FoundRaces.{IsFoundRace, found_race_by_verdict}
-use Rattle.lrc_check.proofs.ToldEvents.{told_events_of_checked}
+use Rattle.lrc_check.proofs.ToldHistories.{told_events_of_checked}
 use Rattle.lrc_check.proofs.telling_traces.tell_trace.Goals as goal
 
 pub returns : goal.returns
@@ -20,7 +21,7 @@ returns c =
     let checked = c.in_ok-judged.ensures.found in
     let h = c.trace_history_of.result in
     let front = sym (ap (λ (x : SizedHistory). x.events) c.trace_history_of.ensures.whole ∙ ap (take found.count) c.deref-events.ensures.value) in
-    let rules : Rules = record { model = m; lax = lax; ends_at_race = false } in
+    let rules : Rules = record { model = m; lax = lax; ends_at_race = false; locksets = None } in
     let told = told_events_of_checked rules s j found refl checked in
     record {
       sizes = c.trace_history_of.ensures.sizes;

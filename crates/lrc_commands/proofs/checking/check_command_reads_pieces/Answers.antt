@@ -3,7 +3,7 @@ use Rattle.lrc_commands.proofs.JudgedSources.{judged_source_fed_no_more, judged_
 use Rattle.lrc_commands.proofs.checking.check_command_reads_pieces.Goals as goal
 
 pub loop-total-init : goal.loop-total-init
-loop-total-init g c = judged_source_fed_none _ c.new.result c.new.ensures
+loop-total-init g c = judged_source_fed_none _ c.new.result c.new.ensures.fed
 
 pub loop-total-preserved : goal.loop-total-preserved
 loop-total-preserved g c =

@@ -14,5 +14,6 @@ returns-clause-written g c =
           (subst (λ ws. IsAllowedUntil s c.explore_command_detail-detail.result ws o.most c.in_ok-allowed.allowed) c.deref.ensures.value
           c.in_ok-allowed.ensures);
       decided_is = sym c.is_settled.ensures;
+      until = c.until-until.result;
       written = c.in_ok-explore_command_writes_allowed_showing.ensures.written;
     }

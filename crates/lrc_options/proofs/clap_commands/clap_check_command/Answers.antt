@@ -10,8 +10,8 @@ returns c =
     let file = file_option_rules (codes "check") in
     let judged = judged_option_rules file (vp.Names c.args.models) in
     let race = with_rule judged race_is_error_option_rule in
-    let locks = with_rule race locksets_option_rule in
+    let locks = with_rule race (locksets_option_rule (vp.Names c.args.words)) in
     let one = c.clap_judged_command-command.ensures file c.clap_file_command-command.ensures in
     let two = matched_option_with_rule _ judged _ _ c.clap_flag_arg.ensures.rule (c.with_clap_arg-command.ensures judged one) in
-    let three = matched_option_with_rule _ race _ _ c.clap_flag_arg-2.ensures.rule (c.with_clap_arg-command-2.ensures race two) in
-    matched_option_with_rule _ locks _ _ c.clap_flag_arg-3.ensures.rule (c.with_clap_arg.ensures locks three)
+    let three = matched_option_with_rule _ race _ _ c.clap_locksets_arg.ensures.rule (c.with_clap_arg-command-2.ensures race two) in
+    matched_option_with_rule _ locks _ _ c.clap_flag_arg-2.ensures.rule (c.with_clap_arg.ensures locks three)

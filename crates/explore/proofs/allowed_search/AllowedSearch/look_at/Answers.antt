@@ -1,21 +1,25 @@
-use Rattle.std.proofs.Common.{refl, sym, subst, ◌∙◌}
+use Rattle.std.proofs.Common.{map, refl, sym, subst, ◌∙◌}
 use Rattle.std.proofs.lemmas.Bool.{false≢true}
 use Rattle.std.proofs.lemmas.Result.{on_ok_weaker}
 use Rattle.lrc_script.specs.Plan.{plan_of}
 use Rattle.explore.specs.AllowedBeginnings.{allowed_beginning_events}
+use Rattle.explore.specs.AllowedSearch.{IsNotedInAllowedSearch, allowed_search_found}
+use Rattle.explore.specs.Explored.{explored_outcome}
 use Rattle.explore.specs.Machines.{machine_rows}
 use Rattle.explore.specs.OutcomeTelling.{AreOutcomeTellingReplies}
 use Rattle.explore.proofs.allowed_runs.SearchByRules.{rules_search_looked_onward, rules_search_looked_at_whole}
 use Rattle.explore.proofs.allowed_search.AllowedSearch.look_at.Goals as goal
 
 pub returns-then-is_whole : goal.returns-then-is_whole
-returns-then-is_whole c = on_ok_weaker c.add_search_outcome.result (λ among.
+returns-then-is_whole c = on_ok_weaker c.note_allowed_outcome.result (λ noted.
     let s = plan_of c.args.script.now in
     rules_search_looked_at_whole s c.args.detail c.args.beginning.now (machine_rows c.in_ok-replies.replies.items) c.args.self.now _ c.requires.steps.lawful
     c.requires.told ((c.is_whole.ensures s c.requires.steps c.requires.told).0 c.if-is_whole.true)
     (subst (λ t. AreOutcomeTellingReplies s t (allowed_beginning_events c.args.beginning.now) (machine_rows c.in_ok-replies.replies.items)) c.of_script-telling.ensures
-    (c.in_ok-replies.ensures s c.requires.steps c.requires.told)) refl among)
-    c.add_search_outcome.ensures
+    (c.in_ok-replies.ensures s c.requires.steps c.requires.told)) refl
+    (subst (IsNotedInAllowedSearch (allowed_search_found c.args.self.now) (map explored_outcome c.note_allowed_outcome.new.outcomes.keys)
+    c.args.self.now.runs.items c.note_allowed_outcome.new.runs.items (machine_rows c.in_ok-replies.replies.items)) c.events-events.ensures noted))
+    c.note_allowed_outcome.ensures
 
 pub returns : goal.returns
 returns c = on_ok_weaker c.follow.result (λ on.

@@ -1,10 +1,12 @@
-use Rattle.std.proofs.Common.{rules, sym, subst}
+use Rattle.std.proofs.Common.{sym, subst, ◌∙◌}
+use Rattle.std.proofs.lemmas.List.{length-map}
+use Rattle.explore.specs.KeptStates.{opened_state}
 use Rattle.explore.specs.StatesOfScript.{HasStatesOfScript}
 use Rattle.explore.proofs.CountedStates.{has_counted_states}
 use Rattle.explore.proofs.found_states.FoundStates.len.Goals as goal
 
 pub returns-clause-states : goal.returns-clause-states
 returns-clause-states c = λ s d found telling.
-    subst (HasStatesOfScript s d) (sym c.len.ensures.len)
-    (has_counted_states _ _ (λ w. search rules) (λ t. search rules) s d c.args.self.now found telling
-    c.len.ensures.unique)
+    let x = c.args.self.now in
+    subst (HasStatesOfScript s d) (length-map x.states.keys (opened_state x.parts x.first) ∙ sym c.len.ensures.len)
+    (has_counted_states s d x found telling c.len.ensures.unique)

@@ -16,7 +16,7 @@ use Rattle.lrc_script.specs.Lawful.{plan_addresses}
 use Rattle.explore.proofs.locksets.TextGuardLaw.{text_guard_law}
 use Rattle.explore.proofs.locksets.Noted.{lockset_noted_address_within, lockset_noted_rows_within, lockset_noted_unused_guarded}
 use Rattle.explore.proofs.prefixes.Neighbours.NoNeighbours.{no_neighbours_law}
-use Rattle.explore.specs.FlatSearch.{IsFlatSearchedThrough, IsFlatSearched, FlatSearchedUpTo}
+use Rattle.explore.specs.FlatSearch.{AreFlatSearchPlaces, IsFlatSearchedThrough, IsFlatSearched, FlatSearchedUpTo}
 use Rattle.explore.proofs.SearchedStates.{searched_states_all_outcomes, searched_states_without_neighbours, searched_states_open_only, searched_states_some_outcomes}
 use Rattle.explore.proofs.search.Search.answer.Goals as goal
 
@@ -84,18 +84,16 @@ verdict-requires-clause-racing g c =
 
 pub hanging-requires-clause-searched : goal.hanging-requires-clause-searched
 hanging-requires-clause-searched g c =
-    let s = plan_of c.args.script.now in (
-      c.args.steps.now,
-      c.requires.steps,
-      searched s c.look_at_all.new.self c.args.steps.now c.state_room_at_most-most.result c.len-states.result
-          c.in_ok-neighbours.neighbours c.is_search_through-through.result
-          (c.in_ok-neighbours.ensures.looked s c.requires.steps c.requires.searched) c.len-states.ensures.count
-          c.is_search_through-through.ensures,
-    )
+    let s = plan_of c.args.script.now in
+    searched s c.look_at_all.new.self c.args.steps.now c.state_room_at_most-most.result c.len-states.result c.in_ok-neighbours.neighbours
+    c.is_search_through-through.result (c.in_ok-neighbours.ensures.looked s c.requires.steps c.requires.searched) c.len-states.ensures.count
+    c.is_search_through-through.ensures
 
 pub returns : goal.returns
-returns g c = λ d begun.
+returns g c =
     let s = plan_of c.args.script.now in
+    let d = c.args.detail in
+    let begun = c.requires.telling in
     let x = c.look_at_all.new.self in
     let steps = c.args.steps.now in
     let looked = c.in_ok-neighbours.ensures in
@@ -106,6 +104,7 @@ returns g c = λ d begun.
     c.is_search_through-through.result through count c.is_search_through-through.ensures in
     let telling = looked.telling s c.requires.steps c.requires.searched ∙ begun in
     let keys = sym (c.in_ok-outcomes.ensures ∙ ap (λ o. o.keys) c.replace-outcomes.ensures.value) in
+    let listed = ap (map explored_outcome) keys ∙ sym c.in_ok-outcomes-2.ensures.listed in
     record {
       states = c.len-states.ensures.states s d through.some.1.found telling;
       few = (
@@ -113,10 +112,14 @@ returns g c = λ d begun.
           omega (arith, found, count, most));
       verdict = c.in_ok-verdict.ensures.verdict;
       hanging = c.in_ok-hanging.ensures.hanging;
-      outcomes = subst (λ os. AreExploredOutcomes s d (map explored_outcome os)) keys
+      outcomes = subst (AreExploredOutcomes s d) listed
           (searched_states_some_outcomes s d x steps through.some.0 telling through.some.1);
+      runs = c.in_ok-outcomes-2.ensures.runs s d through.some.1.found
+          (subst (λ os. AreFlatSearchPlaces s (found_states x.found) (map explored_outcome os) c.deref-2.result.now) keys
+          (subst (AreFlatSearchPlaces s (found_states x.found) (map explored_outcome x.outcomes.keys)) (sym c.deref-2.ensures.value)
+          through.some.1.noted.places)) telling;
       all = λ yes.
-          subst (λ os. AreAllOutcomesExplored s d (map explored_outcome os)) keys
+          subst (AreAllOutcomesExplored s d) listed
           (searched_states_all_outcomes s x steps c.requires.steps (all.all yes) d telling);
       given_up = λ opens.
           let both = searched_states_open_only c.in_ok-neighbours.neighbours (c.is_search_through-through.result || c.are_all_guarded.result)
@@ -126,3 +129,17 @@ returns g c = λ d begun.
           c.is_search_through-through.result c.is_search_through-through.ensures both.0 both.1 in
           omega (arith, more, most);
     }
+
+pub search_outcomes_with_runs-requires : goal.search_outcomes_with_runs-requires
+search_outcomes_with_runs-requires g c =
+    let s = plan_of c.args.script.now in
+    let x = c.look_at_all.new.self in
+    let through = c.in_ok-neighbours.ensures.looked s c.requires.steps c.requires.searched in
+    let keys = sym (c.in_ok-outcomes.ensures ∙ ap (λ o. o.keys) c.replace-outcomes.ensures.value) in (
+      s,
+      c.requires.steps.lawful,
+      through.some.1.found,
+      subst (λ os. AreFlatSearchPlaces s (found_states x.found) (map explored_outcome os) c.deref-2.result.now) keys
+          (subst (AreFlatSearchPlaces s (found_states x.found) (map explored_outcome x.outcomes.keys)) (sym c.deref-2.ensures.value)
+          through.some.1.noted.places),
+    )

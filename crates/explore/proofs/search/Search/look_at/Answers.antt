@@ -3,11 +3,14 @@ use Rattle.std.proofs.lemmas.Bool.{false≢true}
 use Rattle.std.proofs.lemmas.Option.{same_Some}
 use Rattle.explore.specs.declared.flat_state.FlatState.{FlatState}
 use Rattle.explore.specs.declared.search.Search.{Search}
-use Rattle.explore.specs.FoundStates.{found_states}
+use Rattle.explore.specs.FoundStates.{IsFoundStateAt, found_states}
+use Rattle.explore.specs.FreeChoice.{IsFreeChoice}
 use Rattle.explore.specs.FollowedStates.{AreFollowedStates, MayBeFollowedStateByEach}
 use Rattle.explore.specs.Machines.{MachineKnows}
 use Rattle.explore.specs.Nexts.{AreNexts}
 use Rattle.explore.specs.FlatSearch.{AreFlatSearchNotes}
+use Rattle.explore.proofs.LikeMachines.{like_machine_knows}
+use Rattle.explore.proofs.MachineSteps.{machine_step_some_at}
 use Rattle.explore.proofs.SearchedStates.{searched_states_next, searched_states_noted_kept, searched_states_noted_skip}
 use Rattle.explore.proofs.search.Search.look_at.Goals.{then-are_neighbours_over+in_ok-note_end, else-are_neighbours_over}
 use Rattle.explore.proofs.search.Search.look_at.Goals as goal
@@ -16,13 +19,23 @@ pub neighbour_nexts_of-nexts-requires : goal.neighbour_nexts_of-nexts-requires
 neighbour_nexts_of-nexts-requires c =
     let s = c.requires.unvisited.0 in
     let may = c.requires.unvisited.1 in
-    let g = may.searched.found.known c.args.place c.at-state.result.now c.at-state.ensures in
-    record { plan = s; lawful = may.lawful; events = g.0; knows = g.1 }
+    let stored = machine_step_some_at (found_states c.args.self.now.found) c.args.place may.more in
+    let g = may.searched.found.known c.args.place stored.0 stored.1 in
+    record {
+      plan = s;
+      lawful = may.lawful;
+      events = g.0;
+      knows = like_machine_knows s g.0 stored.0 c.in_ok-state.state (c.in_ok-state.ensures stored.0 stored.1) g.1;
+    }
 
 pub returns-in-Some-clause-looked : goal.returns-in-Some-clause-looked
 returns-in-Some-clause-looked c = λ s may.
-    let f = c.at-state.result.now in
-    let nexts = c.neighbour_nexts_of-nexts.ensures.nexts s may.lawful in
+    let stored = machine_step_some_at (found_states c.args.self.now.found) c.args.place may.more in
+    let f = stored.0 in
+    let like = c.in_ok-state.ensures f stored.1 in
+    let nexts_of : AreNexts s f c.neighbour_nexts_of-nexts.result = (λ g knows.
+    c.neighbour_nexts_of-nexts.ensures.nexts s may.lawful g (like_machine_knows s g f c.in_ok-state.state like knows)) in
+    let nexts = nexts_of in
     let conflict = c.in-Some.ensures in (
       may.searched,
       record {
@@ -33,10 +46,10 @@ returns-in-Some-clause-looked c = λ s may.
           apart = conflict.apart;
           conflict = conflict.conflict;
           first = λ m at g knows.
-              let mine = subst (λ x. MachineKnows s g x) (same_Some m f (sym at ∙ c.at-state.ensures)) knows in
+              let mine = subst (λ x. MachineKnows s g x) (same_Some m f (sym at ∙ stored.1)) knows in
               (nexts g mine c.in-Some.first.processor c.in-Some.first.kind).0 conflict.first;
           second = λ m at g knows.
-              let mine = subst (λ x. MachineKnows s g x) (same_Some m f (sym at ∙ c.at-state.ensures)) knows in
+              let mine = subst (λ x. MachineKnows s g x) (same_Some m f (sym at ∙ stored.1)) knows in
               (nexts g mine c.in-Some.second.processor c.in-Some.second.kind).0 conflict.second;
         };
       },
@@ -46,15 +59,19 @@ pub note_end-requires : goal.note_end-requires
 note_end-requires c =
     let s = c.requires.unvisited.0 in
     let may = c.requires.unvisited.1 in
-    let f = c.at-state.result.now in
-    let nexts = c.neighbour_nexts_of-nexts.ensures.nexts s may.lawful in (
+    let stored = machine_step_some_at (found_states c.args.self.now.found) c.args.place may.more in
+    let f = stored.0 in
+    let like = c.in_ok-state.ensures f stored.1 in
+    let nexts_of : AreNexts s f c.neighbour_nexts_of-nexts.result = (λ g knows.
+    c.neighbour_nexts_of-nexts.ensures.nexts s may.lawful g (like_machine_knows s g f c.in_ok-state.state like knows)) in
+    let nexts = nexts_of in (
       s,
       record {
         lawful = may.lawful;
         found = may.searched.found;
         within = may.more;
         over = λ m at g p k knows next.
-            let mine = subst (λ x. MachineKnows s g x) (same_Some m f (sym at ∙ c.at-state.ensures)) knows in
+            let mine = subst (λ x. MachineKnows s g x) (same_Some m f (sym at ∙ stored.1)) knows in
             c.are_neighbours_over.ensures.0 c.if-are_neighbours_over.true p k ((nexts g mine p k).1 next);
         noted = may.searched.noted;
       },
@@ -64,7 +81,11 @@ pub follow_all-requires-clause-may : goal.follow_all-requires-clause-may
 follow_all-requires-clause-may c =
     let s = c.requires.unvisited.0 in
     let may = c.requires.unvisited.1 in
-    let f = c.at-state.result.now in
+    let stored = machine_step_some_at (found_states c.args.self.now.found) c.args.place may.more in
+    let f = stored.0 in
+    let like = c.in_ok-state.ensures f stored.1 in
+    let nexts_of : AreNexts s f c.neighbour_nexts_of-nexts.result = (λ g knows.
+    c.neighbour_nexts_of-nexts.ensures.nexts s may.lawful g (like_machine_knows s g f c.in_ok-state.state like knows)) in
     let same : c.if-are_neighbours_over.self.found ≡ c.args.self.now.found = elim c.if-are_neighbours_over.branch [
       | then-are_neighbours_over+in_ok-note_end w ↦ ap (λ (z : Search). z.found) w.self-is ∙ w.in_ok-note_end.ensures.found
       | else-are_neighbours_over w ↦ ap (λ (z : Search). z.found) w.self-is
@@ -76,8 +97,8 @@ follow_all-requires-clause-may c =
             found = may.searched.found;
             within = may.more;
             next = λ m at p k told g knows.
-                (c.neighbour_nexts_of-nexts.ensures.nexts s may.lawful g
-                (subst (MachineKnows s g) (same_Some m f (sym at ∙ c.at-state.ensures)) knows) p k).0 (c.free_choice-followed.ensures.among p k told);
+                (nexts_of g
+                (subst (MachineKnows s g) (same_Some m f (sym at ∙ stored.1)) knows) p k).0 (c.free_choice-followed.ensures.among p k told);
           }),
     )
 
@@ -88,7 +109,11 @@ pub returns-clause-found : goal.returns-clause-found
 returns-clause-found c = λ s may.
     let x = c.args.self.now.found in
     let place = c.args.place in
-    let f = c.at-state.result.now in
+    let stored = machine_step_some_at (found_states c.args.self.now.found) c.args.place may.more in
+    let f = stored.0 in
+    let like = c.in_ok-state.ensures f stored.1 in
+    let nexts_of : AreNexts s f c.neighbour_nexts_of-nexts.result = (λ g knows.
+    c.neighbour_nexts_of-nexts.ensures.nexts s may.lawful g (like_machine_knows s g f c.in_ok-state.state like knows)) in
     let chosen = c.free_choice-followed.result in
     let new = c.follow_all.new.self in
     let same : c.if-are_neighbours_over.self.found ≡ x = elim c.if-are_neighbours_over.branch [
@@ -100,7 +125,7 @@ returns-clause-found c = λ s may.
       found = may.searched.found;
       within = may.more;
       next = λ m at p k told g knows.
-          (c.neighbour_nexts_of-nexts.ensures.nexts s may.lawful g (subst (MachineKnows s g) (same_Some m f (sym at ∙ c.at-state.ensures)) knows) p k).0
+          (nexts_of g (subst (MachineKnows s g) (same_Some m f (sym at ∙ stored.1)) knows) p k).0
           (c.free_choice-followed.ensures.among p k told);
     } in
     let followed =
@@ -114,17 +139,21 @@ pub returns-clause-looked : goal.returns-clause-looked
 returns-clause-looked c = λ s may.
     let x = c.args.self.now in
     let place = c.args.place in
-    let f = c.at-state.result.now in
+    let stored = machine_step_some_at (found_states c.args.self.now.found) c.args.place may.more in
+    let f = stored.0 in
+    let like = c.in_ok-state.ensures f stored.1 in
+    let nexts_of : AreNexts s f c.neighbour_nexts_of-nexts.result = (λ g knows.
+    c.neighbour_nexts_of-nexts.ensures.nexts s may.lawful g (like_machine_knows s g f c.in_ok-state.state like knows)) in
     let nexts = c.neighbour_nexts_of-nexts.result in
     let chosen = c.free_choice-followed.result in
-    let are = c.neighbour_nexts_of-nexts.ensures.nexts s may.lawful in
+    let are = nexts_of in
     let new = c.follow_all.new.self in
     let same : c.if-are_neighbours_over.self.found ≡ x.found = elim c.if-are_neighbours_over.branch [
       | then-are_neighbours_over+in_ok-note_end w ↦ ap (λ (z : Search). z.found) w.self-is ∙ w.in_ok-note_end.ensures.found
       | else-are_neighbours_over w ↦ ap (λ (z : Search). z.found) w.self-is
     ] in
     let each : (m : FlatState) → slice_get (found_states x.found) place ≡ Some m → AreNexts s m nexts =
-    (λ m at. subst (λ y. AreNexts s y nexts) (same_Some f m (sym c.at-state.ensures ∙ at)) are) in
+    (λ m at. subst (λ y. AreNexts s y nexts) (same_Some f m (sym stored.1 ∙ at)) are) in
     let may_follow : MayBeFollowedStateByEach s c.args.steps.now x.found place chosen = record {
       lawful = may.lawful;
       found = may.searched.found;
@@ -141,21 +170,37 @@ returns-clause-looked c = λ s may.
             found = may.searched.found;
             within = may.more;
             over = λ m at g p k knows next.
-                let mine = subst (λ y. MachineKnows s g y) (same_Some m f (sym at ∙ c.at-state.ensures)) knows in
+                let mine = subst (λ y. MachineKnows s g y) (same_Some m f (sym at ∙ stored.1)) knows in
                 c.are_neighbours_over.ensures.0 w.if-are_neighbours_over.true p k ((are g mine p k).1 next);
             noted = may.searched.noted;
           }))
       | else-are_neighbours_over w ↦
           subst (λ z. AreFlatSearchNotes s z (place + 1)) (sym w.self-is)
-          (searched_states_noted_skip s (found_states x.found) place f c.at-state.ensures may.lawful.lawful.but_uneven.one_each
+          (searched_states_noted_skip s (found_states x.found) place f stored.1 may.lawful.lawful.but_uneven.one_each
           (λ g knows none.
           false≢true (sym w.if-are_neighbours_over.false ∙ c.are_neighbours_over.ensures.1 (λ p k is. none p k ((are g knows p k).0 is)))) x refl
           may.searched.noted)
     ] in
-    let z : Search = record { found = new; outcomes = c.if-are_neighbours_over.self.outcomes; hang = c.if-are_neighbours_over.self.hang } in
+    let z : Search = record {
+      found = new;
+      outcomes = c.if-are_neighbours_over.self.outcomes;
+      shown_at = c.if-are_neighbours_over.self.shown_at;
+      hang = c.if-are_neighbours_over.self.hang;
+    } in
     let more = may.more in
     searched_states_next z f.done nexts chosen may
-    (λ m at. ap (λ (y : FlatState). y.done) (same_Some m f (sym at ∙ c.at-state.ensures))) each c.in_default.ensures
-    (c.free_choice-followed.ensures.choice c.args.steps.now c.requires.facts) followed
+    (λ m at. ap (λ (y : FlatState). y.done) (same_Some m f (sym at ∙ stored.1))) each c.in_default.ensures
+    (subst (λ d. IsFreeChoice c.args.steps.now d nexts chosen) like.done (c.free_choice-followed.ensures.choice c.args.steps.now c.requires.facts)) followed
     (searched_states_noted_kept s (found_states x.found) (found_states new) (place + 1) followed.keeps (omega arith) c.if-are_neighbours_over.self z
-    (ap found_states same) refl refl refl noted)
+    (ap found_states same) refl refl refl refl noted)
+
+pub at-requires-clause-kept : goal.at-requires-clause-kept
+at-requires-clause-kept c = c.requires.unvisited.1.searched.found.kept
+
+pub follow_all-requires-clause-state : goal.follow_all-requires-clause-state
+follow_all-requires-clause-state c =
+    let same : c.if-are_neighbours_over.self.found ≡ c.args.self.now.found = elim c.if-are_neighbours_over.branch [
+      | then-are_neighbours_over+in_ok-note_end w ↦ ap (λ (z : Search). z.found) w.self-is ∙ w.in_ok-note_end.ensures.found
+      | else-are_neighbours_over w ↦ ap (λ (z : Search). z.found) w.self-is
+    ] in
+    subst (λ x. IsFoundStateAt x c.args.place c.in_ok-state.state) (sym same) c.in_ok-state.ensures

@@ -11,5 +11,5 @@ invariant-loop-place g l = record {
   few : (s : Plan) → AreLawfulMachineSteps s l.steps → FlatSearchedUpTo s l.initial.self l.steps 0
       → length (found_states l.initial.self.found) ≤ 1 → length (found_states l.self.found) ≤ l.most + 16;
   telling : (s : Plan) → AreLawfulMachineSteps s l.steps → FlatSearchedUpTo s l.initial.self l.steps 0
-      → l.self.found.telling ≡ l.initial.self.found.telling;
+      → l.self.found.first.telling ≡ l.initial.self.found.first.telling;
 }

@@ -1,7 +1,12 @@
-use Rattle.std.proofs.Common.{ap, sym, subst, ◌∙◌, refl, Some}
+use Rattle.std.proofs.Common.{ap, map, sym, subst, ◌∙◌, refl, Some}
 use Rattle.std.proofs.lemmas.Bool.{false≢true}
 use Rattle.std.proofs.lemmas.Result.{on_ok_weaker}
-use Rattle.explore.specs.FlatSearch.{IsAmongFlatSearched}
+use Rattle.explore.specs.declared.search.Search.{Search}
+use Rattle.explore.specs.Explored.{explored_outcome}
+use Rattle.explore.specs.FlatSearch.{IsNotedInFlatSearch}
+use Rattle.explore.specs.FoundStates.{found_states}
+use Rattle.explore.proofs.LikeMachines.{like_machine_knows}
+use Rattle.explore.proofs.MachineSteps.{machine_step_some_at}
 use Rattle.explore.proofs.SearchedStates.{searched_state_noted_hanging, searched_state_noted_whole}
 use Rattle.explore.proofs.search.Search.note_end.Goals as goal
 
@@ -9,20 +14,41 @@ pub is_whole-requires : goal.is_whole-requires
 is_whole-requires c =
     let s = c.requires.0 in
     let may = c.requires.1 in
-    let g = may.found.known c.args.place c.at-state.result.now c.at-state.ensures in
-    record { plan = s; lawful = may.lawful; events = g.0; knows = g.1 }
+    let stored = machine_step_some_at (found_states c.args.self.now.found) c.args.place may.within in
+    let g = may.found.known c.args.place stored.0 stored.1 in
+    record {
+      plan = s;
+      lawful = may.lawful;
+      events = g.0;
+      knows = like_machine_knows s g.0 stored.0 c.in_ok-state.state (c.in_ok-state.ensures stored.0 stored.1) g.1;
+    }
 
 pub returns-then-is_whole-clause-noted : goal.returns-then-is_whole-clause-noted
-returns-then-is_whole-clause-noted c = on_ok_weaker c.add_search_outcome.result (λ among s may.
-    let f = c.at-state.result.now in
-    searched_state_noted_whole s c.args.self.now c.args.steps.now c.args.place f may c.at-state.ensures
-    (λ g knows. (c.is_whole.ensures s g may.lawful knows).0 c.if-is_whole.true) _ refl refl
-    (subst (IsAmongFlatSearched _ _) c.in_ok-replies.ensures among)) c.add_search_outcome.ensures
+returns-then-is_whole-clause-noted c = on_ok_weaker c.note_search_outcome.result (λ noted s may.
+    let x = c.args.self.now in
+    let stored = machine_step_some_at (found_states c.args.self.now.found) c.args.place may.within in
+    let f = stored.0 in
+    let like = c.in_ok-state.ensures f stored.1 in
+    let y : Search = record {
+      found = x.found;
+      outcomes = c.note_search_outcome.new.outcomes;
+      shown_at = c.note_search_outcome.new.shown_at;
+      hang = x.hang;
+    } in
+    searched_state_noted_whole s x c.args.steps.now c.args.place f may stored.1
+    (λ g knows. (c.is_whole.ensures s g may.lawful (like_machine_knows s g f c.in_ok-state.state like knows)).0 c.if-is_whole.true) y refl refl
+    (subst (λ rows. IsNotedInFlatSearch (map explored_outcome x.outcomes.keys) (map explored_outcome y.outcomes.keys) x.shown_at.items
+    y.shown_at.items rows c.args.place) (c.in_ok-replies.ensures ∙ like.replies) noted)) c.note_search_outcome.ensures
 
 pub returns-clause-noted : goal.returns-clause-noted
 returns-clause-noted c = λ s may.
-    let f = c.at-state.result.now in
-    searched_state_noted_hanging s c.args.self.now _ c.args.steps.now c.args.place f may c.at-state.ensures
+    let stored = machine_step_some_at (found_states c.args.self.now.found) c.args.place may.within in
+    let f = stored.0 in
+    let like = c.in_ok-state.ensures f stored.1 in
+    searched_state_noted_hanging s c.args.self.now _ c.args.steps.now c.args.place f may stored.1
     (λ g knows follows.
-    false≢true (sym c.if-is_whole.false ∙ (c.is_whole.ensures s g may.lawful knows).1 follows)) refl refl
+    false≢true (sym c.if-is_whole.false ∙ (c.is_whole.ensures s g may.lawful (like_machine_knows s g f c.in_ok-state.state like knows)).1 follows)) refl refl refl
     (ap Some c.unwrap_or.ensures)
+
+pub at-requires-clause-kept : goal.at-requires-clause-kept
+at-requires-clause-kept c = c.requires.1.found.kept

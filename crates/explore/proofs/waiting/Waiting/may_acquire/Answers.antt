@@ -1,4 +1,4 @@
-use Rattle.std.proofs.Common.{ℕ, ◌<◌, All, subst, sym}
+use Rattle.std.proofs.Common.{ℕ, ◌<◌, All, subst, sym, ◌∙◌}
 use Rattle.std.proofs.lemmas.Bool.{eq-eqb, eqb-true, false≢true}
 use Rattle.base.specs.InOrderOnce.{Has}
 use Rattle.explore.specs.KeptWaiting.{IsKeptWaitingForLock, IsFirstKeptWaiting}
@@ -16,7 +16,7 @@ first_waiting_of-requires c = record {
 pub returns-in-Some : goal.returns-in-Some
 returns-in-Some c = λ j tells i last. (
   λ yes. absurd (false≢true yes),
-  λ may. absurd (asked_somebody_holds j c.args.self.now c.args.lock _ i tells c.in-Some.is may),
+  λ may. absurd (asked_somebody_holds j c.args.self.now c.args.lock _ i tells (sym c.processor.ensures ∙ c.in-Some.is) may),
 )
 
 pub returns-in-Some-first_waiting_of : goal.returns-in-Some-first_waiting_of
@@ -26,7 +26,7 @@ returns-in-Some-first_waiting_of c = λ j tells i last.
     let l = c.args.lock in
     let q = c.in-Some-first_waiting_of.first in
     let found = subst (λ asked. IsFirstKeptWaiting asked x.waits l q) c.deref.ensures.value c.in-Some-first_waiting_of.ensures in
-    let is = asked_first_may_acquire j x p i l q tells last c.in_default.is found in
+    let is = asked_first_may_acquire j x p i l q tells last (sym c.processor.ensures ∙ c.in_default.is) found in
     ((λ yes. is.0 (eqb-true q p yes)), (λ may. eq-eqb q p (is.1 may)))
 
 pub returns-in-None : goal.returns-in-None

@@ -7,7 +7,8 @@ use Rattle.judge.specs.FrontTells.{FrontTellsFlagSet}
 use Rattle.base.proofs.JoinedLists.{joined_list_has-nil, joined_list_in_order-nil}
 use Rattle.base.proofs.SliceSets.{index-zeros}
 use Rattle.explore.specs.KeptWaiting.{AreKeptWaitingAsks}
-use Rattle.explore.specs.WaitCodes.{WaitCodesAreKept, wait_code_arrivals_open, wait_code_ending, wait_code_seated}
+use Rattle.explore.specs.WaitCodes.{WaitCodesAreKept, wait_code_arrivals_open, wait_code_ending, wait_code_holder, wait_code_nobody}
+use Rattle.explore.proofs.WaitCodes.{wait_code_holder_once}
 use Rattle.explore.proofs.waiting.Waiting.new.Goals as goal
 
 -- a list of one item over and over, with that past its end
@@ -22,9 +23,9 @@ no_wait p k = (
   λ waits. absurd (none-some _ waits.last.does),
 )
 
-no_holder : (l q : ℕ) → (wait_code_seated (slice_index_or (replicate 32 None) l None) ≡ Some q) ↔ Holds [] q l
+no_holder : (l q : ℕ) → (wait_code_holder (slice_index_or (replicate 32 wait_code_nobody) l wait_code_nobody) ≡ Some q) ↔ Holds [] q l
 no_holder l q = (
-  λ is. absurd (none-some q (sym (ap wait_code_seated (always 32 l None)) ∙ is)),
+  λ is. absurd (none-some q (sym (ap wait_code_holder (always 32 l wait_code_nobody)) ∙ is)),
   λ holds. absurd (none-some _ holds.acquires),
 )
 
@@ -47,7 +48,9 @@ returns c = record {
   waits = no_wait;
   arrivals = index-zeros 16;
   departures = λ p. ap (λ o. 0 + wait_code_arrivals_open o) (always 16 p None);
-  holders = no_holder;
+  holders =
+      subst (λ h. (l q : ℕ) → (wait_code_holder (slice_index_or (replicate 32 h) l wait_code_nobody) ≡ Some q) ↔ Holds [] q l)
+      (wait_code_holder_once wait_code_nobody c.nobody.result (sym c.nobody.ensures)) no_holder;
   flags = no_flag;
   asked = subst (AreKeptWaitingAsks []) (sym c.new.ensures.items) none_asked;
 }

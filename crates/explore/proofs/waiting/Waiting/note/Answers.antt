@@ -1,5 +1,4 @@
 use Rattle.std.proofs.Common.{◌≡◌, ℕ, ◌<◌, ◌^◌, List, Option, Some, Bool, IsTrue, false, ◌↔◌, slice_index, slice_index_or, subst, sym, refl, ◌∙◌, arith}
-use Rattle.std.specs.Prelude.{None}
 use Rattle.std.proofs.Math.ListN.{length-set}
 use Rattle.journal.specs.declared.event.Event.{Event}
 use Rattle.journal.specs.DidEvent.{did, event}
@@ -9,13 +8,13 @@ use Rattle.judge.specs.FrontTells.{FrontTellsFlagSet}
 use Rattle.judge.proofs.FrontNoting.{front_noting_count_small, front_noting_counts_next, front_noting_holders_next, front_noting_sets_next}
 use Rattle.judge.proofs.Refusing.{refusing_lax_allowed}
 use Rattle.explore.specs.KeptWaiting.{MayFollowKeptWaiting}
-use Rattle.explore.specs.WaitCodes.{wait_code_seated}
+use Rattle.explore.specs.WaitCodes.{wait_code_holder, wait_code_nobody}
 use Rattle.explore.proofs.Asked.{asked_waits_next}
 use Rattle.explore.proofs.Enabled.{enabled_taking_is_awaited, enabled_only_awaited}
 use Rattle.explore.proofs.WaitCodes.{wait_code_departures_next}
 use Rattle.explore.proofs.AskQueue.{ask_queue_next}
 use Rattle.explore.specs.declared.waiting.Waiting.{Waiting}
-use Rattle.explore.specs.declared.wait_code.Seat.{Seat}
+use Rattle.explore.specs.declared.wait_code.LockHolder.{LockHolder}
 use Rattle.journal.specs.declared.event.Kind.TheVariants.{Depart}
 use Rattle.journal.specs.Sizes.{Sizes}
 use Rattle.journal.specs.WellFormed.{WellFormedNext}
@@ -41,8 +40,8 @@ departs_waits s j p Depart may is = enabled_taking_is_awaited s j p Depart refl 
 departs_waits s j p k may is = absurd cc
 
 -- what is read is what the lemmas speak of
-holder_is : (h : List Event) (l q : ℕ) (new : List (Option Seat)) (o : Option ℕ) → wait_code_seated (slice_index_or new l None) ≡ o
-    → (o ≡ Some q) ↔ Holds h q l → (wait_code_seated (slice_index_or new l None) ≡ Some q) ↔ Holds h q l
+holder_is : (h : List Event) (l q : ℕ) (new : List LockHolder) (o : Option ℕ) → wait_code_holder (slice_index_or new l wait_code_nobody) ≡ o
+    → (o ≡ Some q) ↔ Holds h q l → (wait_code_holder (slice_index_or new l wait_code_nobody) ≡ Some q) ↔ Holds h q l
 holder_is h l q new o is tells = subst (λ x. (x ≡ Some q) ↔ Holds h q l) (sym is) tells
 
 flag_is : (h : List Event) (f : ℕ) (new : List Bool) (b : Bool) → slice_index_or new f false ≡ b

@@ -11,12 +11,12 @@ use Rattle.judge.proofs.frontier.Frontier.first_ask.Goals.{in-Some+then-place-li
 
 -- what is found by the end is the first ask
 answer : (j : List Event) (x : Frontier) (l limit : ℕ) (found : Option (ℕ × ℕ)) → FrontTellsHistory j x
-    → IsFrontAskingFound x.last x.place l found limit → AreFrontAskingFrom x.last l limit 16
+    → IsFrontAskingFound x.last x.place l found limit → AreFrontAskingFrom x.last l limit x.sizes.processors
     → MatchOption found (FrontTellsNobodyAsks j l) (λ (a : ℕ × ℕ). FrontTellsFirstAsk j l a.0 a.1)
-answer j x l limit None tells is from = front_asking_none_found j x.last l limit tells.lasts from tells.long (is ∙ tells.place)
+answer j x l limit None tells is from = front_asking_none_found j x.last l limit tells.lasts x.sizes.processors from tells.processors (is ∙ tells.place)
 answer j x l limit (Some a) tells is from =
     subst (FrontTellsFirstAsk j l a.0) (sym is.0)
-    (front_asking_first_found j x.last l limit tells.lasts from tells.long a.0 (subst (FrontAsksAt x.last l a.0) is.0 is.1))
+    (front_asking_first_found j x.last l limit tells.lasts x.sizes.processors from tells.processors a.0 (subst (FrontAsksAt x.last l a.0) is.0 is.1))
 
 pub returns : goal.returns
 returns c = λ j tells.

@@ -4,6 +4,7 @@ use Rattle.std.proofs.lemmas.Bool.{false≢true}
 use Rattle.std.proofs.lemmas.Option.{none-some}
 use Rattle.journal.specs.WellFormed.{Holds}
 use Rattle.base.proofs.SliceSets.{index-zeros}
+use Rattle.judge.specs.JudgedSizes.{most_judged_processors}
 use Rattle.judge.specs.FrontTells.{FrontTellsLastOf, FrontTellsFlagSet}
 use Rattle.judge.proofs.frontier.Frontier.new.Goals as goal
 
@@ -13,8 +14,8 @@ always zero p d = refl
 always (suc n) zero d = refl
 always (suc n) (suc p) d = always n p d
 
-no_last : (p : ℕ) → FrontTellsLastOf [] p (slice_index_or (replicate 16 None) p None)
-no_last p = subst (FrontTellsLastOf [] p) (sym (always 16 p None)) (λ m e at. absurd (none-some e at))
+no_last : (p : ℕ) → FrontTellsLastOf [] p (slice_index_or (replicate most_judged_processors None) p None)
+no_last p = subst (FrontTellsLastOf [] p) (sym (always most_judged_processors p None)) (λ m e at. absurd (none-some e at))
 
 no_holder : (n l q : ℕ) → (slice_index_or (replicate n None) l None ≡ Some q) ↔ Holds [] q l
 no_holder n l q = (
@@ -28,11 +29,12 @@ no_flag n f = ((λ is. absurd (false≢true (sym (always n f false) ∙ is))), (
 pub returns-clause-tells : goal.returns-clause-tells
 returns-clause-tells c = record {
   sizes = c.requires;
+  processors = λ i e at. absurd (none-some e at);
   place = refl;
   long = refl;
   lasts = no_last;
-  arrivals = index-zeros 16;
-  departures = index-zeros 16;
+  arrivals = index-zeros most_judged_processors;
+  departures = index-zeros most_judged_processors;
   long_holders = c.in_ok-vec.ensures.len;
   holders = λ l q. subst (λ xs. (slice_index_or xs l None ≡ Some q) ↔ Holds [] q l)
       (sym (c.in_ok-vec.ensures.items_if_clones_equal (λ x is. search rules))) (no_holder c.args.sizes.locks l q);

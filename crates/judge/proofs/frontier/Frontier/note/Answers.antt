@@ -1,34 +1,33 @@
-use Rattle.std.proofs.Common.{◌≡◌, ℕ, ◌<◌, ◌^◌, [], ◌∷◌, ◌++◌, List, Option, Some, Bool, IsTrue, false, ◌↔◌, slice_index, slice_index_or, subst, sym, ap, ◌∙◌, length-append, arith}
+use Rattle.std.proofs.Common.{◌≡◌, ℕ, ◌<◌, ◌-◌, ◌^◌, [], ◌∷◌, ◌++◌, List, Option, Some, Bool, IsTrue, false, ◌↔◌, slice_index, slice_index_or, subst, sym, ap, ◌∙◌, length-append, arith}
 use Rattle.std.specs.Prelude.{None}
 use Rattle.std.proofs.Math.ListN.{length-set}
-use Rattle.base.specs.Limits.{most_held}
 use Rattle.journal.specs.declared.event.Event.{Event}
 use Rattle.journal.specs.Events.{event_arrives, event_departs}
 use Rattle.journal.specs.WellFormed.{Holds}
 use Rattle.judge.specs.declared.frontier.Frontier.{Frontier}
 use Rattle.judge.specs.LaxWellFormed.{LaxMayFollow}
-use Rattle.judge.specs.JudgedSizes.{judged_sizes_of}
+use Rattle.judge.specs.JudgedSizes.{judged_sizes_of, most_judged_events, most_judged_processors}
 use Rattle.judge.specs.FrontTells.{FrontTellsFlagSet, FrontTellsHistory, front_tells_flag_set_after, front_tells_holder_after}
-use Rattle.judge.proofs.FrontNoting.{front_noting_count_small, front_noting_counts_next, front_noting_holders_next, front_noting_lasts_next, front_noting_sets_next}
+use Rattle.judge.proofs.FrontNoting.{front_noting_count_small, front_noting_counts_next, front_noting_holders_next, front_noting_lasts_next, front_noting_range_next, front_noting_sets_next}
 use Rattle.judge.proofs.VecItems.{vec_items_written}
 use Rattle.judge.proofs.frontier.Frontier.note.Goals as goal
 
--- its processor is one of sixteen
+-- its processor is one of so many
 processor_small : (j : List Event) (x : Frontier) (e : Event) → FrontTellsHistory j x → LaxMayFollow (judged_sizes_of x.sizes) j e
-    → e.processor < 16
+    → e.processor < most_judged_processors
 processor_small j x e tells may = let few = tells.sizes.processors in let lt = may.processor in omega arith
 
 -- counts are below the number of events
-arrivals_small : (j : List Event) (x : Frontier) (q : ℕ) → FrontTellsHistory j x → x.place < most_held
-    → slice_index x.arrivals q < 2 ^ 22
+arrivals_small : (j : List Event) (x : Frontier) (q : ℕ) → FrontTellsHistory j x → x.place < most_judged_events
+    → slice_index x.arrivals q < 2 ^ 32 - 1
 arrivals_small j x q tells few =
     let is = tells.arrivals q in
     let le = front_noting_count_small event_arrives j q in
     let long = tells.place in
     omega arith
 
-departures_small : (j : List Event) (x : Frontier) (q : ℕ) → FrontTellsHistory j x → x.place < most_held
-    → slice_index x.departures q < 2 ^ 22
+departures_small : (j : List Event) (x : Frontier) (q : ℕ) → FrontTellsHistory j x → x.place < most_judged_events
+    → slice_index x.departures q < 2 ^ 32 - 1
 departures_small j x q tells few =
     let is = tells.departures q in
     let le = front_noting_count_small event_departs j q in
@@ -81,6 +80,7 @@ returns-clause-tells c = λ j tells may.
     let long = tells.long in
     record {
       sizes = tells.sizes;
+      processors = front_noting_range_next j e x.sizes.processors tells.processors may.processor;
       place = (let was = tells.place in let now = length-append j (e ∷ []) in omega arith);
       long = length-set x.last e.processor (Some (record { place = x.place; kind = e.kind })) ∙ long;
       lasts = front_noting_lasts_next j e x.last x.place (omega arith) tells.place tells.lasts;

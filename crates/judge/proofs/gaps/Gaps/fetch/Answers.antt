@@ -61,7 +61,6 @@ returns-clause-long c = then c.set.result c.set.ensures.set
       fetched = written.sparse;
       fetched_room = (let room = long.fetched_room in let same = c.set.ensures.room in omega arith);
       intervals = long.intervals;
-      words = long.words;
     })
 
 pub returns-clause-kept : goal.returns-clause-kept

@@ -4,7 +4,7 @@ use Rattle.std.proofs.lemmas.Option.{none-some}
 use Rattle.journal.specs.declared.event.Kind.TheVariants.{Store}
 use Rattle.journal.specs.DidEvent.{event}
 use Rattle.judge.specs.JudgedSizes.{judged_sizes_of}
-use Rattle.judge.specs.FetchGaps.{FetchGapStoreAt, FetchGapStoreInPage, FetchGapStoreOfWord, fetch_gap_clock, fetch_gap_time}
+use Rattle.judge.specs.FetchGaps.{FetchGapStoreAt, FetchGapStoreInPage, fetch_gap_clock, fetch_gap_time}
 use Rattle.judge.specs.GapTally.{gap_tally_place_of}
 use Rattle.judge.proofs.GapEvents.{gap_event_fetched_start}
 use Rattle.judge.proofs.TallyRows.{tally_rows_and_marks_none}
@@ -27,7 +27,6 @@ returns-clause-tells c =
         fetched = sparse.sparse;
         fetched_room = sparse.room;
         intervals = c.in_ok-new-3.ensures.room;
-        words = c.in_ok-new-4.ensures.room;
       };
       are = record {
         fetched = λ n p lt. gap_event_fetched_start s p n (fetch_gap_time fetched (gap_tally_place_of n p))
@@ -38,11 +37,6 @@ returns-clause-tells c =
             (c.in_ok-new-3.ensures.few_rows, c.in_ok-new-3.ensures.few_marks)
             c.in_ok-new-3.ensures.empty c.in_ok-new-3.ensures.unmarked (λ m r z h. nothing h.0 r z h.1.0)
             (λ m r z h. nothing h.0 r z h.1.0);
-        words =
-            tally_rows_and_marks_none (FetchGapStoreOfWord s []) (λ z. z.0) (FetchGapStoreAt []) c.in_ok-new-4.field-0
-            (c.in_ok-new-4.ensures.few_rows, c.in_ok-new-4.ensures.few_marks)
-            c.in_ok-new-4.ensures.empty c.in_ok-new-4.ensures.unmarked (λ m r z h. nothing z.1 r z.0 h.0)
-            nothing;
         few = (let few = sparse.few in omega arith);
       };
     }

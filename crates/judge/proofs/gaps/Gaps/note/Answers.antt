@@ -31,9 +31,8 @@ told j g clocks range long kept are present = record {
     fetched = long.fetched;
     fetched_room = long.fetched_room;
     intervals = long.intervals;
-    words = long.words;
   };
-  are = record { fetched = kept.fetched; intervals = kept.intervals; words = kept.words; few = kept.few };
+  are = record { fetched = kept.fetched; intervals = kept.intervals; few = kept.few };
 }
 
 pub returns-clause-tells : goal.returns-clause-tells

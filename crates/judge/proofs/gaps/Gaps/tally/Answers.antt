@@ -11,10 +11,10 @@ use Rattle.journal.proofs.Times.PushedTimes.{pushed_time_own_entry}
 use Rattle.judge.specs.declared.gaps.Gaps.{Gaps}
 use Rattle.judge.specs.declared.gap_tally.GapTally.{GapTally}
 use Rattle.judge.specs.JudgedSizes.{judged_sizes_of}
-use Rattle.judge.specs.FetchGaps.{AreFetchGapsOf, TellsFetchGaps, FetchGapStoreAt, FetchGapStoreInPage, FetchGapStoreOfWord, fetch_gap_time}
+use Rattle.judge.specs.FetchGaps.{AreFetchGapsOf, TellsFetchGaps, FetchGapStoreInPage, fetch_gap_time}
 use Rattle.judge.specs.GapTally.{GapTallyAdds, IsGapTallyOfValues, gap_tally_place_of}
 use Rattle.judge.proofs.TallyRows.{tally_rows_and_marks_next}
-use Rattle.judge.proofs.GapEvents.{gap_event_fetched_others, gap_event_page_next, gap_event_store_bound, gap_event_store_next, gap_event_word_next}
+use Rattle.judge.proofs.GapEvents.{gap_event_fetched_others, gap_event_page_next, gap_event_store_bound}
 use Rattle.judge.proofs.gaps.Gaps.tally.Goals as goal
 
 not_fetch : (q a v p n w r d : ℕ) → event q (Store a v) ≡ event p (Fetch w n r d) → ⊥
@@ -24,12 +24,12 @@ not_fetch q a v p n w r d is = let kind = ap (λ (e : Event). e.kind) is in let 
 own_few : (j : List Event) (p : ℕ) → event_count event_closes j p ≤ length j
 own_few j p = count_by-le-length (λ (e : Event). (e.processor == p) && event_closes e.kind) j
 
--- what both tallies add is what is kept after the store
-stored : (g : Gaps) (j : List Event) (q a v k n : ℕ) (intervals words : GapTally) → TellsFetchGaps j g → q < 16
+-- what the tally adds is what is kept after the store
+stored : (g : Gaps) (j : List Event) (q a v k n : ℕ) (intervals : GapTally) → TellsFetchGaps j g → q < 16
     → k ≡ event_count event_closes j q → n ≡ a / g.sizes.words
-    → GapTallyAdds g.intervals intervals (gap_tally_place_of n q) (gap_tally_place_of n q) k → GapTallyAdds g.words words (gap_tally_place_of n q) (gap_tally_place_of a q) k
-    → AreFetchGapsOf (did j q (Store a v)) (record g { intervals = intervals; words = words })
-stored g j q a v k n intervals words tells lt is page first second = record {
+    → GapTallyAdds g.intervals intervals (gap_tally_place_of n q) (gap_tally_place_of n q) k
+    → AreFetchGapsOf (did j q (Store a v)) (record g { intervals = intervals })
+stored g j q a v k n intervals tells lt is page adds = record {
   fetched = λ m p within. gap_event_fetched_others s j (event q (Store a v)) p m (fetch_gap_time g.fetched (gap_tally_place_of m p))
       (λ w r d. not_fetch q a v p m w r d) (tells.are.fetched m p within);
   intervals =
@@ -38,14 +38,7 @@ stored g j q a v k n intervals words tells lt is page first second = record {
       (gap_event_page_next s j q a v) (λ h. h, λ h. h) (λ z h. gap_event_store_bound j h.0 q z h.1.0)
       (λ z h. gap_event_store_bound j h.0 q z h.1.0)
       (subst (λ x. GapTallyAdds g.intervals intervals (gap_tally_place_of x q) (gap_tally_place_of x q) (event_count event_closes j q)) page
-      (subst (GapTallyAdds g.intervals intervals (gap_tally_place_of n q) (gap_tally_place_of n q)) is first)) tells.are.intervals);
-  words =
-      subst (λ x. IsGapTallyOfValues (FetchGapStoreOfWord s after) (λ z. z.0) (FetchGapStoreAt after) x words) (sym long)
-      (tally_rows_and_marks_next lt (gap_event_word_next s j q a v)
-      (gap_event_store_next j q a v) (λ h. h.0, λ h. (h, refl)) (λ z h. gap_event_store_bound j z.1 q z.0 h.0)
-      (λ z h. gap_event_store_bound j a q z h)
-      (subst (λ x. GapTallyAdds g.words words (gap_tally_place_of x q) (gap_tally_place_of a q) (event_count event_closes j q)) page
-      (subst (GapTallyAdds g.words words (gap_tally_place_of n q) (gap_tally_place_of a q)) is second)) tells.are.words);
+      (subst (GapTallyAdds g.intervals intervals (gap_tally_place_of n q) (gap_tally_place_of n q)) is adds)) tells.are.intervals);
   few = (let few = tells.are.few in omega (arith, long, few));
 }
   where
@@ -77,11 +70,6 @@ add-requires-clause-room c =
     room c.requires.tells.0 c.args.self.now c.args.processor c.of.result.now c.requires.tells.1 c.requires.tells.2
     c.requires.processor c.of.ensures
 
-pub add-requires-2-clause-room : goal.add-requires-2-clause-room
-add-requires-2-clause-room c =
-    room c.requires.tells.0 c.args.self.now c.args.processor c.of.result.now c.requires.tells.1 c.requires.tells.2
-    c.requires.processor c.of.ensures
-
 -- what success gives, success gives
 then : {E P Q : Type 0} (r : Result (Unit {0}) E) → OnOk r P → (P → Q) → OnOk r Q
 then (Ok x) p f = f p
@@ -94,23 +82,19 @@ returns-clause-kept c =
     let a = c.args.address in
     let interval = slice_index c.of.result.now q in
     let n = a / g.sizes.words in
-    then c.add-2.result c.add-2.ensures.adds
-    (λ second j tells v.
+    then c.add.result c.add.ensures.adds
+    (λ adds j tells v.
     let lt = sixteen j g q tells c.requires.processor in
-    let first = subst (λ r. GapTallyAdds g.intervals c.add.new.self r r interval) c.gap_row_at-row.ensures c.in_ok-add.ensures.adds in
-    let both = subst (λ r. GapTallyAdds g.words c.add-2.new.self r (gap_tally_place_of a q) interval) c.gap_row_at-row.ensures
-    (subst (λ r. GapTallyAdds g.words c.add-2.new.self c.gap_row_at-row.result r interval) c.gap_row_at.ensures second) in
-    stored g j q a v interval n c.add.new.self c.add-2.new.self tells lt (own j g q c.of.result.now tells lt c.of.ensures)
-    refl first both)
+    let here = subst (λ r. GapTallyAdds g.intervals c.add.new.self r r interval) c.gap_row_at-row.ensures adds in
+    stored g j q a v interval n c.add.new.self tells lt (own j g q c.of.result.now tells lt c.of.ensures) refl here)
 
 pub returns-clause-long : goal.returns-clause-long
 returns-clause-long c =
     let long = c.requires.tells.1.long in
-    then c.add-2.result c.add-2.ensures.tally
-    (λ second. record {
+    then c.add.result c.add.ensures.tally
+    (λ first. record {
       sizes = long.sizes;
       fetched = long.fetched;
       fetched_room = long.fetched_room;
-      intervals = c.in_ok-add.ensures.tally _ _ long.intervals;
-      words = second _ _ long.words;
+      intervals = first _ _ long.intervals;
     })

@@ -21,8 +21,8 @@ returns-in-Some c =
       has = (i, slice_get_read xs (length xs) i c.access-item.result refl (omega arith) c.access-item.is);
       needs = c.are_watched_racing.ensures.0 c.if-are_watched_racing.true;
       shares = c.in-Some.ensures.some;
-      first = refl;
-      second = refl;
+      first = c.paired.ensures;
+      second = c.paired-in-Some.ensures;
     }
 
 pub loop-access-preserved : goal.loop-access-preserved
@@ -30,7 +30,7 @@ loop-access-preserved c =
     let xs = c.args.accesses.now in
     let i = c.loop-access.access-index in
     let y = c.args.later.now in
-    let t = slice_index c.args.time.now in
+    let t = slice_index c.args.cut.now in
     λ k z m lt there. kept_accesses_next (λ w. AreWatchedRacing w y t → ¬ HeldLocksShare w.held y.held m) xs i
     c.access-item.result (slice_get_read xs (length xs) i c.access-item.result refl (omega arith) c.access-item.is)
     (λ k z lt there. c.loop-access.invariant k z m lt there)

@@ -7,4 +7,4 @@ use Rattle.judge.proofs.locksets.watched_word.watched_word_first_guarded.Given a
 abbrev pub invariant-loop-access : goal.invariant-loop-access
 invariant-loop-access l =
     (i : ℕ) (x : LockedAccess) (m : ℕ) → i < l.access-index → slice_get l.accesses i ≡ Some x
-    → AreWatchedRacing x l.later (slice_index l.time) → ¬ HeldLocksShare x.held l.later.held m
+    → AreWatchedRacing x l.later (slice_index l.cut) → ¬ HeldLocksShare x.held l.later.held m

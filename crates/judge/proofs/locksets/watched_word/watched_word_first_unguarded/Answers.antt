@@ -31,8 +31,8 @@ returns-then-is_none c =
       has = (i, slice_get_read xs (length xs) i c.access-item.result refl (omega arith) c.access-item.is);
       needs = c.are_watched_racing.ensures.0 c.if-are_watched_racing.true;
       none = none_there c.common.result _ (c.is_none.ensures ∙ ap not c.if-is_none.true) c.common.ensures.none;
-      first = refl;
-      second = refl;
+      first = c.paired.ensures;
+      second = c.paired-then-is_none.ensures;
     }
 
 pub loop-access-preserved : goal.loop-access-preserved
@@ -40,7 +40,7 @@ loop-access-preserved c =
     let xs = c.args.accesses.now in
     let i = c.loop-access.access-index in
     let y = c.args.later.now in
-    let t = slice_index c.args.time.now in
+    let t = slice_index c.args.cut.now in
     kept_accesses_next (λ w. AreWatchedRacing w y t → (m : ℕ) × HeldLocksShare w.held y.held m) xs i
     c.access-item.result (slice_get_read xs (length xs) i c.access-item.result refl (omega arith) c.access-item.is) c.loop-access.invariant
     (elim c.else-are_watched_racing.branch [

@@ -7,4 +7,4 @@ use Rattle.judge.proofs.locksets.watched_word.watched_word_first_unguarded.Given
 abbrev pub invariant-loop-access : goal.invariant-loop-access
 invariant-loop-access l =
     (i : ℕ) (x : LockedAccess) → i < l.access-index → slice_get l.accesses i ≡ Some x
-    → AreWatchedRacing x l.later (slice_index l.time) → (m : ℕ) × HeldLocksShare x.held l.later.held m
+    → AreWatchedRacing x l.later (slice_index l.cut) → (m : ℕ) × HeldLocksShare x.held l.later.held m

@@ -14,16 +14,17 @@ some_value (Some y) P v x h is = sym (same_Some y x is) ∙ h.1
 
 pub returns-clause-tells : goal.returns-clause-tells
 returns-clause-tells c =
-    let rows = some_value c.checked_mul.result _ (c.args.addresses * 16) c.in_ok-rows.rows c.checked_mul.ensures
+    let n = c.args.processors in
+    let rows = some_value c.checked_mul.result _ (c.args.addresses * n) c.in_ok-rows.rows c.checked_mul.ensures
     (c.ok_or.ensures.ok_part ∙ ap result_ok c.in_ok-rows.was) in
     record {
-      clocks = c.in_ok-new.ensures.clocks;
+      cuts = c.in_ok-new.ensures.cuts;
       present = c.in_ok-new.ensures.present;
       processors = λ i e at. absurd (none-some e at);
       kept = record {
-        stores = nearest_race_rows_start is_nearest_race_store (sparse_at c.in_ok-new-2.field-0) c.in_ok-new-2.ensures.none;
-        accesses = nearest_race_rows_start is_nearest_race_access (sparse_at c.in_ok-new-3.field-0) c.in_ok-new-3.ensures.none;
-        stores_sparse = subst (λ n. IsSparseFor n 0 c.in_ok-new-2.field-0) rows c.in_ok-new-2.ensures.sparse;
-        accesses_sparse = subst (λ n. IsSparseFor n 0 c.in_ok-new-3.field-0) rows c.in_ok-new-3.ensures.sparse;
+        stores = nearest_race_rows_start n is_nearest_race_store (sparse_at c.in_ok-new-2.field-0) c.in_ok-new-2.ensures.none;
+        accesses = nearest_race_rows_start n is_nearest_race_access (sparse_at c.in_ok-new-3.field-0) c.in_ok-new-3.ensures.none;
+        stores_sparse = subst (λ m. IsSparseFor m 0 c.in_ok-new-2.field-0) rows c.in_ok-new-2.ensures.sparse;
+        accesses_sparse = subst (λ m. IsSparseFor m 0 c.in_ok-new-3.field-0) rows c.in_ok-new-3.ensures.sparse;
       };
     }

@@ -27,14 +27,13 @@ one_load m s j p a v k is answer b w same =
     (subst (λ x. IsModelAnswer m s (j ++ event p x ∷ []) (length j) a v) (sym is) answer))
 
 pub returns-in-Load : goal.returns-in-Load
-returns-in-Load c = λ m s owed within racy.
-    let j = c.args.events.now in
+returns-in-Load c = λ m s j owed within racy.
     let p = c.args.event.processor in
     let k = c.args.event.kind in
     let a = c.in-Load.address in
     let v = c.in-Load.value in
     let lt = subst (WellFormedKindInRange s) c.in-Load.is within.kind in
-    let tells = c.may_answer.ensures m s owed within.processor lt
+    let tells = c.may_answer.ensures m s j owed within.processor lt
     (subst (λ x. IsOwedRacy j (event p x) c.args.is_racy) c.in-Load.is racy) in (
       λ yes_is. one_load m s j p a v k c.in-Load.is (tells.0 yes_is),
       λ all. tells.1 (subst (λ x. IsModelAnswer m s (j ++ event p x ∷ []) (length j) a v) c.in-Load.is (all a v c.in-Load.is)),

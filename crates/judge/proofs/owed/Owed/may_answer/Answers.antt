@@ -21,8 +21,7 @@ whole j e =
     take_all (suc (length j)) (j ++ e ∷ []) le
 
 pub returns-then-is_racy : goal.returns-then-is_racy
-returns-then-is_racy c = λ m s owed few within racy.
-    let j = c.args.events.now in
+returns-then-is_racy c = λ m s j owed few within racy.
     let a = c.args.address in
     let v = c.args.value in
     let e = event c.args.processor (Load a v) in
@@ -34,15 +33,14 @@ returns-then-is_racy c = λ m s owed few within racy.
     )
 
 pub returns-else-is_racy : goal.returns-else-is_racy
-returns-else-is_racy c = λ m s owed few within racy.
-    let j = c.args.events.now in
+returns-else-is_racy c = λ m s j owed few within racy.
     let p = c.args.processor in
     let a = c.args.address in
     let v = c.args.value in
     let e = event p (Load a v) in
     let o = subst (AreOwedBy m s j) c.in-RaceFree.is owed in
     let free = subst (IsOwedRacy j e) c.if-is_racy.false racy in
-    let tells = c.has.ensures j (addresses s) o.1.memory within in
+    let tells = c.has.ensures j (addresses s) o.1 within in
     let last = flattened_found (addresses s) j a within in
     let answers = flat_answer_memory j p a v free (addresses s) last.0 within last.1 in (
       λ yes_is. subst (λ x. IsModelAnswer x s (j ++ e ∷ []) (length j) a v) (sym o.0) (λ so. answers.0 (tells.0 yes_is)),
@@ -51,8 +49,7 @@ returns-else-is_racy c = λ m s owed few within racy.
     )
 
 pub returns-in-Sequential : goal.returns-in-Sequential
-returns-in-Sequential c = λ m s owed few within racy.
-    let j = c.args.events.now in
+returns-in-Sequential c = λ m s j owed few within racy.
     let a = c.args.address in
     let v = c.args.value in
     let e = event c.args.processor (Load a v) in

@@ -5,7 +5,7 @@ use Rattle.std.proofs.lemmas.List.Sorted.{IsPartitionPoint-from_clause, IsPartit
 use Rattle.std.specs.List.Sorted.{IsNonDecreasingBy, IsPartitionPoint}
 use Rattle.base.specs.InOrderOnce.{InOrder}
 use Rattle.judge.specs.declared.sources.stored_intervals.Stored.{Stored}
-use Rattle.judge.specs.Sources.Unordered.{IsUnorderedIndex}
+use Rattle.judge.specs.Sources.KnownStores.{IsKnownStoreIndex}
 use Rattle.judge.proofs.sources.stored_intervals.first_stored_interval_from.Goals as goal
 
 -- the intervals do not fall
@@ -24,7 +24,7 @@ IsPoint stores limit i =
     stores i
 
 -- so they begin there
-begins : (stores : List Stored) (limit i : ℕ) → IsPoint stores limit i → i ≤ length stores → IsUnorderedIndex stores limit i
+begins : (stores : List Stored) (limit i : ℕ) → IsPoint stores limit i → i ≤ length stores → IsKnownStoreIndex stores limit i
 begins stores limit i point le = record {
   below = λ n s lt at.
       (let is = point.0 n s (omega arith) lt in

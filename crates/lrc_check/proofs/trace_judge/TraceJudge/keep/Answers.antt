@@ -1,123 +1,137 @@
-use Rattle.std.proofs.Common.{◌≡◌, ℕ, ◌+◌, ◌≤◌, [], ◌∷◌, ◌++◌, List, length, take, slice_index_or, subst, sym, ◌∙◌, arith}
-use Rattle.std.proofs.lemmas.List.{take_all}
-use Rattle.std.proofs.lemmas.Option.{slice_get-get_or}
+use Rattle.std.proofs.Common.{[], ◌∷◌, ◌++◌, List, length, subst, sym, ◌∙◌, arith}
+use Rattle.std.proofs.Math.Seq.{take-append_seam}
 use Rattle.journal.specs.declared.event.Event.{Event}
-use Rattle.journal.specs.declared.event.Kind.TheVariants.{Load}
-use Rattle.journal.specs.DidEvent.{event}
-use Rattle.journal.specs.Events.{EventAt}
-use Rattle.journal.proofs.Passes.NextClocks.{next_clocks_front}
-use Rattle.judge.specs.FetchGaps.{TellsFetchGaps}
-use Rattle.judge.specs.LaxWellFormed.{LaxMayFollow}
+use Rattle.journal.specs.EventsInRange.{EventAddressInRange}
+use Rattle.journal.proofs.Order.EventPlacesAndCounts.{event_place_at_end}
+use Rattle.judge.specs.LaxWellFormed.{LaxMayFollow, MayFollowOrLax}
 use Rattle.judge.specs.Miscounted.{IsEventInSizes}
-use Rattle.judge.specs.NearestRaces.{AreNearestRacesOf}
-use Rattle.judge.specs.Owed.{AreOwedBy}
 use Rattle.judge.specs.JudgedSizes.{judged_sizes_of}
-use Rattle.judge.specs.FrontTells.{FrontTellsHistory}
+use Rattle.judge.proofs.HistoryRanges.{history_range_address}
 use Rattle.judge.proofs.WellFormedFronts.{well_formed_front_lax_event}
 use Rattle.lrc_check.specs.declared.trace_judge.TraceJudge.{TraceJudge}
 use Rattle.lrc_check.specs.Faithful.{IsFaithfulAndCounted}
-use Rattle.lrc_check.specs.TraceJudge.{TraceJudgeHasGaps, IsTraceJudgeOf}
+use Rattle.lrc_check.specs.TraceJudge.{TraceJudgeHasCounts, IsTraceJudgeOf}
 use Rattle.lrc_check.proofs.Accepting.{accepted_each_event}
 use Rattle.lrc_check.proofs.LyingTraces.{lying_may_within}
 use Rattle.lrc_check.proofs.trace_judge.TraceJudge.keep.Goals as goal
 
--- the event at this place
-abbrev here : List Event → ℕ → Event
-here events place = slice_index_or events place (event 0 (Load 0 0))
+-- the last event may follow
+may_follow : (x : TraceJudge) (j : List Event) (e : Event) → IsFaithfulAndCounted x.model x.lax (judged_sizes_of x.sizes) (j ++ e ∷ [])
+    → MayFollowOrLax x.lax (judged_sizes_of x.sizes) j e
+may_follow x j e accepted =
+    subst (λ xs. MayFollowOrLax x.lax (judged_sizes_of x.sizes) xs e) (take-append_seam j (e ∷ []))
+    (accepted_each_event x.lax (judged_sizes_of x.sizes) (j ++ e ∷ []) accepted.well_formed (length j) e (event_place_at_end j e))
 
-here_at : (events : List Event) (place : ℕ) → length events ≡ place + 1 → EventAt events place (here events place)
-here_at events place last = slice_get-get_or events place (event 0 (Load 0 0)) (omega arith)
+-- also in the lax sense
+follows : (x : TraceJudge) (j : List Event) (e : Event) → IsTraceJudgeOf j x
+    → IsFaithfulAndCounted x.model x.lax (judged_sizes_of x.sizes) (j ++ e ∷ []) → LaxMayFollow (judged_sizes_of x.front.sizes) j e
+follows x j e judged accepted =
+    subst (λ s. LaxMayFollow (judged_sizes_of s) j e) (sym judged.front_sizes)
+    (well_formed_front_lax_event x.lax (judged_sizes_of x.sizes) j e (may_follow x j e accepted))
 
--- all of the events, and what stands before the last one
-all_events : (events : List Event) (place : ℕ) → length events ≡ place + 1 → take (place + 1) events ≡ events
-all_events events place last = (let le : length events ≤ place + 1 = omega arith in take_all (place + 1) events le)
-
-split_events : (events : List Event) (place : ℕ) → length events ≡ place + 1
-    → events ≡ take place events ++ here events place ∷ []
-split_events events place last =
-    sym (all_events events place last) ∙ next_clocks_front events place (here events place) (here_at events place last)
-
--- the last event may follow, in the lax sense
-follows : (x : TraceJudge) (events : List Event) (place : ℕ) → length events ≡ place + 1
-    → IsTraceJudgeOf (take place events) x → IsFaithfulAndCounted x.model x.lax (judged_sizes_of x.sizes) events
-    → LaxMayFollow (judged_sizes_of x.front.sizes) (take place events) (here events place)
-follows x events place last judged accepted =
-    let e = here events place in
-    let may = accepted_each_event x.lax (judged_sizes_of x.sizes) events accepted.well_formed place e (here_at events place last) in
-    subst (λ s. LaxMayFollow (judged_sizes_of s) (take place events) e) (sym judged.front_sizes)
-    (well_formed_front_lax_event x.lax (judged_sizes_of x.sizes) (take place events) e may)
-
--- each event is within the sizes
-all_within : (x : TraceJudge) (events : List Event) → IsFaithfulAndCounted x.model x.lax (judged_sizes_of x.sizes) events
-    → (k : ℕ) (e : Event) → EventAt events k e → IsEventInSizes (judged_sizes_of x.sizes) e
-all_within x events accepted k e at =
-    lying_may_within x.lax (judged_sizes_of x.sizes) (take k events) e
-    (accepted_each_event x.lax (judged_sizes_of x.sizes) events accepted.well_formed k e at)
+-- it is within the sizes
+within : (x : TraceJudge) (j : List Event) (e : Event) → IsFaithfulAndCounted x.model x.lax (judged_sizes_of x.sizes) (j ++ e ∷ [])
+    → IsEventInSizes (judged_sizes_of x.sizes) e
+within x j e accepted = lying_may_within x.lax (judged_sizes_of x.sizes) j e (may_follow x j e accepted)
 
 pub note-requires-clause-may_follow : goal.note-requires-clause-may_follow
 note-requires-clause-may_follow c =
-    let x = c.args.self.now in
-    let events = c.args.events.now in
-    let place = c.args.place in (
-      take place events,
-      c.requires.judged.front,
-      follows x events place c.requires.last c.requires.judged c.requires.accepted,
-    )
+    let j = c.requires.0 in
+    let next = c.requires.1 in
+    (j, next.judged.front, follows c.args.self.now j c.args.event next.judged next.accepted)
 
-pub note-requires-3-clause-so_far : goal.note-requires-3-clause-so_far
-note-requires-3-clause-so_far c =
+pub note-requires-2-clause-processor : goal.note-requires-2-clause-processor
+note-requires-2-clause-processor c =
+    let j = c.requires.0 in
+    let next = c.requires.1 in
     let x = c.args.self.now in
-    (x.model, judged_sizes_of x.sizes, c.requires.judged.owed, all_within x c.args.events.now c.requires.accepted)
+    let judged = next.judged in
+    let is = within x j c.args.event next.accepted in
+    let lt = is.processor in
+    let same = judged.processors in
+    omega arith
+
+pub note-requires-2-clause-address : goal.note-requires-2-clause-address
+note-requires-2-clause-address c =
+    let j = c.requires.0 in
+    let next = c.requires.1 in
+    let x = c.args.self.now in
+    let judged = next.judged in
+    let is = within x j c.args.event next.accepted in
+    subst (λ n. EventAddressInRange n c.args.event.kind) (sym judged.addresses)
+    (history_range_address (judged_sizes_of x.sizes) c.args.event.kind is.kind)
+
+pub note-requires-3 : goal.note-requires-3
+note-requires-3 c =
+    let j = c.requires.0 in
+    let next = c.requires.1 in
+    let x = c.args.self.now in
+    let judged = next.judged in
+    record {
+      few = next.few;
+      so_far = (x.model, judged_sizes_of x.sizes, j, judged.owed, next.place_is, within x j c.args.event next.accepted);
+    }
+
+-- what fetches have to count was told the events before
+pub note-requires-in-Some-clause-so_far : goal.note-requires-in-Some-clause-so_far
+note-requires-in-Some-clause-so_far c =
+    let x = c.args.self.now in
+    let counts = subst (TraceJudgeHasCounts x.model x.lax x.sizes c.requires.0) c.in-Some.is c.requires.1.judged.counts in
+    (c.requires.0, counts.3)
+
+pub note-requires-in-Some-clause-few : goal.note-requires-in-Some-clause-few
+note-requires-in-Some-clause-few c =
+    let x = c.args.self.now in
+    let next = c.requires.1 in
+    let counts = subst (TraceJudgeHasCounts x.model x.lax x.sizes c.requires.0) c.in-Some.is next.judged.counts in
+    let place = counts.3.cuts.place in
+    let few = next.few in
+    let is = next.place_is in
+    omega arith
+
+pub note-requires-in-Some-clause-within : goal.note-requires-in-Some-clause-within
+note-requires-in-Some-clause-within c =
+    let x = c.args.self.now in
+    let counts = subst (TraceJudgeHasCounts x.model x.lax x.sizes c.requires.0) c.in-Some.is c.requires.1.judged.counts in
+    subst (λ s. IsEventInSizes (judged_sizes_of s) c.args.event) (sym counts.2)
+    (within x c.requires.0 c.args.event c.requires.1.accepted)
 
 pub returns-in_ok-note-3-clause-judged : goal.returns-in_ok-note-3-clause-judged
-returns-in_ok-note-3-clause-judged c =
+returns-in_ok-note-3-clause-judged c = λ j next.
     let x = c.args.self.now in
-    let events = c.args.events.now in
-    let place = c.args.place in
-    let j = take place events in
-    let last = c.requires.last in
-    let judged = c.requires.judged in
-    let all = all_events events place last in
-    let g = subst (TraceJudgeHasGaps x.model x.lax x.sizes j) c.in-Some.is judged.gaps in
+    let e = c.args.event in
+    let judged = next.judged in
+    let accepted = next.accepted in
+    let counts = subst (TraceJudgeHasCounts x.model x.lax x.sizes j) c.in-Some.is judged.counts in
     record {
-      faithful = c.requires.accepted;
-      race = c.requires.race;
-      front = subst (λ xs. FrontTellsHistory xs c.note.new.self) (sym (split_events events place last))
-          (c.note.ensures.tells j judged.front (follows x events place last judged c.requires.accepted));
+      faithful = accepted;
+      race = next.race_is;
+      front = c.note.ensures.tells j judged.front (follows x j e judged accepted);
       front_sizes = c.note.ensures.sizes ∙ judged.front_sizes;
-      races = subst (λ xs. AreNearestRacesOf xs c.note-2.new.self) all c.in_ok-note.ensures.tells;
+      races = c.in_ok-note.ensures.tells j judged.races;
       processors = c.note-2.ensures.processors ∙ judged.processors;
       addresses = c.note-2.ensures.addresses ∙ judged.addresses;
-      owed = subst (λ xs. AreOwedBy x.model (judged_sizes_of x.sizes) xs c.note-3.new.self) all
-          (c.in_ok-note-2.ensures x.model (judged_sizes_of x.sizes) judged.owed (all_within x events c.requires.accepted));
-      gaps = (
-        g.0,
-        g.1,
-        c.note-in-Some.ensures.sizes ∙ g.2,
-        subst (λ xs. TellsFetchGaps xs c.note-in-Some.new.self) all c.in_ok-note-3.ensures.tells,
-      );
+      owed = c.in_ok-note-2.ensures x.model (judged_sizes_of x.sizes) j judged.owed next.place_is
+          (within x j e accepted);
+      counts = (counts.0, counts.1, c.note-in-Some.ensures.sizes ∙ counts.2, c.in_ok-note-3.ensures.tells j counts.3);
     }
 
 pub returns-in_default-clause-judged : goal.returns-in_default-clause-judged
-returns-in_default-clause-judged c =
+returns-in_default-clause-judged c = λ j next.
     let x = c.args.self.now in
-    let events = c.args.events.now in
-    let place = c.args.place in
-    let j = take place events in
-    let last = c.requires.last in
-    let judged = c.requires.judged in
-    let all = all_events events place last in
-    let none = subst (TraceJudgeHasGaps x.model x.lax x.sizes j) c.in_default.is judged.gaps in
+    let e = c.args.event in
+    let judged = next.judged in
+    let accepted = next.accepted in
+    let none = subst (TraceJudgeHasCounts x.model x.lax x.sizes j) c.in_default.is judged.counts in
     record {
-      faithful = c.requires.accepted;
-      race = c.requires.race;
-      front = subst (λ xs. FrontTellsHistory xs c.note.new.self) (sym (split_events events place last))
-          (c.note.ensures.tells j judged.front (follows x events place last judged c.requires.accepted));
+      faithful = accepted;
+      race = next.race_is;
+      front = c.note.ensures.tells j judged.front (follows x j e judged accepted);
       front_sizes = c.note.ensures.sizes ∙ judged.front_sizes;
-      races = subst (λ xs. AreNearestRacesOf xs c.note-2.new.self) all c.in_ok-note.ensures.tells;
+      races = c.in_ok-note.ensures.tells j judged.races;
       processors = c.note-2.ensures.processors ∙ judged.processors;
       addresses = c.note-2.ensures.addresses ∙ judged.addresses;
-      owed = subst (λ xs. AreOwedBy x.model (judged_sizes_of x.sizes) xs c.note-3.new.self) all
-          (c.in_ok-note-2.ensures x.model (judged_sizes_of x.sizes) judged.owed (all_within x events c.requires.accepted));
-      gaps = subst (TraceJudgeHasGaps x.model x.lax x.sizes events) (sym c.in_default.is) none;
+      owed = c.in_ok-note-2.ensures x.model (judged_sizes_of x.sizes) j judged.owed next.place_is
+          (within x j e accepted);
+      counts = subst (TraceJudgeHasCounts x.model x.lax x.sizes (j ++ e ∷ [])) (sym c.in_default.is) none;
     }

@@ -7,10 +7,10 @@ use Rattle.judge.specs.declared.models.MemoryModel.TheVariants.{LazyRelease}
 use Rattle.judge.specs.declared.sizes.Sizes.{Sizes}
 use Rattle.judge.specs.Miscounted.{IsNotMiscounted, Miscounts}
 use Rattle.judge.specs.JudgedSizes.{judged_sizes_of}
-use Rattle.lrc_check.specs.TraceJudge.{TraceJudgeHasGaps}
+use Rattle.lrc_check.specs.TraceJudge.{TraceJudgeHasCounts}
 use Rattle.lrc_check.proofs.trace_judge.TraceJudge.miscounted.Goals as goal
 
--- what the gaps tell, where counts are judged
+-- what is due, where counts are judged
 told : (m : MemoryModel) (lax : Bool) (s t : Sizes) (j : List Event) (e : Event) (place : ℕ) (r : Option Miscounted)
     → m ≡ LazyRelease → lax ≡ false → t ≡ s
     → MatchOption r (IsNotMiscounted (judged_sizes_of t) j e) (Miscounts (judged_sizes_of t) j e) → IfSome r (λ x. x.place ≡ place)
@@ -24,6 +24,6 @@ told m lax s t j e place (Some x) lazy strict same counts at =
 pub returns-in-Some : goal.returns-in-Some
 returns-in-Some c = λ j judged.
     let x = c.args.self.now in
-    let g = subst (TraceJudgeHasGaps x.model x.lax x.sizes j) c.in-Some.is judged.gaps in
-    told x.model x.lax x.sizes c.in-Some.gaps.sizes j c.args.event c.args.place c.miscount.result g.0 g.1 g.2
+    let g = subst (TraceJudgeHasCounts x.model x.lax x.sizes j) c.in-Some.is judged.counts in
+    told x.model x.lax x.sizes c.in-Some.counts.stored.sizes j c.args.event c.args.place c.miscount.result g.0 g.1 g.2
     (c.miscount.ensures.verdict j g.3) c.miscount.ensures.place

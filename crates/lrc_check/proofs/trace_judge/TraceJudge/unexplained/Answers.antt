@@ -31,48 +31,49 @@ free_of_races m s j e true a v raced wrong same =
 
 pub is_paid-requires : goal.is_paid-requires
 is_paid-requires c =
-    let x = c.args.self.now in (x.model, judged_sizes_of x.sizes, c.requires.judged.owed, c.requires.within)
+    let x = c.args.self.now in
+    let next = c.requires.1 in (x.model, judged_sizes_of x.sizes, c.requires.0, next.judged.owed, next.within)
 
 pub permitted-requires : goal.permitted-requires
 permitted-requires c =
     let x = c.args.self.now in
+    let next = c.requires.1 in
     let s = judged_sizes_of x.sizes in (
       x.model,
       s,
-      c.args.front.now,
-      c.requires.judged.owed,
-      c.requires.within.processor,
-      subst (WellFormedKindInRange s) c.in-Load.is c.requires.within.kind,
+      c.requires.0,
+      next.judged.owed,
+      next.within.processor,
+      subst (WellFormedKindInRange s) c.in-Load.is next.within.kind,
     )
 
 pub returns-then-is_paid : goal.returns-then-is_paid
-returns-then-is_paid c =
+returns-then-is_paid c = λ j next.
     let x = c.args.self.now in
-    let paid = c.if-is_paid.ensures x.model (judged_sizes_of x.sizes) c.requires.judged.owed c.requires.within c.requires.racy in
+    let paid = c.if-is_paid.ensures x.model (judged_sizes_of x.sizes) j next.judged.owed next.within next.racy_is in
     paid.0 refl
 
 pub returns : goal.returns
-returns c =
+returns c = λ j next.
     let x = c.args.self.now in
     let s = judged_sizes_of x.sizes in
-    let j = c.args.front.now in
     let e = c.args.event in
     let a = c.in-Load.address in
     let v = c.in-Load.field-1 in
-    let paid = c.if-is_paid.ensures x.model s c.requires.judged.owed c.requires.within c.requires.racy in
+    let paid = c.if-is_paid.ensures x.model s j next.judged.owed next.within next.racy_is in
     let wrong : ¬ IsModelAnswer x.model s (j ++ e ∷ []) (length j) a v =
     (λ owed. false≢true (paid.1 (λ b w is.
     lying_same_load (IsModelAnswer x.model s (j ++ e ∷ []) (length j)) a v b w (sym c.in-Load.is ∙ is) owed))) in
-    let free = free_of_races x.model s j e c.args.is_racy a v c.requires.racy wrong in
+    let free = free_of_races x.model s j e c.args.is_racy a v next.racy_is wrong in
     record {
       address = a;
       value = v;
       loads = c.in-Load.is;
-      place = refl;
+      place = sym next.place_is;
       wrong = wrong;
       permitted =
           subst (λ k. PermitsOwed x.model (j ++ event e.processor k ∷ []) (length j) a c.in_ok-permitted.permitted) (sym c.in-Load.is)
-          (c.in_ok-permitted.ensures x.model s j c.requires.judged.owed c.requires.within.processor
-          (subst (WellFormedKindInRange s) c.in-Load.is c.requires.within.kind) v
+          (c.in_ok-permitted.ensures x.model s j next.judged.owed next.within.processor
+          (subst (WellFormedKindInRange s) c.in-Load.is next.within.kind) v
           (λ same. subst (λ k. RaceFree (j ++ event e.processor k ∷ [])) c.in-Load.is (free same)));
     }

@@ -1,12 +1,14 @@
-use Rattle.std.proofs.Common.{ℕ, ◌≡◌, [], ◌∷◌, ◌++◌, List, Option, None, Some, subst, sym, ◌∙◌}
+use Rattle.std.proofs.Common.{ℕ, ◌≡◌, [], ◌∷◌, ◌++◌, List, Option, None, Some, ap, subst, sym, ◌∙◌}
 use Rattle.std.specs.Prelude.{IfSome}
 use Rattle.std.proofs.lemmas.Result.{err_from_is_err_and}
 use Rattle.journal.specs.declared.event.Event.{Event}
-use Rattle.lrc_check.specs.Traces.Begun.{trace_begun_text}
-use Rattle.lrc_check.specs.Traces.Labels.{line_without_trace_label, trace_line_label}
+use Rattle.lrc_check.specs.Traces.Begun.{trace_begun_line_count, trace_begun_text}
+use Rattle.lrc_check.specs.Traces.Labels.{line_without_trace_label, trace_line_label, without_trace_labels}
 use Rattle.lrc_check.specs.Traces.TraceLines.{IsTraceLineOfEvent}
 use Rattle.lrc_check.proofs.traces.UnlabelledTexts.{unlabelled_text_event_bare}
+use Rattle.lrc_check.proofs.traces.LabelLines.{label_lines_clean, label_lines_push}
 use Rattle.lrc_check.proofs.traces.Labelling.{labelling_dropped_clean}
+use Rattle.lrc_check.proofs.traces.ReadingOn.{reading_on_begins, reading_on_further}
 use Rattle.lrc_check.proofs.traces.TraceWalk.{trace_walk_line_among}
 use Rattle.lrc_check.proofs.traces.Feeding.{feeding_line_fault, feeding_line_kept, feeding_refused_label}
 use Rattle.lrc_check.proofs.traces.trace_lines.read_trace_lines.Goals as goal
@@ -25,35 +27,54 @@ read_trace_line-requires-clause-read c =
 pub returns-in_err-keep_trace_line_label-clause-fault : goal.returns-in_err-keep_trace_line_label-clause-fault
 returns-in_err-keep_trace_line_label-clause-fault c =
     let p = err_from_is_err_and c.from_residual.result c.from_residual.ensures.1 in
-    rw (p.1, p.2) (feeding_line_fault _ _ (trace_begun_text c.loop-line.begun) c.loop-line.rest.now c.in-Some.line.now c.in-Some.after.now _
+    rw (p.1, p.2) (λ front h.
+    feeding_line_fault _ _ (trace_begun_text front c.loop-line.begun) c.loop-line.rest.now c.in-Some.line.now c.in-Some.after.now _
     c.in-Some.ensures
-    (feeding_refused_label c.loop-line.begun (line_without_trace_label c.in-Some.line.now) _ c.loop-line.invariant.begun
-    (labelling_dropped_clean c.in-Some.line.now c.in-Some.ensures.one_line) c.in_err-keep_trace_line_label.ensures.number
-    c.in_err-keep_trace_line_label.ensures.fault)
-    c.loop-line.invariant.text)
+    (feeding_refused_label c.args.gone front c.loop-line.begun (line_without_trace_label c.in-Some.line.now) _
+    (c.loop-line.invariant.on.begun front h) (labelling_dropped_clean c.in-Some.line.now c.in-Some.ensures.one_line)
+    c.in_err-keep_trace_line_label.ensures.number c.in_err-keep_trace_line_label.ensures.fault)
+    (c.loop-line.invariant.text front h))
 
 pub returns-in_err-read_trace_line-clause-fault : goal.returns-in_err-read_trace_line-clause-fault
 returns-in_err-read_trace_line-clause-fault c =
     let p = err_from_is_err_and c.from_residual-in_err-read_trace_line.result c.from_residual-in_err-read_trace_line.ensures.1 in
     let fault = rw c.split_trace_label_unless_read.ensures.bare at c.in_err-read_trace_line.ensures.fault in
-    rw (p.1, p.2) (feeding_line_fault _ _ (trace_begun_text c.loop-line.begun) c.loop-line.rest.now c.in-Some.line.now c.in-Some.after.now _
-    c.in-Some.ensures fault c.loop-line.invariant.text)
+    rw (p.1, p.2) (λ front h.
+    feeding_line_fault _ _ (trace_begun_text front c.loop-line.begun) c.loop-line.rest.now c.in-Some.line.now c.in-Some.after.now _
+    c.in-Some.ensures (fault front (c.loop-line.invariant.on.begun front h)) (c.loop-line.invariant.text front h))
+
+pub returns-in_err-keep_trace_line_label-clause-read : goal.returns-in_err-keep_trace_line_label-clause-read
+returns-in_err-keep_trace_line_label-clause-read c = λ front h more.
+    reading_on_begins front c.loop-line.begun _ (without_trace_labels (c.loop-line.rest.now ++ more)) (c.loop-line.invariant.text front h more)
+
+pub returns-in_err-read_trace_line-clause-read : goal.returns-in_err-read_trace_line-clause-read
+returns-in_err-read_trace_line-clause-read c = λ front h more.
+    let rest = without_trace_labels (c.loop-line.rest.now ++ more) in
+    reading_on_begins front c.read_trace_line.new.begun _ rest
+    (ap (λ (x : List ℕ). x ++ rest) (c.in_err-read_trace_line.ensures.unread front) ∙ c.loop-line.invariant.text front h more)
+
+pub returns-clause-read : goal.returns-clause-read
+returns-clause-read c = λ front h more.
+    reading_on_begins front c.loop-line.begun _ (without_trace_labels (c.loop-line.rest.now ++ more)) (c.loop-line.invariant.text front h more)
 
 pub loop-line-preserved : goal.loop-line-preserved
 loop-line-preserved c =
     let line = c.in-Some.line.now in
     let after = c.in-Some.after.now in
     let rest = c.loop-line.rest.now in
-    let front = c.loop-line.invariant.behind.0 in
+    let before = c.loop-line.invariant.behind.0 in
     let text = rw c.split_trace_label_unless_read.ensures.bare at c.in_ok-read_trace_line.ensures.text in
     let kept = rw c.split_trace_label_unless_read.ensures.label at c.in_ok-keep_trace_line_label.ensures.kept in
     record {
-      begun = c.in_ok-read_trace_line.ensures.begun;
+      on = reading_on_further c.args.gone c.args.begun.now c.loop-line.begun c.read_trace_line.new.begun c.loop-line.invariant.on c.read_trace_line.ensures.on;
       behind =
-          (front ++ (line ++ 10 ∷ []), c.loop-line.invariant.behind.1 ∙ trace_walk_line_among front rest line after c.in-Some.ensures);
-      text =
-          feeding_line_kept line_without_trace_label (trace_begun_text c.loop-line.begun) (trace_begun_text c.read_trace_line.new.begun) rest line after _
-          c.in-Some.ensures text c.loop-line.invariant.text;
+          (before ++ (line ++ 10 ∷ []), c.loop-line.invariant.behind.1 ∙ trace_walk_line_among before rest line after c.in-Some.ensures);
+      text = λ front h.
+          feeding_line_kept line_without_trace_label (trace_begun_text front c.loop-line.begun) (trace_begun_text front c.read_trace_line.new.begun)
+          rest line after _ c.in-Some.ensures (text front (c.loop-line.invariant.on.begun front h)) (c.loop-line.invariant.text front h);
+      lines = λ n h.
+          label_lines_push n (trace_begun_line_count c.loop-line.begun) _ c.loop-line.labels _ (trace_line_label line)
+          (c.loop-line.invariant.lines n h) (label_lines_clean line c.in-Some.ensures.one_line) kept c.in_ok-read_trace_line.ensures.count;
       labels =
           feeding_line_kept trace_line_label c.loop-line.labels c.keep_trace_line_label.new.labels rest line after _ c.in-Some.ensures kept
           c.loop-line.invariant.labels;

@@ -1,35 +1,15 @@
-use Rattle.std.proofs.Common.{◌≡◌, length, slice_index_or, subst, sym, refl, arith}
-use Rattle.std.specs.Prelude.{MatchOption}
-use Rattle.std.proofs.lemmas.Option.{slice_get_read}
-use Rattle.judge.specs.declared.locksets.lockset_finder.Unprotected.{Unprotected}
-use Rattle.judge.specs.Locksets.Pairs.{PairsTellUnprotected, PairsLeaveUnprotected}
-use Rattle.judge.proofs.locksets.TellingLocksets.{telling_locksets_found_next}
+use Rattle.std.proofs.Common.{◌≡◌, length, subst, arith}
+use Rattle.std.proofs.lemmas.List.{take_all}
+use Rattle.judge.specs.Locksets.Pairs.{PairsTellUnprotected}
 use Rattle.judge.proofs.locksets.lockset_finder.LocksetFinder.found.Goals as goal
 
-pub loop-word-preserved : goal.loop-word-preserved
-loop-word-preserved c =
-    let words = c.args.self.now.words.items in
-    let i = c.loop-word.word-index in
-    let found = c.loop-word.found.items in
-    let long = c.loop-word.invariant.long in
-    let len = c.in_ok-push.ensures.len in
-    let at : length found ≡ i = omega (arith, c.loop-word.found.ok.0) in
-    record {
-      long = omega arith;
-      found = λ j tells.
-          (let word = tells i c.word-item.result (slice_get_read words (length words) i c.word-item.result refl
-          (let same = c.deref-word-items.ensures.len in let lt = c.loop-word-test.true in omega (arith, c.args.self.now.words.ok.0))
-          (subst (λ ws. c.word-item.result ≡ slice_index_or ws i c.word-item.result) c.deref-word-items.ensures.value c.word-item.is)) in
-          subst (PairsTellUnprotected j) (sym c.in_ok-push.ensures.items)
-          (telling_locksets_found_next j found c.finder_answer_of.result
-          (subst (λ a. MatchOption c.finder_answer_of.result ((x : Unprotected) → ¬ PairsLeaveUnprotected j a x) (PairsLeaveUnprotected j a)) (sym at)
-          (c.finder_answer_of.ensures j i word)) (c.loop-word.invariant.found j tells)));
-    }
+pub loop-address-preserved : goal.loop-address-preserved
+loop-address-preserved c = λ j tells.
+    c.in_ok-add_finder_answer.ensures j (tells.words j (take_all (length j) j (omega arith))) (c.loop-address.invariant j tells)
 
-pub returns-clause-long : goal.returns-clause-long
-returns-clause-long c =
-    let long = c.loop-word.invariant.long in
-    let same = c.deref-word-items.ensures.len in
-    let end = c.loop-word.auto.word-index-end in
-    let over = c.loop-word-test.false in
-    omega arith
+pub returns : goal.returns
+returns c = λ j tells.
+    let over = c.loop-address-test.false in
+    let end = c.loop-address.auto.address-end in
+    let same : c.loop-address.address ≡ c.args.self.now.addresses = omega arith in
+    subst (λ n. PairsTellUnprotected c.args.asked j n c.loop-address.found.items) same (c.loop-address.invariant j tells)

@@ -1,52 +1,50 @@
-use Rattle.std.proofs.Common.{◌++◌, subst, sym}
-use Rattle.std.proofs.lemmas.Result.{err_from_is_err_and}
-use Rattle.lrc_check.specs.Traces.Begun.{trace_begun_text}
-use Rattle.lrc_check.specs.Traces.FedText.{IsFedTextOf, FedText}
-use Rattle.lrc_check.proofs.traces.Feeding.{feeding_fault_further, feeding_fault_never_begins, feeding_further}
+use Rattle.std.proofs.Common.{◌++◌, subst, sym, ◌∙◌}
+use Rattle.lrc_check.specs.Traces.FedText.{IsFedTextOf}
+use Rattle.lrc_check.proofs.traces.Feeding.{feeding_fault_further, feeding_fault_never_begins, feeding_fed_text, feeding_further, feeding_line_number, feeding_read_further}
+use Rattle.lrc_check.proofs.traces.LabelLines.{label_lines_left}
 use Rattle.lrc_check.proofs.traces.reader.Reader.feed.Goals as goal
 
-pub returns-in_err-read_piece-clause-only : goal.returns-in_err-read_piece-clause-only
-returns-in_err-read_piece-clause-only c =
-    let p = err_from_is_err_and c.from_residual.result c.from_residual.ensures.1 in
-    let was : FedText =
-    record {
-      lines = trace_begun_text c.self.inside.begun;
-      labels = c.self.inside.labels;
-      unfinished = c.self.inside.unfinished.items;
-    } in
-    let e = c.in_err-read_piece.field-0.0 in
-    rw (p.1, p.2) (λ ne bytes h.
+pub returns-in-Ok-clause-fed : goal.returns-in-Ok-clause-fed
+returns-in-Ok-clause-fed c = λ bytes front told h.
+    let was = feeding_fed_text c.self.inside.gone c.self.inside.headed c.self.inside.begun c.self.inside.labels c.self.inside.unfinished.items in
+    let now = feeding_fed_text c.self.inside.gone c.self.inside.headed c.read_piece.new.begun c.read_piece.new.labels c.read_piece.new.unfinished.items in
+    feeding_further was now bytes c.args.piece.now front told (c.read_piece.ensures.on.begun front)
+    (c.in-Ok.ensures.text front) c.in-Ok.ensures.labels
+    (label_lines_left c.self.inside.headed c.self.inside.gone _ _ told c.self.inside.labels c.read_piece.new.labels
+    c.in-Ok.ensures.lines)
+    (subst (IsFedTextOf bytes front told) (sym c.self.view_is) h)
+
+pub returns-in-Ok-clause-read : goal.returns-in-Ok-clause-read
+returns-in-Ok-clause-read c = λ bytes front told h.
+    let was = feeding_fed_text c.self.inside.gone c.self.inside.headed c.self.inside.begun c.self.inside.labels c.self.inside.unfinished.items in
+    let now = feeding_fed_text c.self.inside.gone c.self.inside.headed c.read_piece.new.begun c.read_piece.new.labels c.read_piece.new.unfinished.items in
+    feeding_read_further was now bytes c.args.piece.now front told (c.read_piece.ensures.on.begun front) (c.read_piece.ensures.read front)
+    (subst (IsFedTextOf bytes front told) (sym c.self.view_is) h)
+
+pub returns-in-Err-clause-read : goal.returns-in-Err-clause-read
+returns-in-Err-clause-read c = λ bytes front told h.
+    let was = feeding_fed_text c.self.inside.gone c.self.inside.headed c.self.inside.begun c.self.inside.labels c.self.inside.unfinished.items in
+    let now = feeding_fed_text c.self.inside.gone c.self.inside.headed c.read_piece.new.begun c.read_piece.new.labels c.clear.new.self.items in
+    feeding_read_further was now bytes c.args.piece.now front told (c.read_piece.ensures.on.begun front) (c.read_piece.ensures.read front)
+    (subst (IsFedTextOf bytes front told) (sym c.self.view_is) h)
+
+pub returns-in-Err-clause-number : goal.returns-in-Err-clause-number
+returns-in-Err-clause-number c =
+    c.in-Err.ensures.number
+    ∙ feeding_line_number c.self.inside.gone c.self.inside.headed c.read_piece.new.begun c.read_piece.new.labels c.clear.new.self.items
+    c.read_piece.ensures.on.left
+
+pub returns-in-Err-clause-only : goal.returns-in-Err-clause-only
+returns-in-Err-clause-only c = λ ne bytes front told h.
+    let was = feeding_fed_text c.self.inside.gone c.self.inside.headed c.self.inside.begun c.self.inside.labels c.self.inside.unfinished.items in
+    let e = c.in-Err.fault in
     feeding_fault_never_begins (bytes ++ c.args.piece.now) e.0 e.1 ne
-    (feeding_fault_further was bytes c.args.piece.now e.0 e.1 (c.in_err-read_piece.ensures.fault ne)
-    (subst (IsFedTextOf bytes) (sym c.self.view_is) h)))
+    (feeding_fault_further was bytes c.args.piece.now front told e.0 e.1 (c.in-Err.ensures.fault ne front)
+    (subst (IsFedTextOf bytes front told) (sym c.self.view_is) h))
 
-pub returns-in_err-read_piece-clause-fault : goal.returns-in_err-read_piece-clause-fault
-returns-in_err-read_piece-clause-fault c =
-    let p = err_from_is_err_and c.from_residual.result c.from_residual.ensures.1 in
-    let was : FedText =
-    record {
-      lines = trace_begun_text c.self.inside.begun;
-      labels = c.self.inside.labels;
-      unfinished = c.self.inside.unfinished.items;
-    } in
-    let e = c.in_err-read_piece.field-0.0 in
-    rw (p.1, p.2) (λ ne bytes h.
-    feeding_fault_further was bytes c.args.piece.now e.0 e.1 (c.in_err-read_piece.ensures.fault ne)
-    (subst (IsFedTextOf bytes) (sym c.self.view_is) h))
-
-pub returns-clause-fed : goal.returns-clause-fed
-returns-clause-fed c = λ bytes h.
-    let was : FedText =
-    record {
-      lines = trace_begun_text c.self.inside.begun;
-      labels = c.self.inside.labels;
-      unfinished = c.self.inside.unfinished.items;
-    } in
-    let now : FedText =
-    record {
-      lines = trace_begun_text c.read_piece.new.begun;
-      labels = c.read_piece.new.labels;
-      unfinished = c.read_piece.new.unfinished.items;
-    } in
-    feeding_further was now bytes c.args.piece.now c.in_ok-read_piece.ensures.text c.in_ok-read_piece.ensures.labels
-    (subst (IsFedTextOf bytes) (sym c.self.view_is) h)
+pub returns-in-Err-clause-fault : goal.returns-in-Err-clause-fault
+returns-in-Err-clause-fault c = λ ne bytes front told h.
+    let was = feeding_fed_text c.self.inside.gone c.self.inside.headed c.self.inside.begun c.self.inside.labels c.self.inside.unfinished.items in
+    let e = c.in-Err.fault in
+    feeding_fault_further was bytes c.args.piece.now front told e.0 e.1 (c.in-Err.ensures.fault ne front)
+    (subst (IsFedTextOf bytes front told) (sym c.self.view_is) h)

@@ -1,0 +1,24 @@
+use Rattle.std.proofs.Common.{List, length, ap, ap₂, refl, subst, sym, ◌∙◌, length-append, arith}
+use Rattle.explore.specs.declared.origins.Origin.{Origin}
+use Rattle.explore.specs.Origins.{AreOriginsInOrderFrom, state_origins_from}
+use Rattle.explore.proofs.StateOrigins.{state_origins_push, state_origins_push_in_order}
+use Rattle.explore.proofs.origins.Origins.push.Goals as goal
+
+pub returns-clause-pushed : goal.returns-clause-pushed
+returns-clause-pushed c =
+    let x = c.args.self.now in
+    let o : Origin = record { from = c.args.from; ends = c.len-ends.result } in
+    let makers = c.in_ok-extend_from_slice.ensures.items in
+    let origins = c.in_ok-push.ensures.items in
+    ap₂ (state_origins_from 0) origins makers
+    ∙ state_origins_push 0 x.origins.items x.makers.items c.args.makers.now c.args.from c.requires o refl (c.len-ends.ensures ∙ c.extend_from_slice.new.self.ok.0 ∙ ap (λ (ms : List _). length ms) makers)
+
+pub returns-clause-in_order : goal.returns-clause-in_order
+returns-clause-in_order c =
+    let x = c.args.self.now in
+    let o : Origin = record { from = c.args.from; ends = c.len-ends.result } in
+    let makers = c.in_ok-extend_from_slice.ensures.items in
+    let longer = ap (λ (ms : List _). length ms) makers ∙ length-append x.makers.items c.args.makers.now in
+    let new = length c.extend_from_slice.new.self.items in
+    subst (λ os. AreOriginsInOrderFrom 0 os new) (sym c.in_ok-push.ensures.items)
+    (state_origins_push_in_order 0 x.origins.items (length x.makers.items) new c.requires (omega (arith, longer)) o (c.len-ends.ensures ∙ c.extend_from_slice.new.self.ok.0))

@@ -1,0 +1,7 @@
+pub mod ZeroCuts
+pub mod CutsOfPlaces
+pub mod PushedCuts
+pub mod KeptCuts
+pub mod FirstCuts
+pub mod NextCuts
+pub mod TellingCuts

@@ -1,0 +1,48 @@
+use Rattle.std.proofs.Common.{◌≡◌, ◌<◌, ℕ, List, slice_index, subst, sym, arith}
+use Rattle.journal.specs.declared.event.Event.{Event}
+use Rattle.journal.specs.ClockEntry.{entry}
+use Rattle.judge.specs.declared.due_counts.DueAmounts.{DueAmounts}
+use Rattle.judge.specs.declared.due_counts.DueCounts.{DueCounts}
+use Rattle.judge.specs.Cuts.{IsCutOf}
+use Rattle.judge.specs.DueCounts.{TellsDueCounts}
+use Rattle.judge.specs.DueCounts.{DueAmountsAmong}
+use Rattle.judge.specs.JudgedSizes.{judged_sizes_of}
+use Rattle.judge.proofs.DueGaps.{due_gap_between}
+use Rattle.judge.proofs.GapParts.{gap_part_counts_between, gap_part_counts_own}
+use Rattle.judge.proofs.StoredLimits.{stored_limit_of_cut}
+use Rattle.judge.proofs.cuts.TellingCuts.{cut_of_equal, cut_of_present}
+use Rattle.judge.proofs.due_counts.DueCounts.part.Goals as goal
+
+pub returns-then-by-processor-clause-counts : goal.returns-then-by-processor-clause-counts
+returns-then-by-processor-clause-counts c = λ j tells had.
+    let s = judged_sizes_of c.args.self.now.stored.sizes in
+    let P : DueAmounts → Type 0 = λ x. DueAmountsAmong s j c.args.processor c.args.page (λ q. q ≡ c.args.by) x.writers x.records x.words in
+    subst P (sym c.none.ensures) (gap_part_counts_own s j c.args.processor c.args.page c.args.by c.if-by-processor.true)
+
+-- the cut that is read is the processor's
+cut_is : (j : List Event) (d : DueCounts) (p : ℕ) (cut : List ℕ) → TellsDueCounts j d → p < d.stored.sizes.processors
+    → ((q : ℕ) → slice_index cut q ≡ entry d.cuts.processors.items p q) → IsCutOf j p (slice_index cut)
+cut_is j d p cut tells lt is =
+    cut_of_equal j p (entry d.cuts.processors.items p) (slice_index cut) (λ q. sym (is q))
+    (cut_of_present tells.cuts p (let present = tells.present in omega (arith, present, lt)))
+
+pub between-requires-clause-tells : goal.between-requires-clause-tells
+between-requires-clause-tells c =
+    let j = c.requires.tells.0 in
+    let tells = c.requires.tells.1 in
+    let cut = cut_is j c.args.self.now c.args.processor c.of.result.now tells c.requires.processor c.of.ensures in (
+      j,
+      tells,
+      c.requires.tells.2.limits c.args.by c.if-by-processor.false,
+      stored_limit_of_cut cut c.args.by c.if-by-processor.false,
+    )
+
+pub returns-clause-counts : goal.returns-clause-counts
+returns-clause-counts c = λ j tells had.
+    let cut = cut_is j c.args.self.now c.args.processor c.of.result.now tells c.requires.processor c.of.ensures in
+    let by = c.args.by in
+    let apart = c.if-by-processor.false in
+    let x = c.between.result in
+    let counts = c.between.ensures.counts j tells (had.limits by apart) (stored_limit_of_cut cut by apart) in
+    gap_part_counts_between x.writers x.records x.words (λ k a. due_gap_between by k a had cut apart) counts.records counts.words
+    counts.writers

@@ -1,0 +1,5 @@
+pub mod KeepingStores
+pub mod LastKept
+pub mod ChoosingKept
+pub mod AnsweringKept
+pub mod LettingGo

@@ -1,0 +1,50 @@
+use Rattle.std.proofs.Common.{◌≡◌, ℕ, slice_index, subst, sym, arith}
+use Rattle.std.specs.Prelude.{Result, Ok, Err, OnOk}
+use Rattle.journal.specs.declared.event.Kind.TheVariants.{Store}
+use Rattle.journal.specs.DidEvent.{event}
+use Rattle.journal.specs.ClockEntry.{entry}
+use Rattle.judge.specs.Cuts.{IsCutOf}
+use Rattle.std.specs.Global.{Vec}
+use Rattle.judge.specs.declared.sparse_table.SparseTable.{SparseTable}
+use Rattle.judge.specs.SparseTables.{IsSparseRowWith}
+use Rattle.judge.proofs.LongerSparseTables.{longer_sparse_next}
+use Rattle.judge.proofs.cuts.TellingCuts.{cut_of_equal, cut_of_present}
+use Rattle.judge.specs.MovedCuts.{KeepsCuts}
+use Rattle.judge.proofs.kept_stores.KeepingStores.{keeping_rows_next}
+use Rattle.judge.proofs.kept_stores.KeptStores.keep_store.Goals as goal
+
+-- what success gives, success gives
+then : {E P Q : Type 0} (r : Result (Unit {0}) E) → OnOk r P → (P → Q) → OnOk r Q
+then (Ok x) p f = f p
+then (Err e) p f = tt
+
+-- a row of this number was written
+written : {A : Type 0} {old new : SparseTable (Vec A)} {row r : ℕ} {x : A} → row ≡ r → IsSparseRowWith old new row x
+    → IsSparseRowWith old new r x
+written {old = old} {new = new} {x = x} same is = subst (λ n. IsSparseRowWith old new n x) same is
+
+pub returns-clause-kept : goal.returns-clause-kept
+returns-clause-kept c = then c.push_in_sparse_table_row.result c.push_in_sparse_table_row.ensures.pushed (λ pushed j tells.
+    let s = c.args.self.now in
+    let p = c.args.processor in
+    let a = c.args.address in
+    let v = c.args.value in
+    let present = tells.present in
+    let cut : IsCutOf j p (slice_index c.of.result.now) =
+    cut_of_equal j p (entry s.cuts.processors.items p) (slice_index c.of.result.now) (λ q. sym (c.of.ensures q))
+    (cut_of_present tells.cuts p (omega arith)) in
+    let placed = c.in_ok-cut.ensures.placed in
+    let old = s.known.cuts in
+    let new = c.place_of.new.self.cuts in
+    let more : KeepsCuts old.items new.items = record {
+      more = omega (arith, c.place_of.ensures.more, old.ok.0, new.ok.0);
+      same = λ n q lt. c.place_of.ensures.same n q (omega (arith, old.ok.0));
+    } in
+    let now = c.push_in_sparse_table_row.new.table in
+    record {
+      sparse = longer_sparse_next j (event p (Store a v)) s.stores now pushed.sparse c.push_in_sparse_table_row.ensures.room
+          c.push_in_sparse_table_row.ensures.few tells.kept.sparse;
+      stores = keeping_rows_next old.items new.items a p more c.requires.processor
+          (written c.row-row.ensures.is pushed) tells.cuts.place
+          (omega (arith, placed.0, new.ok.0)) (placed.1 j cut) tells.kept.stores;
+    })

@@ -1,0 +1,10 @@
+use Rattle.std.proofs.Common.{◌≡◌, List}
+use Rattle.journal.specs.declared.event.Event.{Event}
+use Rattle.judge.specs.KeptStores.{AreKeptStoresOf}
+use Rattle.judge.proofs.kept_stores.KeptStores.let_go_of_hidden.Given as goal
+
+abbrev pub invariant-loop-address : goal.invariant-loop-address
+invariant-loop-address l = record {
+  rest : l.self ≡ record l.fn.self { stores = l.self.stores };
+  tells : (j : List Event) → AreKeptStoresOf j l.fn.self → AreKeptStoresOf j l.self;
+}

@@ -1,0 +1,111 @@
+use Rattle.std.proofs.Common.{◌≡◌, ℕ, ◌+◌, ◌-◌, ◌/◌, ◌<◌, ◌≤◌, Option, Some, None, List, slice_index, vec_len, subst, sym, refl, ap, ◌∙◌, arith}
+use Rattle.std.specs.Global.{Vec}
+use Rattle.std.specs.Option.{unwrap_or}
+use Rattle.std.specs.Prelude.{Result, Ok, Err, OnOk}
+use Rattle.journal.specs.declared.event.Event.{Event}
+use Rattle.journal.specs.declared.event.Kind.TheVariants.{Store}
+use Rattle.journal.specs.DidEvent.{did}
+use Rattle.journal.specs.Events.{event_count, event_closes}
+use Rattle.judge.specs.declared.sparse_table.SparseTable.{SparseTable}
+use Rattle.judge.specs.declared.stored_counts.StoredCounts.{StoredCounts}
+use Rattle.judge.specs.declared.stored_steps.StoredStep.{StoredStep}
+use Rattle.judge.specs.declared.stored_steps.StoredTotal.{StoredTotal}
+use Rattle.judge.specs.FetchGaps.{FetchGapStoreAt}
+use Rattle.judge.specs.GapTally.{IsGapTallyMark, gap_tally_mark_in}
+use Rattle.judge.specs.SparseTables.{IsSparseWith, sparse_at, sparse_room}
+use Rattle.judge.specs.StoredCounts.{AreStoredCountsOf, StoredStepAdds, stored_row}
+use Rattle.judge.specs.StoredSteps.{stored_total, stored_total_next}
+use Rattle.judge.proofs.GapEvents.{gap_event_store_bound}
+use Rattle.judge.proofs.StoredTables.{IsStoredStepKept, IsStoredWritten, stored_tables_store, stored_tables_stored}
+use Rattle.judge.proofs.stored_counts.StoredCounts.store.Goals as goal
+
+-- what success gives, success gives
+then : {E P Q : Type 0} (r : Result (Unit {0}) E) → OnOk r P → (P → Q) → OnOk r Q
+then (Ok x) p f = f p
+then (Err e) p f = tt
+
+same_mark : (o : Option ℕ) → gap_tally_mark_in o ≡ unwrap_or o 0
+same_mark None = refl
+same_mark (Some mark) = refl
+
+-- the mark that is read is the word's
+mark_is : (words : SparseTable ℕ) (row r read : ℕ) (o : Option ℕ) → row ≡ r → o ≡ sparse_at words row → read ≡ unwrap_or o 0
+    → gap_tally_mark_in (sparse_at words r) ≡ read
+mark_is words row r read o same got is =
+    ap (λ x. gap_tally_mark_in (sparse_at words x)) (sym same) ∙ ap gap_tally_mark_in (sym got) ∙ same_mark o ∙ sym is
+
+-- the word was stored to in the open interval, if that is below the mark
+was_stored : (j : List Event) (a q mark interval : ℕ) → IsGapTallyMark (FetchGapStoreAt j a q) mark
+    → interval ≡ event_count event_closes j q → interval < mark → FetchGapStoreAt j a q (event_count event_closes j q)
+was_stored j a q mark interval is same lt =
+    let stored = is.last (λ none. absurd (omega (arith, none, lt))) in
+    let bound = gap_event_store_bound j a q (mark - 1) stored in
+    subst (FetchGapStoreAt j a q) (omega (arith, bound, same, lt)) stored
+
+pub returns-then-unwrap_or-interval-clause-tells : goal.returns-then-unwrap_or-interval-clause-tells
+returns-then-unwrap_or-interval-clause-tells c = λ j tells long v.
+    let x = c.args.self.now in
+    let q = c.args.processor in
+    let a = c.args.address in
+    let row = stored_row x.sizes.processors a q in
+    let mark = mark_is x.words c.word_row-word.result row c.unwrap_or.result c.get.result c.word_row-word.ensures.is c.get.ensures
+    c.unwrap_or.ensures in
+    let marked = subst (IsGapTallyMark (FetchGapStoreAt j a q)) mark (tells.words a q c.requires.processor) in
+    stored_tables_stored j x q a v (was_stored j a q c.unwrap_or.result (slice_index x.closed q) marked
+    (tells.closed q c.requires.processor) c.if-unwrap_or-interval.true) tells
+
+-- a step was kept in this row, of this total and interval
+kept : {old new : SparseTable (Vec StoredStep)} {place : ℕ} (row r : ℕ) (total t : StoredTotal) (interval k : ℕ) → row ≡ r → total ≡ t
+    → interval ≡ k → StoredStepAdds old new row place total interval → sparse_room new ≡ sparse_room old
+    → vec_len new.kept ≤ vec_len old.kept + 1 → IsStoredStepKept old new r place t k
+kept {old = old} {new = new} {place = place} row r total t interval k first second third adds room more = record {
+  adds = subst (λ x. StoredStepAdds old new x place t k) first
+      (subst (λ x. StoredStepAdds old new row place x k) second
+      (subst (StoredStepAdds old new row place total) third adds));
+  room = room;
+  more = more;
+}
+
+-- a row was written, and this is what to
+written : {A : Type 0} {old new : SparseTable A} (row r : ℕ) (value x : A) → row ≡ r → value ≡ x → IsSparseWith old new row value
+    → sparse_room new ≡ sparse_room old → vec_len new.kept ≤ vec_len old.kept + 1 → IsStoredWritten old new r x
+written {old = old} {new = new} row r value x first second is room more = record {
+  is = subst (λ z. IsSparseWith old new z x) first (subst (IsSparseWith old new row) second is);
+  room = room;
+  more = more;
+}
+
+pub returns-clause-tells : goal.returns-clause-tells
+returns-clause-tells c = then c.set-2.result c.set-2.ensures.set (λ last j tells long v.
+    let x = c.args.self.now in
+    let q = c.args.processor in
+    let a = c.args.address in
+    let k = event_count event_closes j q in
+    let interval = slice_index x.closed q in
+    let number : interval ≡ k = tells.closed q c.requires.processor in
+    let word = stored_row x.sizes.processors a q in
+    let row = stored_row x.sizes.processors (a / x.sizes.words) q in
+    let total = stored_total (sparse_at x.totals row) in
+    let mark = mark_is x.words c.word_row-word.result word c.unwrap_or.result c.get.result c.word_row-word.ensures.is c.get.ensures
+    c.unwrap_or.ensures in
+    let marked = subst (IsGapTallyMark (FetchGapStoreAt j a q)) mark (tells.words a q c.requires.processor) in
+    let fresh : ¬ FetchGapStoreAt j a q k =
+    λ h. (let lt = marked.below k h in let le = c.if-unwrap_or-interval.false in omega (arith, lt, le, number)) in
+    let is_row : c.page_row-row.result ≡ row = c.page_row-row.ensures.is in
+    let is_total : c.total-total.result ≡ total = c.total-total.ensures ∙ ap (λ r. stored_total (sparse_at x.totals r)) is_row in
+    let next : c.with_word.result ≡ stored_total_next total k =
+    c.with_word.ensures ∙ ap (λ t. stored_total_next t interval) is_total ∙ ap (stored_total_next total) number in
+    let rest = c.add_step.ensures.rest in
+    let steps = c.add_step.new.self.steps in
+    let totals = c.set-2.new.self in
+    let words = c.set.new.self in
+    let Told : StoredCounts → Type 0 = λ y. AreStoredCountsOf (did j q (Store a v)) (record y { totals = totals }) in
+    let old = ap (λ (y : StoredCounts). y.totals) rest in
+    let step = kept c.page_row-row.result row c.total-total.result total interval k is_row is_total number c.in_ok-add_step.ensures.adds
+    c.add_step.ensures.room c.add_step.ensures.few in
+    let all = subst (λ t. IsStoredWritten t totals row (stored_total_next total k)) old
+    (written c.page_row-row.result row c.with_word.result (stored_total_next total k) is_row next last c.set-2.ensures.room
+    c.set-2.ensures.few) in
+    let marks = written c.word_row-word.result word (interval + 1) (k + 1) c.word_row-word.ensures.is (ap (λ z. z + 1) number)
+    c.in_ok-set.ensures.set c.set.ensures.room c.set.ensures.few in
+    subst Told (sym rest) (stored_tables_store v c.requires.processor fresh long step all marks tells))

@@ -1,0 +1,206 @@
+//! What fetches have to count, an event at a time.
+ghost use Rattle.std.specs.Prelude.{◌≡◌, ℕ, ◌+◌, ◌*◌, ◌<◌, ◌≤◌, ◌^◌, [], ◌∷◌, ◌++◌, IfOk, OnOk, List, cond, nat_lt, slice_index, vec_len};
+ghost use Rattle.journal.specs.declared.event.Event.{Event};
+ghost use Rattle.journal.specs.declared.event.Kind.TheVariants.{Fetch};
+ghost use Rattle.journal.specs.PageImages.{GapCounts};
+ghost use Rattle.journal.specs.Prelude.{did, entry};
+ghost use Rattle.judge.specs.Prelude.{AreDueAmountsBetween, AreDueAmountsFew, AreDueFetchedCuts, AreStreamedSizes, DueAmountsAmong, IsDueFetchedCut, IsEventInSizes, IsStoredLimit, TellsDueCounts};
+ghost use Rattle.judge.specs.Prelude.{judged_sizes_of, most_judged_events, most_judged_processors};
+
+use crate::cut::Cut;
+use crate::cuts::Cuts;
+use crate::sizes::{MOST_JUDGED_PROCESSORS, Sizes};
+use crate::sparse_table::SparseTable;
+use crate::stored_counts::StoredCounts;
+use journal::{Event, Kind};
+use std::alloc::{AllocError, Global};
+
+/// What a fetch counts: processors whose stores it brings, intervals of these stores, and words in them.
+#[derive(Clone, Copy)]
+pub(crate) struct DueAmounts {
+    pub(crate) writers: usize,
+    pub(crate) records: usize,
+    pub(crate) words: usize,
+}
+
+/// A history, taken an event at a time, of which it tells what a fetch that comes next has to count.
+///
+/// It takes 256 bytes for each page and processor that fetches it, 12 for each interval and page that it stores in, 12 for each
+/// page and processor that stores in it, and 4 for each word and processor that stores there; and what cuts take.
+#[derive(Drop)]
+pub struct DueCounts {
+    /// What each processor knows of the others.
+    cuts: Cuts,
+    /// Of each page and processor, what the processor knew of the others at its last fetch of the page; zeros before.
+    fetched: SparseTable<Cut>,
+    stored: StoredCounts,
+}
+
+impl DueAmounts {
+    /// Of nothing.
+    fn none() -> DueAmounts
+        ensures { result ≡ record { writers = 0; records = 0; words = 0 } }
+    {
+        DueAmounts {
+            writers: 0,
+            records: 0,
+            words: 0,
+        }
+    }
+
+    /// With those of one more processor, after that many.
+    fn and(self, other: DueAmounts, parts: usize) -> DueAmounts
+        requires parts { parts < most_judged_processors }
+        requires few { AreDueAmountsFew parts self }
+        requires other_few { AreDueAmountsFew 1 other }
+        ensures few { AreDueAmountsFew (parts + 1) result }
+        ensures sum { result ≡ record {
+          writers = self.writers + other.writers;
+          records = self.records + other.records;
+          words = self.words + other.words;
+        } }
+    {
+        DueAmounts {
+            writers: self.writers + other.writers,
+            records: self.records + other.records,
+            words: self.words + other.words,
+        }
+    }
+}
+
+/// How many processors have that many records, where one has all of them.
+fn due_writers_of(records: usize) -> usize
+    ensures { result ≡ cond (nat_lt 0 records) 1 0 }
+{
+    usize::from(records > 0)
+}
+
+impl DueCounts {
+    /// Before the first event. The only error is running out of memory.
+    pub fn new(alloc: Global, sizes: Sizes) -> Result<DueCounts, AllocError>
+        requires { AreStreamedSizes (judged_sizes_of sizes) }
+        ensures tells { IfOk result (TellsDueCounts []) }
+        ensures sizes { IfOk result (λ d. d.stored.sizes ≡ sizes) }
+    {
+        Ok(DueCounts {
+            cuts: Cuts::new(alloc, sizes.processors)?,
+            fetched: SparseTable::new(alloc, sizes.pages * sizes.processors)?,
+            stored: StoredCounts::new(alloc, sizes)?,
+        })
+    }
+
+    /// What the processor knew of the others at its last fetch of the page; zeros before it.
+    fn last_fetch(&self, processor: usize, page: usize) -> Cut
+        requires tells { (j : List Event) × TellsDueCounts j self.now }
+        requires processor { processor < self.now.stored.sizes.processors }
+        requires page { page < self.now.stored.sizes.pages }
+        ensures { (j : List Event) → TellsDueCounts j self.now
+            → IsDueFetchedCut (judged_sizes_of self.now.stored.sizes) j processor page (slice_index result) }
+    {
+        self.fetched
+            .get(self.stored.page_row(page, processor))
+            .unwrap_or([0; MOST_JUDGED_PROCESSORS])
+    }
+
+    /// What `by` has stored in the page between these places, where intervals of it end.
+    fn between(&self, page: usize, by: usize, from: u32, to: u32) -> DueAmounts
+        requires tells { (j : List Event) × TellsDueCounts j self.now × IsStoredLimit j by from × IsStoredLimit j by to }
+        requires page { page < self.now.stored.sizes.pages }
+        requires by { by < self.now.stored.sizes.processors }
+        ensures few { AreDueAmountsFew 1 result }
+        ensures counts { (j : List Event) → TellsDueCounts j self.now → IsStoredLimit j by from → IsStoredLimit j by to
+            → AreDueAmountsBetween (judged_sizes_of self.now.stored.sizes) j page by from to result }
+    {
+        if to <= from {
+            return DueAmounts::none();
+        }
+        let all = self.stored.before(page, by, to);
+        let had = self.stored.before(page, by, from);
+        let records = (all.records - had.records) as usize;
+        DueAmounts {
+            writers: due_writers_of(records),
+            records,
+            words: (all.words - had.words) as usize,
+        }
+    }
+
+    /// What a fetch of the page by this processor has to count of the stores of `by`. `had` is what the processor knew at its
+    /// last fetch of the page.
+    fn part(&self, processor: usize, page: usize, by: usize, had: &Cut) -> DueAmounts
+        requires tells { (j : List Event) × TellsDueCounts j self.now
+            × IsDueFetchedCut (judged_sizes_of self.now.stored.sizes) j processor page (slice_index had.now) }
+        requires processor { processor < self.now.stored.sizes.processors }
+        requires page { page < self.now.stored.sizes.pages }
+        requires by { by < self.now.stored.sizes.processors }
+        ensures few { AreDueAmountsFew 1 result }
+        ensures counts { (j : List Event) → TellsDueCounts j self.now
+            → IsDueFetchedCut (judged_sizes_of self.now.stored.sizes) j processor page (slice_index had.now)
+            → DueAmountsAmong (judged_sizes_of self.now.stored.sizes) j processor page (λ q. q ≡ by)
+            result.writers result.records result.words }
+    {
+        if by == processor {
+            return DueAmounts::none();
+        }
+        self.between(page, by, had[by], self.cuts.of(processor)[by])
+    }
+
+    /// What a fetch of the page by this processor has to count, if it comes next.
+    pub(crate) fn due(&self, processor: usize, page: usize) -> DueAmounts
+        requires tells { (j : List Event) × TellsDueCounts j self.now }
+        requires processor { processor < self.now.stored.sizes.processors }
+        requires page { page < self.now.stored.sizes.pages }
+        ensures { (j : List Event) → TellsDueCounts j self.now
+            → GapCounts (judged_sizes_of self.now.stored.sizes) j processor page
+            result.writers result.records result.words }
+    {
+        let had = self.last_fetch(processor, page);
+        let mut due = DueAmounts::none();
+        for by in 0..self.stored.sizes.processors {
+            due = due.and(self.part(processor, page, by, &had), by);
+        }
+        due
+    }
+
+    /// Keeps what the processor of a fetch of the page, the next event, knows.
+    fn fetch(&mut self, processor: usize, page: usize) -> Result<(), AllocError>
+        requires tells { (j : List Event) × TellsDueCounts j self.old }
+        requires few { self.old.cuts.place < most_judged_events }
+        requires processor { processor < self.old.stored.sizes.processors }
+        requires page { page < self.old.stored.sizes.pages }
+        ensures rest { self.new ≡ record self.old { fetched = self.new.fetched } }
+        ensures fetched { OnOk result ((j : List Event) → TellsDueCounts j self.old → (writers records words : ℕ)
+            → AreDueFetchedCuts (judged_sizes_of self.old.stored.sizes) (did j processor (Fetch writers page records words)) self.new.fetched) }
+    {
+        let cut = *self.cuts.of(processor);
+        let row = self.stored.page_row(page, processor);
+        self.fetched.set(row, cut)
+    }
+
+    /// Keeps what its processor knows, if the event, which comes next, is a fetch.
+    fn keep(&mut self, event: Event) -> Result<(), AllocError>
+        requires tells { (j : List Event) × TellsDueCounts j self.old }
+        requires few { self.old.cuts.place < most_judged_events }
+        requires within { IsEventInSizes (judged_sizes_of self.old.stored.sizes) event }
+        ensures rest { self.new ≡ record self.old { fetched = self.new.fetched } }
+        ensures fetched { OnOk result ((j : List Event) → TellsDueCounts j self.old
+            → AreDueFetchedCuts (judged_sizes_of self.old.stored.sizes) (j ++ event ∷ []) self.new.fetched) }
+    {
+        match event.kind {
+            Kind::Fetch { page, .. } => self.fetch(event.processor, page),
+            _ => Ok(()),
+        }
+    }
+
+    /// Takes note of the event, which comes next. The only error is running out of memory, after which it may tell no history.
+    pub fn note(&mut self, event: Event) -> Result<(), AllocError>
+        requires so_far { (j : List Event) × TellsDueCounts j self.old }
+        requires few { self.old.cuts.place < most_judged_events }
+        requires within { IsEventInSizes (judged_sizes_of self.old.stored.sizes) event }
+        ensures sizes { self.new.stored.sizes ≡ self.old.stored.sizes }
+        ensures tells { OnOk result ((j : List Event) → TellsDueCounts j self.old → TellsDueCounts (j ++ event ∷ []) self.new) }
+    {
+        self.keep(event)?;
+        self.stored.note(event, self.cuts.place)?;
+        self.cuts.note(event)
+    }
+}

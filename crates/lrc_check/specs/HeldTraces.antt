@@ -1,0 +1,23 @@
+-- Traces whose events are told with all of them at hand.
+use Rattle.std.specs.Prelude.{ℕ, ◌≡◌, ◌≤◌, Option, None, MatchOption, List, length}
+use Rattle.base.specs.Limits.{most_held, most_processors}
+use Rattle.journal.specs.declared.event.Event.{Event}
+use Rattle.journal.specs.Sizes.{Sizes}
+use Rattle.causes.specs.declared.apart.RaceApart.{RaceApart}
+use Rattle.causes.specs.Apart.{IsRaceApart}
+use Rattle.lrc_check.specs.Traces.LawfulTraces.{IsLawfulTrace}
+
+-- no more processors than a cluster of the product has, and no more events than a journal holds
+pub record IsFewForHeldTrace (s : Sizes) (j : List Event) : Type 0 where
+  pub processors : s.processors ≤ most_processors
+  pub events : length j ≤ most_held
+
+-- a trace with no more than that
+pub record IsHeldTrace (s : Sizes) (j : List Event) : Type 0 where
+  pub trace : IsLawfulTrace s j
+  pub few : IsFewForHeldTrace s j
+
+-- what keeps the race's accesses apart, if there is one: it is told of a trace with no more than that
+abbrev pub IsTraceRaceApart : Sizes → List Event → Option (ℕ × ℕ) → Option RaceApart → Type 0
+IsTraceRaceApart s j race apart = MatchOption race (apart ≡ None)
+    (λ r. MatchOption apart (¬ IsFewForHeldTrace s j) (IsRaceApart s.locks j r.0 r.1))

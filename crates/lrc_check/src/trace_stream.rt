@@ -1,0 +1,284 @@
+//! A trace that is judged as it is read.
+ghost use Rattle.std.specs.Prelude.{◌≡◌, ◌≤◌, ℕ, ◌++◌, [], IfErr, IfOk, IfSome, List, MatchOption, OnOk, length};
+ghost use Rattle.journal.specs.declared.event.Event.{Event as AnEvent};
+ghost use Rattle.journal.specs.Prelude.{Race};
+ghost use Rattle.lrc_check.specs.Traces.Prelude.{FedTextBeginsTrace, IsNoLawfulTrace, IsTraceSoFar, trace_sizes_of, without_trace_labels};
+ghost use Rattle.lrc_check.specs.Prelude.{AreUnprotectedTold, HasStreamReadOn, IsFaultFoundInBytes, IsFoundInBytes, IsFoundInStream, IsStreamEnd, IsStreamEndOf, IsStreamJudge, IsTraceStream, unprotected_looked_for};
+
+use crate::check_fault::CheckFault;
+use crate::checked::{Checked, Lie, Rules, TraceVerdict};
+use crate::checking_traces::JudgedTrace;
+use crate::history_judge::HistoryJudge;
+use crate::told_events::{KnownEvent, ToldEvents};
+use crate::trace_history::trace_history_sizes;
+use crate::traces::fault::TraceFault;
+use crate::traces::reader::Reader;
+use crate::verdict_text::{AnswersTold, verdict_text_answers};
+use base::{MOST_HELD, MOST_PROCESSORS};
+use causes::{RaceApart, race_accesses_apart};
+use journal::{Event, Kind};
+use judge::FlatStore;
+use judge::locksets::Unprotected;
+use std::alloc::{AllocError, Global};
+
+/// How many events are kept at hand, but for those of one piece more.
+const MOST_AT_HAND: usize = 1 << 19;
+
+/// A trace that is judged as it is read. It takes the memory of a `HistoryJudge`, and of the
+/// events of the last pieces with their labels, however long the trace is.
+#[derive(Drop)]
+pub struct TraceStream {
+    reader: Reader,
+    rules: Rules,
+    /// None before the line of the sizes.
+    judge: Option<HistoryJudge>,
+    /// The accesses of the race, if they were let go of, and the stores that a lie may answer.
+    kept: Vec<KnownEvent>,
+}
+
+/// Keeps the event at this place with its label, if it is at hand. The only error is running out of memory.
+fn keep_known_event(
+    alloc: Global,
+    kept: &mut Vec<KnownEvent>,
+    reader: &Reader,
+    place: usize,
+) -> Result<(), AllocError> {
+    let told = ToldEvents::of_reader(reader, &[]);
+    if let Some(event) = told.event(place) {
+        let mut label = Vec::new(alloc);
+        label.extend_from_slice(told.label(place))?;
+        kept.push(KnownEvent {
+            place,
+            event,
+            label,
+        })?;
+    }
+    Ok(())
+}
+
+/// Keeps these stores to the address, without labels. The only error is running out of memory.
+fn keep_owed_stores(
+    alloc: Global,
+    kept: &mut Vec<KnownEvent>,
+    stores: &[FlatStore],
+    address: usize,
+) -> Result<(), AllocError> {
+    for store in stores {
+        let FlatStore { by, place, value } = *store;
+        kept.push(KnownEvent {
+            place: place as usize,
+            event: Event {
+                processor: by,
+                kind: Kind::Store(address, value),
+            },
+            label: Vec::new(alloc),
+        })?;
+    }
+    Ok(())
+}
+
+impl TraceStream {
+    /// Before the first piece.
+    pub fn new(alloc: Global, rules: Rules) -> TraceStream
+        ensures stream { IsTraceStream [] result }
+        ensures rules { result.rules ≡ rules }
+    {
+        TraceStream {
+            reader: Reader::new(alloc),
+            rules,
+            judge: None,
+            kept: Vec::new(alloc),
+        }
+    }
+
+    /// Keeps the accesses of the race, if there is one and they aren't kept yet. The only error is running out of memory.
+    fn keep_race(&mut self, alloc: Global) -> Result<(), AllocError>
+        ensures { self.new ≡ record self.old { kept = self.new.kept } }
+    {
+        let race = match &self.judge {
+            Some(judge) if self.kept.is_empty() => judge.race(),
+            _ => None,
+        };
+        if let Some((first, second)) = race {
+            keep_known_event(alloc, &mut self.kept, &self.reader, first)?;
+            keep_known_event(alloc, &mut self.kept, &self.reader, second)?;
+        }
+        Ok(())
+    }
+
+    /// Lets go of the events at hand, if there are many. The only error is running out of memory.
+    fn make_room(&mut self, alloc: Global) -> Result<(), AllocError>
+        ensures stream { OnOk result ((bytes : List ℕ) → IsTraceStream bytes self.old → IsTraceStream bytes self.new) }
+        ensures rules { self.new.rules ≡ self.old.rules }
+    {
+        if self.reader.events().len() >= MOST_AT_HAND {
+            self.keep_race(alloc)?;
+            self.reader.let_go();
+        }
+        Ok(())
+    }
+
+    /// Makes the judge, if the sizes are known and there is none. The only error is running out of memory.
+    fn begin_judge(&mut self, alloc: Global) -> Result<(), AllocError>
+        requires read { (front : List AnEvent) × (seen : ℕ) × HasStreamReadOn front seen self.old }
+        ensures reader { self.new.reader ≡ self.old.reader }
+        ensures rules { self.new.rules ≡ self.old.rules }
+        ensures begun { OnOk result ((front : List AnEvent) (seen : ℕ) → HasStreamReadOn front seen self.old
+            → HasStreamReadOn front seen self.new) }
+        ensures known { OnOk result (self.new.judge ≡ None → self.old.reader.sizes ≡ None) }
+    {
+        if self.judge.is_none() {
+            if let Some(sizes) = self.reader.sizes() {
+                let judge = HistoryJudge::new(alloc, trace_history_sizes(sizes), self.rules)?;
+                self.judge = Some(judge);
+            }
+        }
+        Ok(())
+    }
+
+    /// Judges the events at hand behind the first `seen` ones: what is found if judging ends with one of them. The only error is
+    /// running out of memory.
+    fn judge_behind(&mut self, alloc: Global, seen: usize) -> Result<Option<Checked>, AllocError>
+        requires read { (front : List AnEvent) × HasStreamReadOn front seen self.old }
+        ensures reader { self.new.reader ≡ self.old.reader }
+        ensures rules { self.new.rules ≡ self.old.rules }
+        ensures judged { IfOk result (λ o. (front : List AnEvent) → HasStreamReadOn front seen self.old → MatchOption o
+            (IsStreamJudge self.old.rules self.old.reader.sizes (front ++ self.old.reader.events) self.new.judge)
+            (IsStreamEndOf self.old.rules self.old.reader.sizes (front ++ self.old.reader.events))) }
+    {
+        self.begin_judge(alloc)?;
+        match &mut self.judge {
+            None => Ok(None),
+            Some(judge) => judge.read_all(alloc, &self.reader.events()[seen..]),
+        }
+    }
+
+    /// Takes the next piece of the trace's text, and judges the events of the lines that end in it: what is found if judging ends
+    /// with one of them; None if it goes on.
+    ///
+    /// # Errors
+    ///
+    /// `Trace`, with the first line that has a fault, comes only where no trace has a text that begins so, and if judging didn't
+    /// end before that line. `NoMemory` comes where a growth was refused. After an error the stream judges no trace.
+    pub fn feed(&mut self, alloc: Global, piece: &[u8]) -> Result<Option<Checked>, CheckFault>
+        requires stream { (bytes : List ℕ) × IsTraceStream bytes self.old }
+        ensures rules { self.new.rules ≡ self.old.rules }
+        ensures judged { IfOk result (λ o. (bytes : List ℕ) → IsTraceStream bytes self.old → MatchOption o
+            (IsTraceStream (bytes ++ piece.now) self.new) (IsStreamEnd self.old.rules (bytes ++ piece.now))) }
+        ensures found { IfOk result (λ o. IfSome o (λ x. (front : List AnEvent) × IsFoundInStream front x self.new)) }
+        ensures refused { IfErr result (λ fault. IsFaultFoundInBytes fault → (bytes : List ℕ) → IsTraceStream bytes self.old
+            → ¬ FedTextBeginsTrace (bytes ++ piece.now)) }
+    {
+        self.make_room(alloc)?;
+        let seen = self.reader.events().len();
+        let fed = self.reader.feed(alloc, piece);
+        if let Some(found) = self.judge_behind(alloc, seen)? {
+            return Ok(Some(found));
+        }
+        fed?;
+        Ok(None)
+    }
+
+    /// What is found if the text ends here.
+    ///
+    /// # Errors
+    ///
+    /// `Trace` alone, with the number of the line that has to be there or to end: then the text is no trace's.
+    pub fn finish(&self) -> Result<Checked, CheckFault>
+        requires stream { (bytes : List ℕ) × IsTraceStream bytes self.now }
+        ensures found { IfOk result (λ x. (bytes : List ℕ) → IsTraceStream bytes self.now → IsFoundInBytes self.now.rules bytes x) }
+        ensures at_hand { IfOk result (λ x. (front : List AnEvent) × IsFoundInStream front x self.now) }
+        ensures refused { IfErr result (λ fault. IsFaultFoundInBytes fault → (bytes : List ℕ) → IsTraceStream bytes self.now
+            → IsNoLawfulTrace (without_trace_labels bytes)) }
+    {
+        self.reader.end()?;
+        match &self.judge {
+            None => Err(CheckFault::Trace(1, TraceFault::Truncated)),
+            Some(judge) => Ok(judge.finish()),
+        }
+    }
+
+    /// What keeps the accesses of this race apart, if all events are at hand and the trace is one that `can_trace_be_held`. The
+    /// only error is running out of memory.
+    fn race_apart(
+        &self,
+        alloc: Global,
+        race: Option<(usize, usize)>,
+    ) -> Result<Option<RaceApart>, AllocError>
+        requires { (front : List AnEvent)
+            × IsTraceSoFar self.now.reader.sizes self.now.reader.gone front self.now.reader.events
+            × IfSome race (λ r. Race (front ++ self.now.reader.events) r.0 r.1) }
+        ensures none { IfOk result (λ o. race ≡ None → o ≡ None) }
+    {
+        let (Some(race), Some(sizes)) = (race, self.reader.sizes()) else {
+            return Ok(None);
+        };
+        let events = self.reader.events();
+        if self.reader.gone() > 0
+            || sizes.processors > MOST_PROCESSORS
+            || events.len() > MOST_HELD
+        {
+            return Ok(None);
+        }
+        let apart = race_accesses_apart(alloc, sizes.processors, sizes.locks, events, race)?;
+        Ok(Some(apart))
+    }
+
+    /// Keeps the stores that the load of this lie may answer, those that are told: they may have been let go of. The only error is
+    /// running out of memory.
+    fn keep_owed(&mut self, alloc: Global, verdict: &TraceVerdict) -> Result<(), AllocError>
+        ensures { self.new ≡ record self.old { kept = self.new.kept } }
+    {
+        let TraceVerdict::Lie(Lie::Unexplained(load)) = verdict else {
+            return Ok(());
+        };
+        let Some(event) = ToldEvents::of_reader(&self.reader, &[]).event(load.place) else {
+            return Ok(());
+        };
+        let Kind::Load(address, _) = event.kind else {
+            return Ok(());
+        };
+        let AnswersTold { stores, .. } = verdict_text_answers(alloc, &load.permitted)?;
+        keep_owed_stores(alloc, &mut self.kept, &stores, address)
+    }
+
+    /// The words that need a lock and have none, those that are asked for, if the trace, of which this was found, is faithful and
+    /// has no race; none otherwise. The only error is running out of memory.
+    fn unprotected(&self, alloc: Global, found: &Checked) -> Result<Vec<Unprotected>, AllocError>
+        requires { (front : List AnEvent) × IsFoundInStream front found.now self.now }
+        ensures { IfOk result (λ v. (front : List AnEvent) (is : IsFoundInStream front found.now self.now)
+            → AreUnprotectedTold (unprotected_looked_for self.now.rules.locksets found.now) (trace_sizes_of is.known)
+            (front ++ self.now.reader.events) v.items) }
+    {
+        match &self.judge {
+            Some(judge) => judge.unprotected(alloc, found),
+            None => Ok(Vec::new(alloc)),
+        }
+    }
+
+    /// What was found, as it is told: with what keeps the race's accesses apart, if all events are at hand and the trace is one
+    /// that `can_trace_be_held`, and with the words that need a lock and have none, if these are asked for and it is faithful
+    /// without a race. The only error is running out of memory.
+    pub fn judged(&mut self, alloc: Global, found: Checked) -> Result<JudgedTrace, AllocError>
+        requires { (front : List AnEvent) × IsFoundInStream front found self.old }
+        ensures found { IfOk result (λ x. x.found ≡ found) }
+        ensures unprotected { IfOk result (λ x. (front : List AnEvent) (is : IsFoundInStream front found self.old)
+            → AreUnprotectedTold (unprotected_looked_for self.old.rules.locksets found) (trace_sizes_of is.known)
+            (front ++ self.old.reader.events) x.unprotected.items) }
+    {
+        self.keep_owed(alloc, &found.verdict)?;
+        let race = self.race_apart(alloc, found.race)?;
+        let unprotected = self.unprotected(alloc, &found)?;
+        Ok(JudgedTrace {
+            found,
+            race,
+            unprotected,
+        })
+    }
+
+    /// The events that can be told: those at hand, with their labels, and of those before the accesses of the race and the stores
+    /// that a lie may answer.
+    pub fn told(&self) -> ToldEvents<'_> {
+        ToldEvents::of_reader(&self.reader, &self.kept)
+    }
+}

@@ -1,0 +1,180 @@
+#!/usr/bin/env python3
+"""tests/checking/stream.py [PROGRAM]: traces that `PROGRAM check` judges as they are read, by crates/lrc/out/lrc where none is
+named.
+
+A lie is told while the pipe is still open, and so is a race that is to end the judging; nothing behind either is read. Of a lie
+and a bad line the one that comes first is told, however the text is cut into pieces. A long trace is judged in memory that
+doesn't grow with it: 16 processors that share 4,096 words, each under a lock, with labels; so is one that races at its end, or
+lies there; and one whose locks go round, under the models that look at earlier stores. What is told has its labels as long as it is at hand, and so has the race if more than a window comes behind it.
+With --locksets the memory doesn't grow either, and accesses of a word that were let go of are told by number and processor.
+The last line is `N passed, M failed`.
+"""
+import resource
+import subprocess
+import sys
+from pathlib import Path
+
+PROGRAM = sys.argv[1] if len(sys.argv) > 1 else str(Path(__file__).resolve().parents[2] / "crates/lrc/out/lrc")
+LONG = 1_500_000  # events; 2^19 are kept at hand, and those of one piece
+MEMORY = 64 << 20
+STORED = 96 << 20  # where stores are kept that a load may still answer
+passed = failed = 0
+
+
+def count(name, held, *found):
+    """Counts a trial by whether it held, and says what was found where it didn't."""
+    global passed, failed
+    if held:
+        passed += 1
+    else:
+        failed += 1
+        print(f"checking: {name}:", *found)
+
+
+def while_open(text, *words):
+    """What the program says and how it ends, while its standard input stays open behind the text."""
+    run = subprocess.Popen([PROGRAM, "check", *words], stdin=subprocess.PIPE, stdout=subprocess.PIPE, stderr=subprocess.PIPE)
+    try:
+        run.stdin.write(text)
+        run.stdin.flush()
+        status = run.wait(timeout=20)
+    except subprocess.TimeoutExpired:
+        status = None
+    run.kill()
+    said, wrong = run.communicate()
+    return status, said.decode(), wrong.decode()
+
+
+def judged(text, *words, pieces=None):
+    """What the program says of the text, which comes in pieces of so many bytes, and how it ends."""
+    run = subprocess.Popen([PROGRAM, "check", *words], stdin=subprocess.PIPE, stdout=subprocess.PIPE, stderr=subprocess.PIPE)
+    try:
+        for begin in range(0, len(text), pieces or len(text)):
+            run.stdin.write(text[begin : begin + (pieces or len(text))])
+            run.stdin.flush()
+    except BrokenPipeError:
+        pass
+    said, wrong = run.communicate()
+    return run.returncode, said.decode(), wrong.decode()
+
+
+LIE = b"cluster 2 1 1 0\nevent 0 0 store 0 5\nevent 1 0 load 0 6  here\n"
+LIE_TOLD = "events 2\nmodel race-free\nunfaithful 1\nevent 1 0 load 0 6  here\nbecause it may answer only what was stored by\nevent 0 0 store 0 5\n"
+RACE = b"cluster 2 1 1 0\nevent 0 0 store 0 5  a\nevent 1 1 store 0 6  b\n"
+BAD = b"event 2 0 nothing\n"
+
+status, said, wrong = while_open(LIE)
+count("a lie is told while the pipe is open", (status, said) == (6, LIE_TOLD), status, said, wrong)
+status, said, wrong = while_open(RACE, "--race-is-error")
+count("a race ends the judging while the pipe is open", status == 8 and "event 1 1 store 0 6  b" in said, status, said, wrong)
+status, said, wrong = while_open(RACE + BAD)
+count("a bad line is told while the pipe is open", (status, wrong) == (2, "lrc: line 4: line not understood\n"), status, said, wrong)
+for size in (1, 7, 40, None):
+    status, said, _ = judged(LIE + BAD, pieces=size)
+    count(f"the lie comes before the bad line, in pieces of {size}", (status, said) == (6, LIE_TOLD), status, said)
+    status, said, wrong = judged(RACE + BAD + LIE, pieces=size)
+    count(f"the bad line comes before the lie, in pieces of {size}", (status, said) == (2, ""), status, said, wrong)
+STORING = (("--model", "happens-before"), ("--model", "lazy-release"), ("--model", "lazy-release", "--lax"))
+for words in STORING:
+    status, said, wrong = while_open(LIE, *words)
+    count(f"a lie is told while the pipe is open, {words}", status == 6 and "unfaithful 1" in said, status, said, wrong)
+
+
+def long_trace(events, locks=64):
+    """The lines of a trace that is faithful and has no race: each access of a word under the word's lock. With 61 locks each goes
+    round all processors, so that all hear of all."""
+    last = {}
+    place = 0
+    turn = 0
+    yield b"cluster 16 64 64 64\n"
+    while place + 5 <= events:
+        processor, lock = turn % 16, turn * 7 % locks
+        word = lock * 64 + turn // 64 % 64
+        value = turn % 1000
+        for what in (f"ask {lock}", f"acquire {lock}", f"load {word} {last.get(word, 0)}", f"store {word} {value}", f"release {lock}"):
+            yield f"event {place} {processor} {what}  queue.c:{turn % 900:03d}\n".encode()
+            place += 1
+        last[word] = value
+        turn += 1
+
+
+def long_judged(lines, *words, memory=MEMORY):
+    """What the program says of the lines within a limit of memory, and how it ends."""
+    def limited():
+        resource.setrlimit(resource.RLIMIT_AS, (memory, memory))
+
+    run = subprocess.Popen([PROGRAM, "check", *words], stdin=subprocess.PIPE, stdout=subprocess.PIPE, stderr=subprocess.PIPE, preexec_fn=limited)
+    try:
+        block = []
+        for line in lines:
+            block.append(line)
+            if len(block) == 20_000:
+                run.stdin.write(b"".join(block))
+                block = []
+        run.stdin.write(b"".join(block))
+    except BrokenPipeError:
+        pass
+    said, wrong = run.communicate()
+    return run.returncode, said.decode(), wrong.decode()
+
+
+LINES = list(long_trace(LONG))
+EVENTS = len(LINES) - 1
+status, said, wrong = long_judged(LINES)
+count("a long trace is faithful", (status, said) == (0, f"events {EVENTS}\nmodel race-free\nfaithful\nverdict race-free\ntraffic {EVENTS // 5 * 2} 0 0\n"), status, said[:300], wrong)
+status, said, wrong = long_judged(LINES + [f"event {EVENTS} 3 load 0 77  end\n".encode()])
+count("a long trace races at its end", status == 0 and "verdict racy" in said and f"event {EVENTS} 3 load 0 77  end" in said, status, said[:300], wrong)
+asked = [f"event {EVENTS} 1 ask 0\n", f"event {EVENTS + 1} 1 acquire 0\n", f"event {EVENTS + 2} 1 load 0 77  end\n"]
+status, said, wrong = long_judged(LINES + [line.encode() for line in asked])
+count("a long trace lies at its end", status == 6 and f"unfaithful {EVENTS + 2}\nevent {EVENTS + 2} 1 load 0 77  end\nbecause it may answer only what was stored by\nevent " in said, status, said[:300], wrong)
+early = [LINES[0], b"event 0 0 store 4095 1  first\n", b"event 1 1 store 4095 2  second\n"]
+shifted = (b"event %d %s" % (int(line.split(b" ", 2)[1]) + 2, line.split(b" ", 2)[2]) for line in LINES[1:] if True)
+status, said, wrong = long_judged([*early, *shifted])
+count(
+    "a race long ago is told with its labels",
+    status == 0 and "verdict racy\nevent 0 0 store 4095 1  first\nevent 1 1 store 4095 2  second\n" in said,
+    status, said[:300], wrong,
+)
+
+ROUND = list(long_trace(LONG, 61))
+for words in STORING:
+    status, said, wrong = long_judged(ROUND, *words, memory=STORED)
+    count(f"a long trace is faithful, {words}", status == 0 and said.startswith(f"events {EVENTS}\n") and "verdict race-free" in said, status, said[:300], wrong)
+    status, said, wrong = long_judged(ROUND + [line.encode() for line in asked], *words, memory=STORED)
+    count(f"a long trace lies at its end, {words}", status == 6 and f"unfaithful {EVENTS + 2}\nevent {EVENTS + 2} 1 load 0 77  end\nbecause it may answer only what was stored by\nevent " in said, status, said[:300], wrong)
+
+
+def section(processor, lock, *accesses):
+    """The events of a processor's section under a lock."""
+    return [f"{processor} {what}" for what in (f"ask {lock}", f"acquire {lock}", *accesses, f"release {lock}")]
+
+
+def numbered(events, begin):
+    """The events' lines, numbered from here on."""
+    return [f"event {place} {event}\n".encode() for place, event in enumerate(events, begin)]
+
+
+# Word 4096 is handed over by lock 0, and word 4097 is guarded by lock 1 but for the last store. Behind the long part
+# word 4098 is handed over.
+SIZES = b"cluster 16 65 64 64\n"
+EARLY = ["0 store 4098 1", "0 store 4096 1", *section(0, 0), *section(1, 0), "1 store 4096 2  gone", *section(1, 0), *section(0, 0), "0 load 4096 2",
+         *section(0, 1, "store 4097 1"), *section(1, 1, "store 4097 2"), *section(0, 1, "load 4097 2"), "0 store 4097 3  gone"]
+LATE = [*section(0, 0), *section(2, 0), "2 store 4098 2  late", *section(2, 0), *section(3, 0), "3 load 4098 2"]
+FIRST, SECOND = (EARLY.index(it) for it in ("1 store 4096 2  gone", "0 load 4096 2"))
+STORE, LOAD, BARE = (EARLY.index(it) for it in ("1 store 4097 2", "0 load 4097 2", "0 store 4097 3  gone"))
+MOVED = (b"event %d %s" % (int(line.split(b" ", 2)[1]) + len(EARLY), line.split(b" ", 2)[2]) for line in LINES[1:])
+WORDS = [SIZES, *numbered(EARLY, 0), *MOVED, *numbered(LATE, EVENTS + len(EARLY))]
+BEHIND = EVENTS + len(EARLY)
+HANDED = f"handed over 4096: event {FIRST} by p1 and event {SECOND} by p0 hold no lock in common\n"
+FORGOTTEN = f"unprotected 4097: event {STORE} by p1 and event {BARE} by p0 hold no lock in common; events {STORE} and {LOAD} hold lock 1\n"
+LAST = (f"handed over 4098: event {BEHIND + LATE.index('2 store 4098 2  late')} (late) by p2 "
+        f"and event {BEHIND + len(LATE) - 1} by p3 hold no lock in common\n")
+for which, told in (("forgotten", FORGOTTEN), ("all", HANDED + FORGOTTEN + LAST)):
+    for model in ("race-free", "sequential"):
+        status, said, wrong = long_judged(WORDS, "--locksets", which, "--model", model)
+        count(f"words of a long trace, {which}, {model}", status == 0 and f"verdict race-free\n{told}traffic " in said, status, said[:600], wrong)
+status, said, wrong = long_judged(WORDS, "--locksets", "all", "--json")
+count("an access that was let go of is an object, too", f'"first":{{"place":{FIRST},"processor":1}}' in said and f'"guarded":[{{"place":{STORE},"processor":1}},' in said
+      and '"label":"late"' in said, status, said[:900], wrong)
+print(f"{passed} passed, {failed} failed")
+sys.exit(failed > 0)
