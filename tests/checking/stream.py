@@ -5,10 +5,12 @@ named.
 A lie is told while the pipe is still open, and so is a race that is to end the judging; nothing behind either is read. Of a lie
 and a bad line the one that comes first is told, however the text is cut into pieces. A long trace is judged in memory that
 doesn't grow with it: 16 processors that share 4,096 words, each under a lock, with labels; so is one that races at its end, or
-lies there; and one whose locks go round, under the models that look at earlier stores. What is told has its labels as long as it is at hand, and so has the race if more than a window comes behind it.
+lies there; and one whose locks go round, under the models that look at earlier stores. Nor does the memory grow with one whose
+fetches count what they bring, of 16 processors that share 112 pages. What is told has its labels as long as it is at hand, and so has the race if more than a window comes behind it.
 With --locksets the memory doesn't grow either, and accesses of a word that were let go of are told by number and processor.
 The last line is `N passed, M failed`.
 """
+import re
 import resource
 import subprocess
 import sys
@@ -142,6 +144,60 @@ for words in STORING:
     count(f"a long trace is faithful, {words}", status == 0 and said.startswith(f"events {EVENTS}\n") and "verdict race-free" in said, status, said[:300], wrong)
     status, said, wrong = long_judged(ROUND + [line.encode() for line in asked], *words, memory=STORED)
     count(f"a long trace lies at its end, {words}", status == 6 and f"unfaithful {EVENTS + 2}\nevent {EVENTS + 2} 1 load 0 77  end\nbecause it may answer only what was stored by\nevent " in said, status, said[:300], wrong)
+
+
+def counted_trace(events):
+    """The lines of a faithful trace whose fetches count what they bring. Seven locks go round 16 processors; under a lock each
+    processor fetches and then stores in all 16 pages of the lock, in the first one two words."""
+    visits = [[] for _ in range(7)]  # of each lock, who had it
+    place = turn = 0
+    yield b"cluster 16 112 64 8\n"
+    while place + 40 <= events:
+        processor, lock = turn % 16, turn % 7
+        had = visits[lock]
+        since = had[had.index(processor) + 1 :] if processor in had else had
+        brought = len(since)  # each is another processor, and in one interval of it
+        whats = [f"ask {lock}", f"acquire {lock}"]
+        for page in range(lock * 16, lock * 16 + 16):
+            words = 2 if page % 16 == 0 else 1
+            if brought:
+                whats.append(f"fetch {page} {brought} {brought} {brought * words}")
+            whats.extend(f"store {page * 64 + processor + word * 16} {turn % 1000}" for word in range(words))
+        whats.append(f"release {lock}")
+        for what in whats:
+            yield f"event {place} {processor} {what}\n".encode()
+            place += 1
+        visits[lock] = [*since, processor]
+        turn += 1
+
+
+def memory_of(lines, *words):
+    """What the program says of the lines, how it ends, and how many bytes of memory it had at most as it read them."""
+    run = subprocess.Popen([PROGRAM, "check", *words], stdin=subprocess.PIPE, stdout=subprocess.PIPE, stderr=subprocess.PIPE)
+    try:
+        for begin in range(0, len(lines), 20_000):
+            run.stdin.write(b"".join(lines[begin : begin + 20_000]))
+        run.stdin.flush()
+    except BrokenPipeError:
+        pass
+    used = re.search(r"VmHWM:\s+(\d+) kB", Path(f"/proc/{run.pid}/status").read_text())
+    said, wrong = run.communicate()
+    return run.returncode, said.decode(), wrong.decode(), int(used[1]) << 10 if used else 0
+
+
+# The second half has some 370,000 more intervals that store in a page.
+COUNTED = list(counted_trace(LONG))
+SHORT = COUNTED[: len(COUNTED) // 2]
+status, said, wrong, short = memory_of(SHORT, "--model", "lazy-release")
+count("a trace that counts is faithful", status == 0 and f"events {len(SHORT) - 1}\n" in said and "verdict race-free" in said, status, said[:300], wrong)
+status, said, wrong, long = memory_of(COUNTED, "--model", "lazy-release")
+count("a long trace that counts is faithful", status == 0 and f"events {len(COUNTED) - 1}\n" in said, status, said[:300], wrong)
+count("the memory for counts doesn't grow with the trace", 0 < long < short + (2 << 20), short, long)
+wrongly = next(place for place in range(len(SHORT) - 1, 0, -1) if b" fetch " in SHORT[place])
+head, number = SHORT[wrongly].rsplit(b" ", 1)
+lied = [*SHORT[:wrongly], head + b" %d\n" % (int(number) + 1), *SHORT[wrongly + 1 :]]
+status, said, wrong = long_judged(lied, "--model", "lazy-release", memory=STORED)
+count("a wrong count at its end is told", status == 6 and f"unfaithful {wrongly - 1}\n" in said and "the fetch has to count 15 writers, 15 records and" in said, status, said[:300], wrong)
 
 
 def section(processor, lock, *accesses):

@@ -4,6 +4,9 @@ pub mod VecItems
 pub mod LongerSparseTables
 pub mod StoredBefore
 pub mod StoredLimits
+pub mod StoredAsks
+pub mod AskedPlaces
+pub mod AskedSteps
 pub mod StoredNext
 pub mod StoredTables
 pub mod DueGaps

@@ -7,11 +7,11 @@ use Rattle.judge.specs.declared.stored_steps.StoredAmounts.{StoredAmounts}
 use Rattle.judge.specs.declared.stored_steps.StoredStep.{StoredStep}
 use Rattle.judge.specs.StoredSteps.{HasStoredStepFrom, stored_before}
 
-stored_before_below : (x : StoredStep) (steps : List StoredStep) (all : StoredAmounts) (v : ℕ) → x.place < v
+pub stored_before_below : (x : StoredStep) (steps : List StoredStep) (all : StoredAmounts) (v : ℕ) → x.place < v
     → stored_before (x ∷ steps) all v ≡ stored_before steps all v
 stored_before_below x steps all v lt = ap (λ b. cond b (stored_before steps all v) x.before) (lt-ltb x.place v lt)
 
-stored_before_here : (x : StoredStep) (steps : List StoredStep) (all : StoredAmounts) (v : ℕ) → v ≤ x.place
+pub stored_before_here : (x : StoredStep) (steps : List StoredStep) (all : StoredAmounts) (v : ℕ) → v ≤ x.place
     → stored_before (x ∷ steps) all v ≡ x.before
 stored_before_here x steps all v le = ap (λ b. cond b (stored_before steps all v) x.before) (le-ltb x.place v le)
 
@@ -43,20 +43,25 @@ stored_before_push [] x all v le = stored_before_here x [] all v le
 stored_before_push (y ∷ steps) x all v le =
     ap (λ z. cond (nat_lt y.place v) z y.before) (stored_before_push steps x all v le)
 
+-- a step from it on is behind those below it
+pub stored_before_later : (x : StoredStep) (steps : List StoredStep) (v : ℕ) → HasStoredStepFrom (x ∷ steps) v → x.place < v
+    → HasStoredStepFrom steps v
+stored_before_later x steps v h lt = later h.has.0 h.has.1
+  where
+    later : (i : ℕ) → slice_get (x ∷ steps) i ≡ Some h.step → HasStoredStepFrom steps v
+    later zero at =
+        let same = same_Some x h.step at in
+        let from = h.from in
+        absurd (let Q : StoredStep → Type 0 = λ z. v ≤ z.place in let le = subst Q (sym same) from in omega (arith, le, lt))
+    later (suc i) at = record { step = h.step; has = (i, at); from = h.from }
+
 -- where a step isn't below it, the total doesn't matter
 pub stored_before_any : (steps : List StoredStep) (all other : StoredAmounts) (v : ℕ) → HasStoredStepFrom steps v
     → stored_before steps all v ≡ stored_before steps other v
 stored_before_any [] all other v h = absurd (none-some h.step h.has.1)
 stored_before_any (x ∷ steps) all other v h = elim (cases_lt x.place v) [
   | inl lt ↦
-      stored_before_below x steps all v lt ∙ stored_before_any steps all other v (later h.has.0 h.has.1 lt)
+      stored_before_below x steps all v lt ∙ stored_before_any steps all other v (stored_before_later x steps v h lt)
       ∙ sym (stored_before_below x steps other v lt)
   | inr le ↦ stored_before_here x steps all v le ∙ sym (stored_before_here x steps other v le)
 ]
-  where
-    later : (i : ℕ) → slice_get (x ∷ steps) i ≡ Some h.step → x.place < v → HasStoredStepFrom steps v
-    later zero at lt =
-        let same = same_Some x h.step at in
-        let from = h.from in
-        absurd (let Q : StoredStep → Type 0 = λ z. v ≤ z.place in let le = subst Q (sym same) from in omega (arith, le, lt))
-    later (suc i) at lt = record { step = h.step; has = (i, at); from = h.from }

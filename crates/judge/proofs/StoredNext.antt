@@ -12,16 +12,17 @@ use Rattle.journal.specs.Sizes.{Sizes}
 use Rattle.journal.specs.Events.{event_count, event_closes}
 use Rattle.journal.specs.PageImages.{HasPageImageCount}
 use Rattle.journal.proofs.Missing.GapsCounted.{gaps_counted_same}
-use Rattle.journal.proofs.Order.EventPlacesAndCounts.{event_count-append, event_count-front-le, event_place_inside}
+use Rattle.journal.proofs.Order.EventPlacesAndCounts.{event_count-append, event_count-front-le, event_place_at_end, event_place_inside}
 use Rattle.judge.specs.declared.stored_steps.StoredAmounts.{StoredAmounts}
 use Rattle.judge.specs.declared.stored_steps.StoredStep.{StoredStep}
 use Rattle.judge.specs.declared.stored_steps.StoredTotal.{StoredTotal}
 use Rattle.judge.specs.FetchGaps.{FetchGapStoreAt, FetchGapStoreInPage, FetchGapStoreOfWord}
 use Rattle.judge.specs.GapTally.{IsGapTallyMark}
-use Rattle.judge.specs.StoredSteps.{AreStoredAmounts, AreStoredSteps, HasStoredStepFrom, IsStoredLimit, stored_before, stored_total_next}
+use Rattle.judge.specs.StoredSteps.{AreStoredAmounts, AreStoredSteps, HasStoredStepFrom, IsStoredAsked, IsStoredAt, IsStoredLimit, stored_before, stored_total_next}
 use Rattle.judge.proofs.GapEvents.{gap_event_page_next, gap_event_store_bound, gap_event_store_longer, gap_event_store_push, gap_event_word_next}
 use Rattle.judge.proofs.StoredBefore.{stored_before_all, stored_before_any, stored_before_push}
-use Rattle.judge.proofs.StoredLimits.{stored_limit_inner, stored_limit_shorter}
+use Rattle.judge.proofs.StoredAsks.{stored_asks_inside, stored_asks_longer, stored_asks_shorter}
+use Rattle.judge.proofs.StoredLimits.{stored_limit_inner}
 use Rattle.judge.proofs.ValueCounts.{value_count_joined, value_count_none, value_count_one}
 
 -- ---- an event that adds no word of page n that q stores
@@ -86,7 +87,7 @@ stored_next_same {s = s} {j = j} {n = n} {q = q} {steps = steps} {total = total}
   few_words = (let few = is.few_words in omega (arith, long, few));
   before = before;
   rising = is.rising;
-  within = λ x h. (let lt = is.within x h in omega (arith, long, lt));
+  stores = λ x h. stored_asks_longer e x.place (is.stores x h);
   last = last;
 }
   where
@@ -96,17 +97,17 @@ stored_next_same {s = s} {j = j} {n = n} {q = q} {steps = steps} {total = total}
     all : AreStoredAmounts s (j ++ e ∷ []) n q total.amounts
     all = stored_next_amounts_same s j e n q total.amounts same is.all
 
-    before : (v : ℕ) → IsStoredLimit (j ++ e ∷ []) q v
+    before : (v : ℕ) → IsStoredAsked s (j ++ e ∷ []) n q v
         → AreStoredAmounts s (take v (j ++ e ∷ [])) n q (stored_before steps total.amounts v)
-    before v limit = elim (cases_lt (length j) v) [
+    before v asked = elim (cases_lt (length j) v) [
       | inl lt ↦
           (let whole = take_all v (j ++ e ∷ []) (omega (arith, long, lt)) in
-          let none_from = stored_before_all steps total.amounts v (λ x h. (let in_j = is.within x h in omega arith)) in
+          let none_from = stored_before_all steps total.amounts v (λ x h. (let in_j = stored_asks_inside x.place (is.stores x h) in omega arith)) in
           subst (λ xs. AreStoredAmounts s xs n q (stored_before steps total.amounts v)) (sym whole)
           (subst (AreStoredAmounts s (j ++ e ∷ []) n q) (sym none_from) all))
       | inr le ↦
           subst (λ xs. AreStoredAmounts s xs n q (stored_before steps total.amounts v)) (sym (take-append-le v j (e ∷ []) le))
-          (is.before v (stored_limit_shorter j (e ∷ []) q v le limit))
+          (is.before v (stored_asks_shorter e le asked))
     ]
 
     -- a store in the open interval is no event before a limit
@@ -122,15 +123,15 @@ stored_next_same {s = s} {j = j} {n = n} {q = q} {steps = steps} {total = total}
         omega (arith, number, below, top)
 
     last : FetchGapStoreInPage s (j ++ e ∷ []) n q (event_count event_closes (j ++ e ∷ []) q) → (v : ℕ)
-        → IsStoredLimit (j ++ e ∷ []) q v → HasStoredStepFrom steps v
-    last h v limit = elim (cases_lt (length j) v) [
-      | inl lt ↦ absurd (late v limit h lt)
+        → IsStoredAsked s (j ++ e ∷ []) n q v → HasStoredStepFrom steps v
+    last h v asked = elim (cases_lt (length j) v) [
+      | inl lt ↦ absurd (late v asked.limit h lt)
       | inr le ↦
           (let old = (stored_next_page_same s j e n q same (event_count event_closes (j ++ e ∷ []) q)).1 h in
           let bound = gap_event_store_bound j old.0 q (event_count event_closes (j ++ e ∷ []) q) old.1.0 in
           let sum = event_count-append event_closes j (e ∷ []) q in
           let number : event_count event_closes (j ++ e ∷ []) q ≡ event_count event_closes j q = omega (arith, bound, sum) in
-          is.last (subst (FetchGapStoreInPage s j n q) number old) v (stored_limit_shorter j (e ∷ []) q v le limit))
+          is.last (subst (FetchGapStoreInPage s j n q) number old) v (stored_asks_shorter e le asked))
     ]
 
 -- ---- a store of q to page n
@@ -167,7 +168,7 @@ stored_next_store {s = s} {j = j} {n = n} {q = q} {steps = steps} {after = after
   few_words = (let few = is.few_words in omega (arith, long, few));
   before = before;
   rising = rising;
-  within = within;
+  stores = stores;
   last = last;
 }
   where
@@ -268,23 +269,23 @@ stored_next_store {s = s} {j = j} {n = n} {q = q} {steps = steps} {after = after
     step : StoredStep
     step = record { place = length j; before = total.amounts }
 
-    front : (v : ℕ) → IsStoredLimit (j ++ e ∷ []) q v → v ≤ length j
-    front v limit = stored_limit_inner j e v refl limit
+    front : (v : ℕ) → IsStoredAsked s (j ++ e ∷ []) n q v → v ≤ length j
+    front v asked = stored_limit_inner j e v refl asked.limit
 
-    known : (v : ℕ) → IsStoredLimit j q v → stored_before after next.amounts v ≡ stored_before steps total.amounts v
-    known v limit = elim adds [
+    known : (v : ℕ) → IsStoredAsked s j n q v → stored_before after next.amounts v ≡ stored_before steps total.amounts v
+    known v asked = elim adds [
       | inl new ↦
-          ap (λ xs. stored_before xs next.amounts v) new.1 ∙ stored_before_push steps step next.amounts v limit.within
+          ap (λ xs. stored_before xs next.amounts v) new.1 ∙ stored_before_push steps step next.amounts v asked.limit.within
       | inr old ↦
           ap (λ xs. stored_before xs next.amounts v) old.1
-          ∙ stored_before_any steps next.amounts total.amounts v (is.last (was old.0) v limit)
+          ∙ stored_before_any steps next.amounts total.amounts v (is.last (was old.0) v asked)
     ]
 
-    before : (v : ℕ) → IsStoredLimit (j ++ e ∷ []) q v
+    before : (v : ℕ) → IsStoredAsked s (j ++ e ∷ []) n q v
         → AreStoredAmounts s (take v (j ++ e ∷ [])) n q (stored_before after next.amounts v)
-    before v limit =
-        let le = front v limit in
-        let old = stored_limit_shorter j (e ∷ []) q v le limit in
+    before v asked =
+        let le = front v asked in
+        let old = stored_asks_shorter e le asked in
         subst (λ xs. AreStoredAmounts s xs n q (stored_before after next.amounts v)) (sym (take-append-le v j (e ∷ []) le))
         (subst (AreStoredAmounts s (take v j) n q) (sym (known v old)) (is.before v old))
 
@@ -293,31 +294,30 @@ stored_next_store {s = s} {j = j} {n = n} {q = q} {steps = steps} {after = after
       | inl new ↦ subst (InOrder (λ (x y : StoredStep). x.place ≤ y.place)) (sym new.1)
           (joined_list_in_order-append (λ (x y : StoredStep). x.place ≤ y.place) steps (step ∷ []) is.rising
           (joined_list_in_order_single (λ (x y : StoredStep). x.place ≤ y.place) step)
-          (λ x y h g. (let lt = is.within x h in elim ((joined_list_has-cons step [] y).0 g) [
+          (λ x y h g. (let lt = stored_asks_inside x.place (is.stores x h) in elim ((joined_list_has-cons step [] y).0 g) [
             | inl same ↦ subst (λ (z : StoredStep). x.place ≤ z.place) same (omega arith)
             | inr none ↦ absurd (joined_list_has-nil y none)
           ])))
       | inr old ↦ subst (InOrder (λ (x y : StoredStep). x.place ≤ y.place)) (sym old.1) is.rising
     ]
 
-    within_steps : (x : StoredStep) → Has steps x → x.place < length (j ++ e ∷ [])
-    within_steps x h = let lt = is.within x h in omega (arith, long, lt)
-
-    within : (x : StoredStep) → Has after x → x.place < length (j ++ e ∷ [])
-    within x h = elim adds [
+    stores : (x : StoredStep) → Has after x → IsStoredAt s (j ++ e ∷ []) n q x.place
+    stores x h = elim adds [
       | inl new ↦ elim ((joined_list_has-append steps (step ∷ []) x).0 (subst (λ xs. Has xs x) new.1 h)) [
-        | inl old ↦ within_steps x old
+        | inl old ↦ stored_asks_longer e x.place (is.stores x old)
         | inr now ↦ elim ((joined_list_has-cons step [] x).0 now) [
-          | inl same ↦ subst (λ (z : StoredStep). z.place < length (j ++ e ∷ [])) same (omega (arith, long))
+          | inl same ↦ subst (λ (z : StoredStep). IsStoredAt s (j ++ e ∷ []) n q z.place) same
+              (record { address = a; value = w; does = event_place_at_end j e; in_page = page })
           | inr none ↦ absurd (joined_list_has-nil x none)
         ]
       ]
-      | inr old ↦ within_steps x (subst (λ xs. Has xs x) old.1 h)
+      | inr old ↦ stored_asks_longer e x.place (is.stores x (subst (λ xs. Has xs x) old.1 h))
     ]
 
-    last : Q (event_count event_closes (j ++ e ∷ []) q) → (v : ℕ) → IsStoredLimit (j ++ e ∷ []) q v → HasStoredStepFrom after v
-    last h v limit =
-        let le = front v limit in
+    last : Q (event_count event_closes (j ++ e ∷ []) q) → (v : ℕ) → IsStoredAsked s (j ++ e ∷ []) n q v
+        → HasStoredStepFrom after v
+    last h v asked =
+        let le = front v asked in
         elim adds [
           | inl new ↦ record {
             step = step;
@@ -325,7 +325,7 @@ stored_next_store {s = s} {j = j} {n = n} {q = q} {steps = steps} {after = after
             from = le;
           }
           | inr old ↦ subst (λ xs. HasStoredStepFrom xs v) (sym old.1)
-              (is.last (was old.0) v (stored_limit_shorter j (e ∷ []) q v le limit))
+              (is.last (was old.0) v (stored_asks_shorter e le asked))
         ]
 
 -- before the first event nothing is stored
@@ -335,10 +335,10 @@ stored_next_start s n q = record {
   all = nothing;
   few_records = omega arith;
   few_words = omega arith;
-  before = λ v limit. subst (λ xs. AreStoredAmounts s xs n q (record { records = 0; words = 0 }))
+  before = λ v asked. subst (λ xs. AreStoredAmounts s xs n q (record { records = 0; words = 0 }))
       (sym (take_all v [] (omega arith))) nothing;
   rising = λ i k x y lt at to. absurd (none-some x at);
-  within = λ x h. absurd (joined_list_has-nil x h);
+  stores = λ x h. absurd (joined_list_has-nil x h);
   last = λ h. absurd (none-some _ h.1.0.2);
 }
   where

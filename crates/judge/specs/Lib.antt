@@ -27,3 +27,4 @@ pub mod PermittedStores
 pub mod StoredSteps
 pub mod StoredCounts
 pub mod DueCounts
+pub mod AskedPlaces

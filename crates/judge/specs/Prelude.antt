@@ -1,6 +1,6 @@
 -- The words that contracts name, passed on from one place. Declares nothing.
 pub use Rattle.judge.specs.JudgedSizes.{AreJudgedSizes, AreJudgedSizesSmall, AreStreamedSizes, judged_sizes_most_addresses, judged_sizes_of, most_judged_events, most_judged_processors}
-pub use Rattle.judge.specs.SparseTables.{IsSparse, IsSparseFor, IsSparseRowFrom, IsSparseRowWith, IsSparseWith, most_sparse_values, sparse_at, sparse_chunk_rows, sparse_mark, sparse_room, sparse_row}
+pub use Rattle.judge.specs.SparseTables.{IsSparse, IsSparseFor, IsSparseRowFrom, IsSparseRowOf, IsSparseRowWith, IsSparseWith, most_sparse_values, sparse_at, sparse_chunk_rows, sparse_mark, sparse_room, sparse_row}
 pub use Rattle.judge.specs.LaxWellFormed.{LaxLaw, LaxMayFollow, WellFormedOrLax}
 pub use Rattle.judge.specs.Why.{IsFirstWhyIllFormed, WhyIsInTurn, IsWhyVerdict, WhyWaitsFor, WhyLaw}
 pub use Rattle.judge.specs.FrontTells.{FrontTellsFirstAsk, FrontTellsNobodyAsks, FrontTellsHistory, front_tells_holder_after, front_tells_flag_set_after}
@@ -21,6 +21,7 @@ pub use Rattle.judge.specs.KeptInPasts.{AreLastKeptInPast, AreUnknownFrom, HasUn
 pub use Rattle.judge.specs.PermittedStores.{AreLatestStores, IsUnorderedStore}
 pub use Rattle.judge.specs.StoresInPasts.{IsHiddenInPast}
 pub use Rattle.judge.specs.MovedCuts.{AreMovedCuts, AreMovedRows, AreMovedStores, IsMovedCut, KeepsCuts}
-pub use Rattle.judge.specs.StoredSteps.{AreStoredAmounts, IsStoredLimit, stored_before, stored_total, stored_total_next}
+pub use Rattle.judge.specs.StoredSteps.{AreStoredAmounts, IsStoredAsked, stored_before, stored_total, stored_total_next}
 pub use Rattle.judge.specs.StoredCounts.{AreStoredCountsOf, StoredStepAdds, stored_row}
 pub use Rattle.judge.specs.DueCounts.{AreDueAmountsBetween, AreDueAmountsFew, AreDueFetchedCuts, DueAmountsAmong, IsDueFetchedCut, TellsDueCounts}
+pub use Rattle.judge.specs.AskedPlaces.{AreAskedPlaces, asked_steps_from, is_asked_between}

@@ -65,6 +65,12 @@ pub record IsSparseRowFrom {A : Type 0} (old new : SparseTable (Vec A)) (row fro
   pub now : sparse_row new row ≡ drop from (sparse_row old row)
   pub others : (r : ℕ) → r ≢ row → sparse_row new r ≡ sparse_row old r
 
+-- the row has these items now, and each other what it had
+pub record IsSparseRowOf {A : Type 0} (old new : SparseTable (Vec A)) (row : ℕ) (items : List A) : Type 0 where
+  pub sparse : IsSparse new
+  pub now : sparse_row new row ≡ items
+  pub others : (r : ℕ) → r ≢ row → sparse_row new r ≡ sparse_row old r
+
 -- the row has the item at its end now, and each other what it had
 pub record IsSparseRowWith {A : Type 0} (old new : SparseTable (Vec A)) (row : ℕ) (item : A) : Type 0 where
   pub sparse : IsSparse new

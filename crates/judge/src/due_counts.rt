@@ -4,9 +4,10 @@ ghost use Rattle.journal.specs.declared.event.Event.{Event};
 ghost use Rattle.journal.specs.declared.event.Kind.TheVariants.{Fetch};
 ghost use Rattle.journal.specs.PageImages.{GapCounts};
 ghost use Rattle.journal.specs.Prelude.{did, entry};
-ghost use Rattle.judge.specs.Prelude.{AreDueAmountsBetween, AreDueAmountsFew, AreDueFetchedCuts, AreStreamedSizes, DueAmountsAmong, IsDueFetchedCut, IsEventInSizes, IsStoredLimit, TellsDueCounts};
+ghost use Rattle.judge.specs.Prelude.{AreAskedPlaces, AreDueAmountsBetween, AreDueAmountsFew, AreDueFetchedCuts, AreStreamedSizes, DueAmountsAmong, IsDueFetchedCut, IsEventInSizes, IsStoredAsked, TellsDueCounts};
 ghost use Rattle.judge.specs.Prelude.{judged_sizes_of, most_judged_events, most_judged_processors};
 
+use crate::asked_places::AskedPlaces;
 use crate::cut::Cut;
 use crate::cuts::Cuts;
 use crate::sizes::{MOST_JUDGED_PROCESSORS, Sizes};
@@ -25,8 +26,10 @@ pub(crate) struct DueAmounts {
 
 /// A history, taken an event at a time, of which it tells what a fetch that comes next has to count.
 ///
-/// It takes 256 bytes for each page and processor that fetches it, 12 for each interval and page that it stores in, 12 for each
-/// page and processor that stores in it, and 4 for each word and processor that stores there; and what cuts take.
+/// Of a page and a processor, the intervals that store in the page are kept that some other processor doesn't know of yet, and
+/// one for each processor's last fetch of the page: so the memory goes with how far the processors are apart, not with how long
+/// the history is. It takes 12 bytes for each of these, up to twice that, 256 for each page and processor that fetches it, 12 for
+/// each page and processor that stores in it, and 4 for each word and processor that stores there; and what cuts take.
 #[derive(Drop)]
 pub struct DueCounts {
     /// What each processor knows of the others.
@@ -102,13 +105,17 @@ impl DueCounts {
             .unwrap_or([0; MOST_JUDGED_PROCESSORS])
     }
 
-    /// What `by` has stored in the page between these places, where intervals of it end.
+    /// What `by` has stored in the page between these places, of which it may still be asked: where intervals of it end.
     fn between(&self, page: usize, by: usize, from: u32, to: u32) -> DueAmounts
-        requires tells { (j : List Event) × TellsDueCounts j self.now × IsStoredLimit j by from × IsStoredLimit j by to }
+        requires tells { (j : List Event) × TellsDueCounts j self.now
+            × IsStoredAsked (judged_sizes_of self.now.stored.sizes) j page by from
+            × IsStoredAsked (judged_sizes_of self.now.stored.sizes) j page by to }
         requires page { page < self.now.stored.sizes.pages }
         requires by { by < self.now.stored.sizes.processors }
         ensures few { AreDueAmountsFew 1 result }
-        ensures counts { (j : List Event) → TellsDueCounts j self.now → IsStoredLimit j by from → IsStoredLimit j by to
+        ensures counts { (j : List Event) → TellsDueCounts j self.now
+            → IsStoredAsked (judged_sizes_of self.now.stored.sizes) j page by from
+            → IsStoredAsked (judged_sizes_of self.now.stored.sizes) j page by to
             → AreDueAmountsBetween (judged_sizes_of self.now.stored.sizes) j page by from to result }
     {
         if to <= from {
@@ -191,6 +198,70 @@ impl DueCounts {
         }
     }
 
+    /// The places of which it may still be asked what `by` had stored in the page before them. The only error is running out of
+    /// memory.
+    fn asked_places(&self, page: usize, by: usize) -> Result<AskedPlaces, AllocError>
+        requires tells { (j : List Event) × TellsDueCounts j self.now }
+        requires page { page < self.now.stored.sizes.pages }
+        requires by { by < self.now.stored.sizes.processors }
+        ensures { IfOk result (λ asked. (j : List Event) → TellsDueCounts j self.now
+            → AreAskedPlaces (judged_sizes_of self.now.stored.sizes) j page by self.now.stored.sizes.processors asked) }
+    {
+        let mut asked = AskedPlaces::from_place(*self.fetched.kept.allocator(), self.cuts.place);
+        for processor in 0..self.stored.sizes.processors {
+            if processor != by {
+                let known = self.cuts.of(processor)[by];
+                let fetched = self.last_fetch(processor, page)[by];
+                asked.add(known, fetched)?;
+            }
+        }
+        Ok(asked)
+    }
+
+    /// Lets go of what no fetch may ask any more of the stores of `by` in the page. The only error is running out of memory,
+    /// after which it may tell no history.
+    fn let_go(&mut self, page: usize, by: usize) -> Result<(), AllocError>
+        requires tells { (j : List Event) × TellsDueCounts j self.old }
+        requires page { page < self.old.stored.sizes.pages }
+        requires by { by < self.old.stored.sizes.processors }
+        ensures sizes { self.new.stored.sizes ≡ self.old.stored.sizes }
+        ensures tells { OnOk result ((j : List Event) → TellsDueCounts j self.old → TellsDueCounts j self.new) }
+    {
+        let asked = self.asked_places(page, by)?;
+        self.stored.let_go(page, by, &asked)
+    }
+
+    /// Lets go of what no fetch may ask any more of the stores of the event's processor in the page, if the event is a store. The
+    /// only error is running out of memory, after which it may tell no history.
+    fn let_go_after(&mut self, event: Event) -> Result<(), AllocError>
+        requires tells { (j : List Event) × TellsDueCounts j self.old }
+        requires within { IsEventInSizes (judged_sizes_of self.old.stored.sizes) event }
+        ensures sizes { self.new.stored.sizes ≡ self.old.stored.sizes }
+        ensures tells { OnOk result ((j : List Event) → TellsDueCounts j self.old → TellsDueCounts j self.new) }
+    {
+        match event.kind {
+            Kind::Store(address, _) => {
+                self.let_go(address / self.stored.sizes.words, event.processor)
+            }
+            _ => Ok(()),
+        }
+    }
+
+    /// Takes note of the event, which comes next: whether it is a store, and there is no room then for one more interval of its
+    /// processor that stores in the page. The only error is running out of memory, after which it may tell no history.
+    fn count(&mut self, event: Event) -> Result<bool, AllocError>
+        requires so_far { (j : List Event) × TellsDueCounts j self.old }
+        requires few { self.old.cuts.place < most_judged_events }
+        requires within { IsEventInSizes (judged_sizes_of self.old.stored.sizes) event }
+        ensures sizes { self.new.stored.sizes ≡ self.old.stored.sizes }
+        ensures tells { OnOk result ((j : List Event) → TellsDueCounts j self.old → TellsDueCounts (j ++ event ∷ []) self.new) }
+    {
+        self.keep(event)?;
+        let is_full = self.stored.note(event, self.cuts.place)?;
+        self.cuts.note(event)?;
+        Ok(is_full)
+    }
+
     /// Takes note of the event, which comes next. The only error is running out of memory, after which it may tell no history.
     pub fn note(&mut self, event: Event) -> Result<(), AllocError>
         requires so_far { (j : List Event) × TellsDueCounts j self.old }
@@ -199,8 +270,9 @@ impl DueCounts {
         ensures sizes { self.new.stored.sizes ≡ self.old.stored.sizes }
         ensures tells { OnOk result ((j : List Event) → TellsDueCounts j self.old → TellsDueCounts (j ++ event ∷ []) self.new) }
     {
-        self.keep(event)?;
-        self.stored.note(event, self.cuts.place)?;
-        self.cuts.note(event)
+        if self.count(event)? {
+            return self.let_go_after(event);
+        }
+        Ok(())
     }
 }

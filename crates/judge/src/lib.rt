@@ -19,6 +19,7 @@
 //! by hand; and that `first_ill_formed` judges 2^20 events in a test's time.
 #![tactic(auto)]
 
+mod asked_places;
 mod cut;
 mod cuts;
 mod due_counts;

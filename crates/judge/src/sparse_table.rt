@@ -1,6 +1,6 @@
 //! Tables of rows, of which few may have a value.
 ghost use Rattle.std.specs.Prelude.{◌≡◌, ◌≢◌, ℕ, ◌+◌, ◌*◌, ◌<◌, ◌≤◌, suc, None, IfOk, MatchOption, OnOk, length, slice_index, vec_len};
-ghost use Rattle.judge.specs.Prelude.{IsSparse, IsSparseFor, IsSparseRowFrom, IsSparseRowWith, IsSparseWith, most_sparse_values, sparse_at, sparse_chunk_rows, sparse_mark, sparse_room, sparse_row};
+ghost use Rattle.judge.specs.Prelude.{IsSparse, IsSparseFor, IsSparseRowFrom, IsSparseRowOf, IsSparseRowWith, IsSparseWith, most_sparse_values, sparse_at, sparse_chunk_rows, sparse_mark, sparse_room, sparse_row};
 
 use std::alloc::{AllocError, Global};
 
@@ -192,6 +192,16 @@ pub(crate) fn is_sparse_table_row_full<T>(table: &SparseTable<Vec<T>>, row: usiz
     }
 }
 
+/// These items, with room for as many again, and for a few at least. The only error is running out of memory.
+fn items_with_room<T: Copy + Drop>(alloc: Global, items: &[T]) -> Result<Vec<T>, AllocError>
+    ensures { IfOk result (λ v. v.items ≡ items.now) }
+{
+    let room = items.len().max(FEW).saturating_mul(2);
+    let mut roomy = Vec::with_capacity(alloc, room)?;
+    roomy.extend_from_slice(items)?;
+    Ok(roomy)
+}
+
 /// Lets go of the row's items before this one, and makes room for as many again as are left, and for a few at least. The only
 /// error is running out of memory.
 pub(crate) fn shorten_sparse_table_row<T: Copy + Drop>(
@@ -207,10 +217,26 @@ pub(crate) fn shorten_sparse_table_row<T: Copy + Drop>(
 {
     if let Some(place) = table.place(row) {
         let left = &table.kept[place][from..];
-        let room = left.len().max(FEW).saturating_mul(2);
-        let mut items = Vec::with_capacity(*table.kept.allocator(), room)?;
-        items.extend_from_slice(left)?;
-        table.kept[place] = items;
+        table.kept[place] = items_with_room(*table.kept.allocator(), left)?;
+    }
+    Ok(())
+}
+
+/// Puts these items in the place of what the row has, which is as many at least, and makes room for as many again, and for a few
+/// at least. The only error is running out of memory.
+pub(crate) fn replace_sparse_table_row<T: Copy + Drop>(
+    table: &mut SparseTable<Vec<T>>,
+    row: usize,
+    items: &[T],
+) -> Result<(), AllocError>
+    requires sparse { IsSparse table.old }
+    requires fewer { length items.now ≤ length (sparse_row table.old row) }
+    ensures room { sparse_room table.new ≡ sparse_room table.old }
+    ensures few { vec_len table.new.kept ≡ vec_len table.old.kept }
+    ensures replaced { OnOk result (IsSparseRowOf table.old table.new row items.now) }
+{
+    if let Some(place) = table.place(row) {
+        table.kept[place] = items_with_room(*table.kept.allocator(), items)?;
     }
     Ok(())
 }

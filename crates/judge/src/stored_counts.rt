@@ -3,19 +3,25 @@ ghost use Rattle.std.specs.Prelude.{◌≡◌, ◌==◌, ℕ, cond, ◌+◌, ◌
 ghost use Rattle.journal.specs.declared.event.Event.{Event};
 ghost use Rattle.journal.specs.declared.event.Kind.TheVariants.{Store};
 ghost use Rattle.journal.specs.Prelude.{did, event_closes};
-ghost use Rattle.judge.specs.Prelude.{AreStoredAmounts, AreStoredCountsOf, AreStreamedSizes, IsEventInSizes, IsSparse, IsStoredLimit};
-ghost use Rattle.judge.specs.Prelude.{StoredStepAdds, judged_sizes_of, most_judged_events, most_judged_processors, most_sparse_values, sparse_at, sparse_room, stored_row, stored_total};
+ghost use Rattle.judge.specs.Prelude.{AreAskedPlaces, AreStoredAmounts, AreStoredCountsOf, AreStreamedSizes, IsEventInSizes, IsSparse, IsStoredAsked};
+ghost use Rattle.judge.specs.Prelude.{StoredStepAdds, asked_steps_from, judged_sizes_of, most_judged_events, most_judged_processors, most_sparse_values, sparse_at, sparse_room, sparse_row, stored_row, stored_total};
 
+use crate::asked_places::AskedPlaces;
 use crate::sizes::{MOST_JUDGED_PROCESSORS, Sizes};
-use crate::sparse_table::{SparseTable, items_of_row, push_in_sparse_table_row};
-use crate::stored_steps::{StoredAmounts, StoredStep, StoredTotal, amounts_before};
+use crate::sparse_table::{
+    SparseTable, is_sparse_table_row_full, items_of_row, push_in_sparse_table_row,
+    replace_sparse_table_row,
+};
+use crate::stored_steps::{StoredAmounts, StoredStep, StoredTotal, amounts_before, asked_steps};
 use journal::{Event, Kind};
 use std::alloc::{AllocError, Global};
 
-/// What each processor has stored in each page: in all, and before any place where one of its intervals ends.
+/// What each processor has stored in each page: in all, and before each place of which it may still be asked, where one of its
+/// intervals ends.
 ///
-/// It takes 12 bytes for each interval and page that it stores in, 12 for each processor and page that it stores in, and 4 for
-/// each processor and word.
+/// Of a page and a processor it keeps each interval that stores in the page and that some other processor doesn't know of yet,
+/// and the first one after each other processor's last fetch of the page; the others go, when the row is full. It takes 12 bytes
+/// for each that is kept, up to twice that, 12 for each processor and page that it stores in, and 4 for each processor and word.
 #[derive(Drop)]
 pub(crate) struct StoredCounts {
     pub(crate) sizes: Sizes,
@@ -88,13 +94,14 @@ impl StoredCounts {
         self.totals.get(row).unwrap_or(StoredTotal::none())
     }
 
-    /// What `by` had stored in the page before this place, where one of its intervals ends or none has begun. It is found by
-    /// halving.
+    /// What `by` had stored in the page before this place, of which it may still be asked: where one of its intervals ends or
+    /// none has begun. It is found by halving.
     pub(crate) fn before(&self, page: usize, by: usize, limit: u32) -> StoredAmounts
         requires tells { (j : List Event) × AreStoredCountsOf j self.now }
         requires page { page < self.now.sizes.pages }
         requires by { by < self.now.sizes.processors }
-        ensures { (j : List Event) → AreStoredCountsOf j self.now → IsStoredLimit j by limit
+        ensures { (j : List Event) → AreStoredCountsOf j self.now
+            → IsStoredAsked (judged_sizes_of self.now.sizes) j page by limit
             → AreStoredAmounts (judged_sizes_of self.now.sizes) (take limit j) page by result }
     {
         let row = self.page_row(page, by);
@@ -105,14 +112,15 @@ impl StoredCounts {
         )
     }
 
-    /// Keeps the place as a step of the row, if nothing was stored there in this interval.
+    /// Keeps the place as a step of the row, if nothing was stored there in this interval: whether the row has no room then for
+    /// one more.
     fn add_step(
         &mut self,
         row: usize,
         place: usize,
         total: StoredTotal,
         interval: u32,
-    ) -> Result<(), AllocError>
+    ) -> Result<bool, AllocError>
         requires sparse { IsSparse self.old.steps }
         requires room { row < sparse_room self.old.steps }
         requires few { vec_len self.old.steps.kept < most_sparse_values }
@@ -128,12 +136,14 @@ impl StoredCounts {
                 before: total.amounts,
             };
             push_in_sparse_table_row(&mut self.steps, row, step)?;
+            return Ok(is_sparse_table_row_full(&self.steps, row));
         }
-        Ok(())
+        Ok(false)
     }
 
-    /// Takes note of a store of the processor to the address, at this place, the next event.
-    fn store(&mut self, processor: usize, address: usize, place: usize) -> Result<(), AllocError>
+    /// Takes note of a store of the processor to the address, at this place, the next event: whether the steps of its page and
+    /// processor have no room then for one more.
+    fn store(&mut self, processor: usize, address: usize, place: usize) -> Result<bool, AllocError>
         requires tells { (j : List Event) × AreStoredCountsOf j self.old × (length j ≡ place) }
         requires few { place < most_judged_events }
         requires processor { processor < self.old.sizes.processors }
@@ -145,13 +155,14 @@ impl StoredCounts {
         let interval = self.closed[processor];
         let word = self.word_row(address, processor);
         if self.words.get(word).unwrap_or(0) > interval {
-            return Ok(());
+            return Ok(false);
         }
         self.words.set(word, interval + 1)?;
         let row = self.page_row(address / self.sizes.words, processor);
         let total = self.total(row);
-        self.add_step(row, place, total, interval)?;
-        self.totals.set(row, total.with_word(interval))
+        let is_full = self.add_step(row, place, total, interval)?;
+        self.totals.set(row, total.with_word(interval))?;
+        Ok(is_full)
     }
 
     /// Counts one more interval that the processor has closed.
@@ -165,9 +176,9 @@ impl StoredCounts {
         self.closed[processor] += 1;
     }
 
-    /// Takes note of the event at this place, the next one. The only error is running out of memory, after which it may tell no
-    /// history.
-    pub(crate) fn note(&mut self, event: Event, place: usize) -> Result<(), AllocError>
+    /// Takes note of the event at this place, the next one: whether it is a store, and the steps of its page and processor have
+    /// no room then for one more. The only error is running out of memory, after which it may tell no history.
+    pub(crate) fn note(&mut self, event: Event, place: usize) -> Result<bool, AllocError>
         requires so_far { (j : List Event) × AreStoredCountsOf j self.old × (length j ≡ place) }
         requires few { place < most_judged_events }
         requires within { IsEventInSizes (judged_sizes_of self.old.sizes) event }
@@ -181,6 +192,31 @@ impl StoredCounts {
         if closes_interval(event.kind) {
             self.close(event.processor);
         }
-        Ok(())
+        Ok(false)
+    }
+
+    /// Lets go of the steps of the page and the processor that tell of no place that may still be asked, and makes room for as
+    /// many again as are left, and for a few at least. The only error is running out of memory, after which it may tell no
+    /// history.
+    pub(crate) fn let_go(
+        &mut self,
+        page: usize,
+        by: usize,
+        asked: &AskedPlaces,
+    ) -> Result<(), AllocError>
+        requires tells { (j : List Event) × AreStoredCountsOf j self.old }
+        requires page { page < self.old.sizes.pages }
+        requires by { by < self.old.sizes.processors }
+        ensures rest { self.new ≡ record self.old { steps = self.new.steps } }
+        ensures left { OnOk result (sparse_row self.new.steps (stored_row self.old.sizes.processors page by)
+            ≡ asked_steps_from asked.now 0 (sparse_row self.old.steps (stored_row self.old.sizes.processors page by))) }
+        ensures tells { OnOk result ((j : List Event) → AreStoredCountsOf j self.old
+            → AreAskedPlaces (judged_sizes_of self.old.sizes) j page by self.old.sizes.processors asked.now
+            → AreStoredCountsOf j self.new) }
+    {
+        let row = self.page_row(page, by);
+        let alloc = *self.steps.kept.allocator();
+        let left = asked_steps(alloc, items_of_row(&self.steps, row), asked)?;
+        replace_sparse_table_row(&mut self.steps, row, &left)
     }
 }

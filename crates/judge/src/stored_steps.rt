@@ -1,7 +1,10 @@
 //! What a processor has stored in a page, by the places where its intervals first store in it.
-ghost use Rattle.std.specs.Prelude.{◌≡◌, ◌≤◌, ◌<◌, ◌+◌, ◌^◌, ℕ, cond, nat_lt};
+ghost use Rattle.std.specs.Prelude.{◌≡◌, ◌≤◌, ◌<◌, ◌+◌, ◌^◌, ℕ, IfOk, cond, nat_lt};
 ghost use Rattle.base.specs.InOrderOnce.{InOrder};
-ghost use Rattle.judge.specs.Prelude.{stored_before, stored_total_next};
+ghost use Rattle.judge.specs.Prelude.{asked_steps_from, stored_before, stored_total_next};
+
+use crate::asked_places::AskedPlaces;
+use std::alloc::{AllocError, Global};
 
 /// What a processor has stored in a page.
 #[derive(Clone, Copy)]
@@ -55,6 +58,27 @@ pub(crate) fn amounts_before(steps: &[StoredStep], all: StoredAmounts, limit: u3
     } else {
         halve_stored_steps(steps, all, limit)
     }
+}
+
+/// The steps that tell what had been stored before the asked places: of each the first one from it on. For each step it looks at
+/// each of these places, at most 64 and one. The only error is running out of memory.
+pub(crate) fn asked_steps(
+    alloc: Global,
+    steps: &[StoredStep],
+    asked: &AskedPlaces,
+) -> Result<Vec<StoredStep>, AllocError>
+    ensures { IfOk result (λ left. left.items ≡ asked_steps_from asked.now 0 steps.now) }
+{
+    let mut left = Vec::new(alloc);
+    let mut from = 0;
+    for step in steps {
+        let place = step.place as usize;
+        if asked.has_between(from, place) {
+            left.push(*step)?;
+        }
+        from = place + 1;
+    }
+    Ok(left)
 }
 
 impl StoredTotal {

@@ -58,7 +58,7 @@ overflow_sub-records c =
     let stored = c.requires.tells.1.stored in
     let first = c.requires.tells.2 in
     let second = c.requires.tells.3 in
-    (records (let lt = c.if-to-from.false in omega arith) first second (c.before-had.ensures j stored first)
+    (records (let lt = c.if-to-from.false in omega arith) first.limit second.limit (c.before-had.ensures j stored first)
     (c.before-all.ensures j stored second)).0
 
 pub overflow_sub-result : goal.overflow_sub-result
@@ -67,7 +67,7 @@ overflow_sub-result c =
     let stored = c.requires.tells.1.stored in
     let first = c.requires.tells.2 in
     let second = c.requires.tells.3 in
-    (words (let lt = c.if-to-from.false in omega arith) first second (c.before-had.ensures j stored first)
+    (words (let lt = c.if-to-from.false in omega arith) first.limit second.limit (c.before-had.ensures j stored first)
     (c.before-all.ensures j stored second)).0
 
 pub returns-clause-counts : goal.returns-clause-counts
@@ -77,6 +77,6 @@ returns-clause-counts c = λ j tells first second.
     let large = c.before-all.ensures j tells.stored second in
     record {
       writers = c.due_writers_of.ensures;
-      records = (records le first second small large).1;
-      words = (words le first second small large).1;
+      records = (records le first.limit second.limit small large).1;
+      words = (words le first.limit second.limit small large).1;
     }

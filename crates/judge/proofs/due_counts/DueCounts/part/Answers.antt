@@ -9,7 +9,7 @@ use Rattle.judge.specs.DueCounts.{DueAmountsAmong}
 use Rattle.judge.specs.JudgedSizes.{judged_sizes_of}
 use Rattle.judge.proofs.DueGaps.{due_gap_between}
 use Rattle.judge.proofs.GapParts.{gap_part_counts_between, gap_part_counts_own}
-use Rattle.judge.proofs.StoredLimits.{stored_limit_of_cut}
+use Rattle.judge.proofs.StoredAsks.{stored_asks_of_cut, stored_asks_of_fetched}
 use Rattle.judge.proofs.cuts.TellingCuts.{cut_of_equal, cut_of_present}
 use Rattle.judge.proofs.due_counts.DueCounts.part.Goals as goal
 
@@ -33,8 +33,8 @@ between-requires-clause-tells c =
     let cut = cut_is j c.args.self.now c.args.processor c.of.result.now tells c.requires.processor c.of.ensures in (
       j,
       tells,
-      c.requires.tells.2.limits c.args.by c.if-by-processor.false,
-      stored_limit_of_cut cut c.args.by c.if-by-processor.false,
+      stored_asks_of_fetched c.args.by c.requires.tells.2 c.requires.processor c.if-by-processor.false,
+      stored_asks_of_cut c.args.page c.args.by cut c.requires.processor c.if-by-processor.false,
     )
 
 pub returns-clause-counts : goal.returns-clause-counts
@@ -43,6 +43,7 @@ returns-clause-counts c = λ j tells had.
     let by = c.args.by in
     let apart = c.if-by-processor.false in
     let x = c.between.result in
-    let counts = c.between.ensures.counts j tells (had.limits by apart) (stored_limit_of_cut cut by apart) in
+    let counts = c.between.ensures.counts j tells (stored_asks_of_fetched by had c.requires.processor apart)
+    (stored_asks_of_cut c.args.page by cut c.requires.processor apart) in
     gap_part_counts_between x.writers x.records x.words (λ k a. due_gap_between by k a had cut apart) counts.records counts.words
     counts.writers

@@ -1,7 +1,6 @@
 use Rattle.std.proofs.Common.{◌≡◌, ℕ, ◌+◌, ◌-◌, ◌/◌, ◌<◌, ◌≤◌, Option, Some, None, List, slice_index, vec_len, subst, sym, refl, ap, ◌∙◌, arith}
 use Rattle.std.specs.Global.{Vec}
 use Rattle.std.specs.Option.{unwrap_or}
-use Rattle.std.specs.Prelude.{Result, Ok, Err, OnOk}
 use Rattle.journal.specs.declared.event.Event.{Event}
 use Rattle.journal.specs.declared.event.Kind.TheVariants.{Store}
 use Rattle.journal.specs.DidEvent.{did}
@@ -18,11 +17,6 @@ use Rattle.judge.specs.StoredSteps.{stored_total, stored_total_next}
 use Rattle.judge.proofs.GapEvents.{gap_event_store_bound}
 use Rattle.judge.proofs.StoredTables.{IsStoredStepKept, IsStoredWritten, stored_tables_store, stored_tables_stored}
 use Rattle.judge.proofs.stored_counts.StoredCounts.store.Goals as goal
-
--- what success gives, success gives
-then : {E P Q : Type 0} (r : Result (Unit {0}) E) → OnOk r P → (P → Q) → OnOk r Q
-then (Ok x) p f = f p
-then (Err e) p f = tt
 
 same_mark : (o : Option ℕ) → gap_tally_mark_in o ≡ unwrap_or o 0
 same_mark None = refl
@@ -76,7 +70,7 @@ written {old = old} {new = new} row r value x first second is room more = record
 }
 
 pub returns-clause-tells : goal.returns-clause-tells
-returns-clause-tells c = then c.set-2.result c.set-2.ensures.set (λ last j tells long v.
+returns-clause-tells c = λ j tells long v.
     let x = c.args.self.now in
     let q = c.args.processor in
     let a = c.args.address in
@@ -101,11 +95,11 @@ returns-clause-tells c = then c.set-2.result c.set-2.ensures.set (λ last j tell
     let words = c.set.new.self in
     let Told : StoredCounts → Type 0 = λ y. AreStoredCountsOf (did j q (Store a v)) (record y { totals = totals }) in
     let old = ap (λ (y : StoredCounts). y.totals) rest in
-    let step = kept c.page_row-row.result row c.total-total.result total interval k is_row is_total number c.in_ok-add_step.ensures.adds
+    let step = kept c.page_row-row.result row c.total-total.result total interval k is_row is_total number c.in_ok-is_full.ensures.adds
     c.add_step.ensures.room c.add_step.ensures.few in
     let all = subst (λ t. IsStoredWritten t totals row (stored_total_next total k)) old
-    (written c.page_row-row.result row c.with_word.result (stored_total_next total k) is_row next last c.set-2.ensures.room
+    (written c.page_row-row.result row c.with_word.result (stored_total_next total k) is_row next c.in_ok-set-2.ensures.set c.set-2.ensures.room
     c.set-2.ensures.few) in
     let marks = written c.word_row-word.result word (interval + 1) (k + 1) c.word_row-word.ensures.is (ap (λ z. z + 1) number)
     c.in_ok-set.ensures.set c.set.ensures.room c.set.ensures.few in
-    subst Told (sym rest) (stored_tables_store v c.requires.processor fresh long step all marks tells))
+    subst Told (sym rest) (stored_tables_store v c.requires.processor fresh long step all marks tells)
