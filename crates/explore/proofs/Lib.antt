@@ -21,6 +21,7 @@ pub mod SearchedStates
 pub mod ShownRuns
 pub mod UntilSearched
 pub mod locksets
+pub mod text_walks
 pub mod ranked_locks
 pub mod reduced
 pub mod allowed_runs

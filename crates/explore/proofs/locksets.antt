@@ -1,3 +1,4 @@
 pub mod Calls
+pub mod FlagsFirst
 pub mod TextGuardLaw
 pub mod Noted

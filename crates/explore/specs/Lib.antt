@@ -17,6 +17,8 @@ pub mod KeptStates
 pub mod TextGuards
 pub mod LockRanks
 pub mod Users
+pub mod WalkedWords
+pub mod TextWalks
 pub mod FreeChoice
 pub mod Origins
 pub mod FoundStates

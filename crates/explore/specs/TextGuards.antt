@@ -1,9 +1,9 @@
--- Which words the script's text shows to be guarded: accesses of them that conflict are apart by a barrier, or made under
--- one lock.
-use Rattle.std.specs.Prelude.{ℕ, ◌≡◌, ◌≢◌, ◌==◌, ◌⊎◌, Bool, true, false, if◌then◌else◌, IsTrue, Option, Some, List, count_by, fold, slice_get, slice_index_or, take}
+-- Which words the script's text shows to be guarded: accesses of them that conflict are apart by a barrier or by flags, or made
+-- under one lock.
+use Rattle.std.specs.Prelude.{ℕ, ◌≡◌, ◌≢◌, ◌<◌, ◌==◌, ◌⊎◌, Bool, true, false, if◌then◌else◌, IsTrue, Option, Some, List, count_by, fold, slice_get, slice_index_or, take}
 use Rattle.std.specs.Global.{Vec}
 use Rattle.journal.specs.declared.event.Kind.{Kind}
-use Rattle.journal.specs.declared.event.Kind.TheVariants.{Acquire, Release}
+use Rattle.journal.specs.declared.event.Kind.TheVariants.{Acquire, Release, Set, Await}
 use Rattle.journal.specs.Events.{event_address, event_departs, event_stores}
 use Rattle.lrc_script.specs.Plan.{Plan}
 use Rattle.explore.specs.declared.prefixes.script_call.ScriptCall.{ScriptCall}
@@ -58,11 +58,29 @@ pub record HaveCommonTextGuard (x y : List ScriptCall) (i k : ℕ) : Type 0 wher
   pub first : IsTrue (text_guard_held_at x i lock)
   pub second : IsTrue (text_guard_held_at y k lock)
 
+-- the step at place i of the processor's row is this call
+pub record IsTextCallAt (rows : List (Vec ScriptCall)) (p i : ℕ) (k : Kind) : Type 0 where
+  pub row : Vec ScriptCall
+  pub row_at : slice_get rows p ≡ Some row
+  pub at : slice_get row.items i ≡ Some (Call k)
+
+-- whenever q makes its step at place k, p has made its step at place i: an await comes after some set of its flag
+pub data ComesBeforeByText (rows : List (Vec ScriptCall)) (p i : ℕ) : ℕ → ℕ → Type 0 where
+  own : {k : ℕ} → i < k → ComesBeforeByText rows p i p k
+  awaited : {q k : ℕ} (j f : ℕ) → j < k → IsTextCallAt rows q j (Await f)
+      → ((r m : ℕ) → IsTextCallAt rows r m (Set f) → ComesBeforeByText rows p i r m) → ComesBeforeByText rows p i q k
+
+-- why two accesses never come at once: p's at place i, and q's at place k
+pub data AreApartByText (rows : List (Vec ScriptCall)) (p i : ℕ) (x : List ScriptCall) (q k : ℕ) (y : List ScriptCall) : Type 0 where
+  locked : HaveCommonTextGuard x y i k → AreApartByText rows p i x q k y
+  before : ComesBeforeByText rows p i q k → AreApartByText rows p i x q k y
+  after : ComesBeforeByText rows q k p i → AreApartByText rows p i x q k y
+
 -- the word is guarded
 abbrev pub IsGuardedByText : List (Vec ScriptCall) → ℕ → Type 0
 IsGuardedByText rows w = (p q i k : ℕ) (a b : ScriptCall) (x : IsTextGuardedAccessAt rows p i w a) (y : IsTextGuardedAccessAt rows q k w b) → p ≢ q
     → IsTrue (text_guarded_step_stores a) ⊎ IsTrue (text_guarded_step_stores b) → text_guard_departures_at x.row.items i ≡ text_guard_departures_at y.row.items k
-    → HaveCommonTextGuard x.row.items y.row.items i k
+    → AreApartByText rows p i x.row.items q k y.row.items
 
 -- the words of which this is said are guarded
 abbrev pub AreGuardedByText : List (Vec ScriptCall) → List Bool → Type 0

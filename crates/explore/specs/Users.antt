@@ -4,7 +4,7 @@ use Rattle.std.specs.Global.{Vec}
 use Rattle.std.specs.BTreeMap.{get}
 use Rattle.std.specs.Ordering.{nat_cmp}
 use Rattle.journal.specs.declared.event.Kind.{Kind}
-use Rattle.journal.specs.declared.event.Kind.TheVariants.{Acquire, Release}
+use Rattle.journal.specs.declared.event.Kind.TheVariants.{Acquire, Release, Set, Await}
 use Rattle.explore.specs.declared.prefixes.script_call.ScriptCall.{ScriptCall}
 use Rattle.explore.specs.declared.prefixes.script_call.ScriptCall.TheVariants.{Call, Adds}
 use Rattle.explore.specs.declared.guarded.GuardedUsers.{GuardedUsers}
@@ -58,13 +58,15 @@ pub record UsersAreKept (old new : List GuardedWordUse) : Type 0 where
 abbrev pub UsersAreAllSound : List GuardedWordUse → Type 0
 UsersAreAllSound words = (w : ℕ) (word : GuardedWordUse) → slice_get words w ≡ Some word → UsersAreSound word
 
--- the lock that a call takes or gives up is one of 32
+-- the lock that a call takes or gives up is one of 32, and so is the flag that it sets or awaits
 abbrev pub IsUserLockSmall : Kind → Type 0
 IsUserLockSmall (Acquire l) = l < 32
 IsUserLockSmall (Release l) = l < 32
+IsUserLockSmall (Set f) = f < 32
+IsUserLockSmall (Await f) = f < 32
 IsUserLockSmall _ = Unit {0}
 
--- the step's word is one of so many, and its lock one of 32
+-- the step's word is one of so many, and its lock or flag one of 32
 abbrev pub IsUserStepWithin : ℕ → ScriptCall → Type 0
 IsUserStepWithin size (Call k) = ((w : ℕ) → text_guarded_step_address (Call k) ≡ Some w → w < size) × IsUserLockSmall k
 IsUserStepWithin size (Adds a v) = a < size

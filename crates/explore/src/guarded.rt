@@ -1,6 +1,9 @@
 //! Which words the script's text shows to be guarded: accesses of them that conflict are apart by a barrier, or made under
 //! one lock. Whatever the order of events, they don't race.
 //!
+//! With flags it is also guarded if such accesses come one behind the other in every run: the later one behind an await of a
+//! flag that is set behind the earlier one only (`text_walk`).
+//!
 //! It is the lockset discipline of Savage, Burrows, Nelson, Sobalvarro and Anderson (Eraser, TOCS 1997), for each phase
 //! between two barriers by itself, and of the text, so that it holds of every run.
 ghost use Rattle.std.specs.Prelude.{◌≡◌, ◌≢◌, ◌↔◌, ℕ, ◌+◌, ◌<◌, ◌≤◌, ◌^◌, ◌⊎◌, ◌&&◌, ◌||◌, ◌==◌, not, Bool, IsTrue, List, None, Some};
@@ -17,6 +20,7 @@ ghost use Rattle.explore.specs.Users.{AreStepUsersNoted, AreUserRowsNoted, AreUs
 ghost use Rattle.explore.specs.Users.{AreUserRowsFew, HasUser, HasUserAt, IsUserStepWithin, UsersAreKept};
 
 use crate::prefixes::ScriptCall;
+use crate::text_walk::words_guarded_by_walk;
 use base::MOST_LOCKS;
 use journal::Kind;
 use lrc_script::script::Script;
@@ -126,7 +130,7 @@ impl GuardedWordUse {
 }
 
 /// The address that a step accesses.
-fn guarded_address_of(step: ScriptCall) -> Option<usize>
+pub(crate) fn guarded_address_of(step: ScriptCall) -> Option<usize>
     ensures { result ≡ text_guarded_step_address step }
 {
     match step {
@@ -137,7 +141,7 @@ fn guarded_address_of(step: ScriptCall) -> Option<usize>
 }
 
 /// Whether it stores.
-fn guarded_step_stores(step: ScriptCall) -> bool
+pub(crate) fn guarded_step_stores(step: ScriptCall) -> bool
     ensures { result ≡ text_guarded_step_stores step }
 {
     matches!(
@@ -168,7 +172,7 @@ pub(crate) fn track_held_guard(held: &mut [bool; MOST_LOCKS], step: ScriptCall)
 }
 
 /// The phase after the step.
-fn guarded_phase_after(phase: usize, step: ScriptCall) -> usize
+pub(crate) fn guarded_phase_after(phase: usize, step: ScriptCall) -> usize
     requires { phase < 2 ^ 20 }
     ensures { result ≡ phase + cond (text_guard_step_departs step) 1 0 }
 {
@@ -268,8 +272,9 @@ fn guarded_flags_of(alloc: Global, words: &[GuardedWordUse]) -> Result<Vec<bool>
     Ok(flags)
 }
 
-/// Of each word of the script, whether the text shows it to be guarded. The only error is running out of memory.
-pub fn guarded_words(
+/// Of each word of the script, whether the text shows it to be guarded by locks and barriers. The only error is running out of
+/// memory.
+fn words_guarded_by_locks(
     alloc: Global,
     script: &Script,
     steps: &[Vec<ScriptCall>],
@@ -280,6 +285,37 @@ pub fn guarded_words(
 {
     let words = guarded_word_uses(alloc, script.pages * script.words, steps)?;
     guarded_flags_of(alloc, &words)
+}
+
+/// Calls a word guarded also if the others do.
+fn join_guarded(words: &mut Vec<bool>, others: &[bool])
+    requires { vec_len words.old ≡ length others.now }
+    ensures long { vec_len words.new ≡ vec_len words.old }
+    ensures joined { (w : ℕ) → IsTrue (slice_index_or words.new.items w false)
+        → IsTrue (slice_index_or words.old.items w false) ⊎ IsTrue (slice_index_or others.now w false) }
+{
+    for place in 0..words.len() {
+        words[place] |= others[place];
+    }
+}
+
+/// Of each word of the script, whether the text shows it to be guarded. The only error is running out of memory.
+pub fn guarded_words(
+    alloc: Global,
+    script: &Script,
+    steps: &[Vec<ScriptCall>],
+) -> Result<Vec<bool>, AllocError>
+    requires { AreLawfulMachineSteps (plan_of script.now) steps.now }
+    ensures long { IfOk result (λ v. vec_len v ≡ plan_addresses (plan_of script.now)) }
+    ensures guarded { IfOk result (λ v. AreGuardedByText steps.now v.items) }
+{
+    let mut guarded = words_guarded_by_locks(alloc, script, steps)?;
+    if script.flags == 0 || are_all_guarded(&guarded) {
+        return Ok(guarded);
+    }
+    let by_walk = words_guarded_by_walk(alloc, guarded.len(), steps)?;
+    join_guarded(&mut guarded, &by_walk);
+    Ok(guarded)
 }
 
 /// Whether all of these hold.

@@ -50,10 +50,14 @@ mod showing;
 mod state_hasher;
 mod state_room;
 mod text_facts;
+mod text_walk;
 mod told_replies;
 mod until;
 mod wait_code;
 mod waiting;
+mod walked_flags;
+mod walked_rows;
+mod walked_words;
 mod whole_run;
 
 pub use allowed::AllowedOutcomes;

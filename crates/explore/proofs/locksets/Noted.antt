@@ -23,6 +23,7 @@ use Rattle.explore.specs.declared.prefixes.script_call.ScriptCall.TheVariants.{C
 use Rattle.explore.specs.declared.guarded.GuardedUsers.{GuardedUsers}
 use Rattle.explore.specs.declared.guarded.GuardedWordUse.{GuardedWordUse}
 use Rattle.explore.specs.TextGuards.{IsGuardedByText, text_guard_step_departs, text_guard_held_after_step, text_guard_held_at, text_guard_departures_at, text_guarded_step_address, text_guarded_step_stores}
+use Rattle.explore.specs.TextGuards.AreApartByText.{locked}
 use Rattle.explore.specs.Machines.{AreLawfulMachineSteps, IsProperMachineStep}
 use Rattle.explore.specs.Prefixes.ScriptCalls.{script_calls_shown_by}
 use Rattle.explore.proofs.Lengths.{section_length_few, shown_length_few}
@@ -30,7 +31,7 @@ use Rattle.explore.proofs.MachineSteps.{IsMachineStepRow, machine_step_row_prope
 use Rattle.explore.specs.Users.{AreStepUsersNoted, AreUserRowsFew, AreUserRowsNoted, AreUserRowsWithin, UsersAreAllSound, HasUsersNoted, UsersAreClean, IsUser, IsUserLockSmall, UsersAreSound, HasUser, HasUserAt, IsUserStepWithin, UsersAreKept}
 
 -- another key than this
-lockset_noted_apart_key : (k q : ℕ) → k ≢ q → is_at (nat_cmp k) q ≡ false
+pub lockset_noted_apart_key : (k q : ℕ) → k ≢ q → is_at (nat_cmp k) q ≡ false
 lockset_noted_apart_key k q isnt = go (nat_lt k q) refl
   where
     go : (b : Bool) → nat_lt k q ≡ b → is_at (nat_cmp k) q ≡ false
@@ -172,7 +173,7 @@ lockset_noted_guarded_word words rows w word noted sound at guarded p q i k a b 
     let clean = sound w word at guarded (text_guard_departures_at x.row.items i) mine.users mine.at in
     let common = lockset_noted_clean_common mine.users p q (text_guarded_step_stores a) (text_guarded_step_stores b) (text_guard_held_at x.row.items i) (text_guard_held_at y.row.items k)
     clean mine.covered covered apart stores in
-    record { lock = common.0; first = common.1; second = common.2 }
+    locked (record { lock = common.0; first = common.1; second = common.2 })
 
 -- a word that no step accesses is guarded
 pub lockset_noted_unused_guarded : (rows : List (Vec ScriptCall)) (w : ℕ)
@@ -201,18 +202,22 @@ lockset_noted_small_address s (kind.Load a v) range w at = subst (λ n. n < plan
 lockset_noted_small_address s (kind.Store a v) range w at = subst (λ n. n < plan_addresses s) (same_Some a w at) range
 lockset_noted_small_address s _ range w at = absurd (none-some w at)
 
-lockset_noted_small_lock : (s : Plan) (k : Kind) → s.locks ≤ 32 → WellFormedKindInRange (plan_sizes s) k → IsUserLockSmall k
-lockset_noted_small_lock s (kind.Acquire l) most range = omega (arith, range)
-lockset_noted_small_lock s (kind.Release l) most range = omega (arith, range)
-lockset_noted_small_lock s _ most range = tt
+lockset_noted_small_lock : (s : Plan) (k : Kind) → s.locks ≤ 32 → s.flags ≤ 32 → WellFormedKindInRange (plan_sizes s) k → IsUserLockSmall k
+lockset_noted_small_lock s (kind.Acquire l) most few range = omega (arith, range)
+lockset_noted_small_lock s (kind.Release l) most few range = omega (arith, range)
+lockset_noted_small_lock s (kind.Set f) most few range = omega (arith, range)
+lockset_noted_small_lock s (kind.Await f) most few range = omega (arith, range)
+lockset_noted_small_lock s _ most few range = tt
 
-lockset_noted_within_proper : (s : Plan) (step : ScriptCall) → s.locks ≤ 32 → IsProperMachineStep s step → IsUserStepWithin (plan_addresses s) step
-lockset_noted_within_proper s (Call k) most proper = (lockset_noted_small_address s k proper.0, lockset_noted_small_lock s k most proper.0)
-lockset_noted_within_proper s (Adds a v) most proper = proper
+lockset_noted_within_proper : (s : Plan) (step : ScriptCall) → s.locks ≤ 32 → s.flags ≤ 32 → IsProperMachineStep s step
+    → IsUserStepWithin (plan_addresses s) step
+lockset_noted_within_proper s (Call k) most few proper =
+    (lockset_noted_small_address s k proper.0, lockset_noted_small_lock s k most few proper.0)
+lockset_noted_within_proper s (Adds a v) most few proper = proper
 
 pub lockset_noted_rows_within : (s : Plan) (rows : List (Vec ScriptCall)) → AreLawfulMachineSteps s rows → AreUserRowsWithin (plan_addresses s) rows
 lockset_noted_rows_within s rows steps p row at i step there =
-    lockset_noted_within_proper s step steps.lawful.but_uneven.sizes.locks
+    lockset_noted_within_proper s step steps.lawful.but_uneven.sizes.locks steps.lawful.but_uneven.sizes.flags
     (machine_step_row_proper s p row i step steps.lawful (machine_step_row s rows p row steps.are at) there)
 
 pub lockset_noted_address_within : (size w : ℕ) (step : ScriptCall) → IsUserStepWithin size step → text_guarded_step_address step ≡ Some w → w < size

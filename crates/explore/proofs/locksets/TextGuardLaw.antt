@@ -1,4 +1,5 @@
--- Two accesses that may both come next are in one phase, so on a guarded word their processors would hold one lock.
+-- Two accesses that may both come next are in one phase, and neither was made before the other; so on a guarded word their
+-- processors would hold one lock.
 -- A processor that waits for nothing has arrived as often as it has departed, and each one has arrived as often as any has
 -- departed. So two that wait for nothing have departed equally often.
 use Rattle.std.proofs.Common.{ℕ, ◌≡◌, ◌≢◌, ◌<◌, ◌≤◌, ◌⊎◌, inl, inr, IsTrue, false, List, [], ◌∷◌, length, Some, slice_get, refl, sym, ap, subst, ◌∙◌, arith}
@@ -20,6 +21,7 @@ use Rattle.lrc_script.specs.Plan.{Plan}
 use Rattle.conformance.specs.Follows.{calls_of, plan_sizes}
 use Rattle.explore.specs.declared.prefixes.script_call.ScriptCall.{ScriptCall}
 use Rattle.explore.specs.TextGuards.{GuardedTextLaw, IsTextGuardedAccessAt, IsGuardedByText, text_guard_held_at, text_guard_departures_at, text_guarded_step_stores}
+use Rattle.explore.specs.TextGuards.AreApartByText.{locked, before, after}
 use Rattle.explore.specs.Machines.{AreLawfulMachineSteps}
 use Rattle.explore.specs.Prefixes.FlatBeginnings.{IsFlatBeginning}
 use Rattle.explore.specs.Prefixes.ScriptCalls.{last_reply_of_script_calls, script_calls_of_section, script_calls_shown_by}
@@ -28,6 +30,7 @@ use Rattle.explore.proofs.MachineSteps.{machine_step_some_at}
 use Rattle.explore.proofs.prefixes.Beginnings.{prefix_beginning_next}
 use Rattle.explore.proofs.prefixes.SectionCalls.{AreFirstSectionCalls, section_calls_are_first}
 use Rattle.explore.proofs.prefixes.Neighbours.NoNeighbours.{no_neighbours_law}
+use Rattle.explore.proofs.locksets.FlagsFirst.{flags_first_made}
 use Rattle.explore.proofs.locksets.Calls.{lockset_calls_induction, lockset_calls_step_address, lockset_calls_step_store, lockset_calls_departed, lockset_calls_first_depart, lockset_calls_first_hold, lockset_calls_holding}
 
 text_guard_law_departure : (k : Kind) → IsTrue (event_departs k) → k ≡ kind.Depart
@@ -137,9 +140,15 @@ text_guard_law_no_conflict s rows steps g p q a b one other apart c guarded =
       | inl is ↦ inl (x.stores ∙ is)
       | inr is ↦ inr (y.stores ∙ is)
     ] in
-    let common = guarded p q (length (calls_of g p)) (length (calls_of g q)) x.step y.step x.access y.access apart stores same in
-    apart (holding_release_alone (plan_sizes s) g first.0.well_formed p q common.lock (x.holds common.lock common.first)
-    (y.holds common.lock common.second))
+    elim (guarded p q (length (calls_of g p)) (length (calls_of g q)) x.step y.step x.access y.access apart stores same) [
+      | locked common ↦
+          apart (holding_release_alone (plan_sizes s) g first.0.well_formed p q common.lock (x.holds common.lock common.first)
+          (y.holds common.lock common.second))
+      | before comes ↦
+          (let made = flags_first_made s rows steps g first.0 p (length (calls_of g p)) comes (omega arith) in omega (arith, made))
+      | after comes ↦
+          (let made = flags_first_made s rows steps g first.0 q (length (calls_of g q)) comes (omega arith) in omega (arith, made))
+    ]
 
 pub text_guard_law : GuardedTextLaw
 text_guard_law s rows steps all =

@@ -1,22 +1,23 @@
-use Rattle.std.proofs.Common.{IsTrue, false, map, slice_index_or, subst, ap, ◌∙◌}
-use Rattle.std.proofs.lemmas.Result.{IfOk-weaker}
-use Rattle.explore.specs.declared.guarded.GuardedWordUse.{GuardedWordUse}
+use Rattle.std.proofs.Common.{inl, inr, IsTrue, false, slice_index_or, sym, subst, ◌∙◌}
 use Rattle.lrc_script.specs.Plan.{plan_of}
-use Rattle.explore.proofs.locksets.Noted.{lockset_noted_flags_of, lockset_noted_each_few, lockset_noted_guarded_word, lockset_noted_rows_within}
+use Rattle.explore.specs.TextWalks.{IsTextWalkable}
+use Rattle.explore.proofs.MachineSteps.{machine_step_rows_few}
+use Rattle.explore.proofs.locksets.Noted.{lockset_noted_each_few, lockset_noted_rows_within}
 use Rattle.explore.proofs.guarded.guarded_words.Goals as goal
 
-pub guarded_word_uses-requires-clause-within : goal.guarded_word_uses-requires-clause-within
-guarded_word_uses-requires-clause-within c = lockset_noted_rows_within (plan_of c.args.script.now) c.args.steps.now c.requires
-
-pub guarded_word_uses-requires-clause-few : goal.guarded_word_uses-requires-clause-few
-guarded_word_uses-requires-clause-few c = lockset_noted_each_few (plan_of c.args.script.now) c.args.steps.now c.requires
+pub words_guarded_by_walk-requires-clause-walkable : goal.words_guarded_by_walk-requires-clause-walkable
+words_guarded_by_walk-requires-clause-walkable c =
+    let plan = plan_of c.args.script.now in
+    let steps = c.args.steps.now in
+    subst (λ n. IsTextWalkable n steps) (sym (c.len.ensures ∙ c.in_ok-guarded.ensures.long))
+    (record {
+      few = machine_step_rows_few plan steps c.requires;
+      short = lockset_noted_each_few plan steps c.requires;
+      within = lockset_noted_rows_within plan steps c.requires;
+    })
 
 pub returns-clause-guarded : goal.returns-clause-guarded
-returns-clause-guarded c =
-    IfOk-weaker c.guarded_flags_of.result _ _
-    (λ v is w yes.
-    let words = c.in_ok-words.words.items in
-    let told = subst (λ bs. IsTrue (slice_index_or bs w false)) (is ∙ ap (map (λ (x : GuardedWordUse). x.is_guarded)) c.deref.ensures.value) yes in
-    let found = lockset_noted_flags_of words w told in
-    lockset_noted_guarded_word words c.args.steps.now w found.0 c.in_ok-words.ensures.noted c.in_ok-words.ensures.sound found.1 found.2)
-    c.guarded_flags_of.ensures
+returns-clause-guarded c = λ w yes. elim (c.join_guarded.ensures.joined w yes) [
+  | inl by_locks ↦ c.in_ok-guarded.ensures.guarded w by_locks
+  | inr by_walk ↦ c.in_ok-by_walk.ensures.guarded w (subst (λ bs. IsTrue (slice_index_or bs w false)) c.deref-2.ensures.value by_walk)
+]
