@@ -13,32 +13,22 @@ use Rattle.base.proofs.SlicesAndCounts.{slice_push_cases, slice_get-append_left,
 use Rattle.journal.specs.declared.event.Event.{Event}
 use Rattle.journal.specs.declared.event.Kind.{Kind}
 use Rattle.journal.specs.declared.event.Kind.TheVariants.{Acquire, Depart, Await}
+use Rattle.journal.specs.DidEvent.{event}
 use Rattle.journal.specs.Events.{EventAt, event_count, event_interval_at, event_arrives, event_closes, event_departs}
 use Rattle.journal.specs.EventsInRange.{EventProcessorsInRange}
 use Rattle.journal.specs.HappensBeforeEdges.{HappensBefore}
 use Rattle.journal.specs.HappensBeforeEdges.HappensBefore.{edge}
 use Rattle.journal.specs.Pasts.{InPast}
-use Rattle.journal.specs.Times.{ClosesAt, IsTimeIn}
+use Rattle.journal.specs.Times.{ClosesAt}
 use Rattle.journal.proofs.Order.HappensBefore.{happens_before_longer, happens_before_shorter}
-use Rattle.journal.proofs.Order.EventPlacesAndCounts.{event_place_same, event_count-front-le, event_place_does, event_place_does_same}
+use Rattle.journal.proofs.Order.EventPlacesAndCounts.{event_place_same, event_place_does, event_place_does_same}
 use Rattle.causes.specs.declared.step.Step.{Step}
 use Rattle.causes.specs.Edges.{EdgeFromOther, EdgeLetsOn}
 use Rattle.causes.specs.declared.index.Turn.{Turn}
 use Rattle.causes.specs.Index.{IsIndexedClosing}
-use Rattle.causes.specs.News.{AreNewsRising, IsNewsOfStep, IsNews, NewsTimesAround}
+use Rattle.causes.specs.News.{AreNewsRising, IsNewsOfStep, IsNews, NewsCutsAround}
 use Rattle.causes.proofs.LookedUpIndex.{HasLookedUpTurn, looked_up_closing_same}
 use Rattle.causes.proofs.EdgeLeadsOn.{leads, edge_leads_led}
-
--- a timestamp with the same entries
-pub fresh_news_time_same : (j : List Event) (among : ℕ → Type 0) (t u : ℕ → ℕ) → ((q : ℕ) → u q ≡ t q) → IsTimeIn j among t
-    → IsTimeIn j among u
-fresh_news_time_same j among t u same time = record {
-  covers = λ q i x.
-      (let c = time.covers q i x in
-      let is = same q in
-      ((λ h. (let lt = c.0 h in omega arith)), λ lt. c.1 (omega arith)));
-  within = λ q. (let le = time.within q in let is = same q in omega arith);
-}
 
 -- what lets another processor on closes an interval
 fresh_news_lets_closes : (a : Kind) (n : ℕ) (b : Kind) (m : ℕ) → EdgeLetsOn a n b m → IsTrue (event_closes a)
@@ -58,15 +48,11 @@ pub fresh_news_from_front : (j : List Event) (n i m : ℕ) → HappensBefore (ta
 fresh_news_from_front j n i m h =
     subst (λ xs. HappensBefore xs i m) (take-append-drop n j) (happens_before_longer (take n j) (drop n j) h)
 
-fresh_news_closes_in_front : (j : List Event) (n q i : ℕ) → i < n → ClosesAt j q i → ClosesAt (take n j) q i
-fresh_news_closes_in_front j n q i lt x =
-    record { kind = x.kind; does = slice_get-take j n i lt ∙ x.does; closes = x.closes }
-
 pub fresh_news_number_in_front : (j : List Event) (n q i : ℕ) → i ≤ n → event_interval_at (take n j) q i ≡ event_interval_at j q i
 fresh_news_number_in_front j n q i le = ap (λ (xs : List Event). event_count event_closes xs q) (take-take i n j le)
 
 -- what the step brings news of is news
-pub fresh_news_of_step_is : (j : List Event) (x : Step) (q i : ℕ) → NewsTimesAround j x → IsNewsOfStep j x q i → IsNews j i x.place
+pub fresh_news_of_step_is : (j : List Event) (x : Step) (q i : ℕ) → NewsCutsAround j x → IsNewsOfStep j x q i → IsNews j i x.place
 fresh_news_of_step_is j x q i step new = record { leads = new.leads; first = first }
   where
     before : i < x.place
@@ -89,23 +75,27 @@ fresh_news_of_step_is j x q i step new = record { leads = new.leads; first = fir
           mine = mine ∙ ap (λ (y : Event). y.processor) same;
           reaches = inr (fresh_news_in_front j x.place i m (omega arith) lt h);
         } in
-        let counted = (step.before.covers q i (fresh_news_closes_in_front j x.place q i before new.closes)).0 past in
-        let number = fresh_news_number_in_front j x.place q i (omega arith) in
-        let late = new.late in
+        let from = new.leads.edge.from in
+        let by = event_place_same j i from (event q new.closes.kind) new.leads.edge.from_at new.closes.does in
+        let mine : from.processor ≡ q = ap (λ (y : Event). y.processor) by in
+        let apart : from.processor ≢ step.event.processor =
+        λ is. new.leads.apart (is ∙ sym (ap (λ (y : Event). y.processor) same)) in
+        let known = (step.before.covers i from (slice_get-take j x.place i before ∙ new.leads.edge.from_at) apart).0 past in
+        let late = subst (λ r. slice_index x.before r ≤ i) (sym mine) new.late in
         absurd (omega arith)
 
--- what is news is what the step brings of its processor
-pub record IsFreshNewsOfSome (j : List Event) (x : Step) (i : ℕ) : Type 0 where
+-- what is news is what the step brings of its processor, of which there are n
+pub record IsFreshNewsOfSome (j : List Event) (x : Step) (n i : ℕ) : Type 0 where
   pub by : ℕ
-  pub low : by < 16
+  pub low : by < n
   pub new : IsNewsOfStep j x by i
 
-pub fresh_news_is_of_step : (j : List Event) (x : Step) (i : ℕ) → EventProcessorsInRange 16 j → NewsTimesAround j x → IsNews j i x.place
-    → IsFreshNewsOfSome j x i
-fresh_news_is_of_step j x i low step news = record {
+pub fresh_news_is_of_step : (j : List Event) (x : Step) (n i : ℕ) → EventProcessorsInRange n j → NewsCutsAround j x → IsNews j i x.place
+    → IsFreshNewsOfSome j x n i
+fresh_news_is_of_step j x n i low step news = record {
   by = from.processor;
   low = low i from news.leads.edge.from_at;
-  new = record { closes = closes; leads = news.leads; late = late; counted = counted };
+  new = record { closes = closes; leads = news.leads; late = late; known = known };
 }
   where
     from : Event
@@ -153,21 +143,22 @@ fresh_news_is_of_step j x i low step news = record {
         front_at : (m : ℕ) (f : Event) → EventAt (take k j) m f → EventAt j m f
         front_at m f at = sym (slice_get-take j k m (front_lt m f at)) ∙ at
 
-    late : slice_index x.before from.processor ≤ event_interval_at j from.processor i
-    late = elim (cases_lt (event_interval_at j from.processor i) (slice_index x.before from.processor)) [
+    other : from.processor ≢ step.event.processor
+    other is =
+        let same = event_place_same j k news.leads.edge.to step.event news.leads.edge.to_at step.at in
+        news.leads.apart (is ∙ sym (ap (λ (y : Event). y.processor) same))
+
+    late : slice_index x.before from.processor ≤ i
+    late = elim (cases_lt i (slice_index x.before from.processor)) [
       | inl lt ↦
-          (let lt_i = before in
-          let number = fresh_news_number_in_front j k from.processor i (omega arith) in
-          absurd (unheard ((step.before.covers from.processor i (fresh_news_closes_in_front j k from.processor i before closes)).1
-          (omega arith))))
+          absurd (unheard ((step.before.covers i from (slice_get-take j k i before ∙ news.leads.edge.from_at) other).1 lt))
       | inr ge ↦ ge
     ]
 
-    counted : event_interval_at j from.processor i < slice_index x.after from.processor
-    counted =
+    known : i < slice_index x.after from.processor
+    known =
         let lt_i = before in
         let inside = within in
-        let number = fresh_news_number_in_front j (k + 1) from.processor i (omega arith) in
         let past : InPast (take (k + 1) j) step.event.processor i =
         record {
           own = k;
@@ -176,15 +167,13 @@ fresh_news_is_of_step j x i low step news = record {
           mine = refl;
           reaches = inr (fresh_news_in_front j (k + 1) i k (omega arith) (omega arith) (edge news.leads.edge));
         } in
-        let lt =
-        (step.after.covers from.processor i (fresh_news_closes_in_front j (k + 1) from.processor i (omega arith) closes)).0 past in
-        omega arith
+        (step.after.covers i from (slice_get-take j (k + 1) i (omega arith) ∙ news.leads.edge.from_at) other).0 past
 
--- at place p, q closes its interval n, which the step's event counts and its processor had not counted before
+-- at place p, q closes its interval n, which is known after the step's event and wasn't before it
 pub record IsFreshNewsClosing (j : List Event) (x : Step) (q n p : ℕ) : Type 0 where
   pub closing : IsIndexedClosing j q n p
-  pub late : slice_index x.before q ≤ n
-  pub counted : n < slice_index x.after q
+  pub late : slice_index x.before q ≤ p
+  pub known : p < slice_index x.after q
 
 -- the places so far: those that were there, and q's news of intervals below n
 abbrev pub HasFreshNewsBelow : List Event → Step → ℕ → ℕ → List ℕ → List ℕ → Type 0
@@ -215,7 +204,7 @@ fresh_news_below_next {j} {x} {q} {n} {p} old places closed leads was i = (there
       | inr last ↦
           (let number = here.number in
           let new : IsNewsOfStep j x q p × (event_interval_at j q p < n + 1) =
-          (record { closes = here.closes; leads = leads; late = omega arith; counted = omega arith }, omega arith) in
+          (record { closes = here.closes; leads = leads; late = closed.late; known = closed.known }, omega arith) in
           inr (subst (λ m. IsNewsOfStep j x q m × (event_interval_at j q m < n + 1)) last.1 new))
     ]
 
@@ -252,16 +241,32 @@ fresh_news_below_others {j} {x} {q} {n} {p} old places closed away was i = (ther
       ]
     ]
 
--- past the last interval that is counted, these are all of q's
-pub fresh_news_below_all : (j : List Event) (x : Step) (q n : ℕ) (old places : List ℕ) → slice_index x.after q ≤ n
+-- past the last interval that is news, these are all of q's
+pub fresh_news_below_all : (j : List Event) (x : Step) (q n : ℕ) (old places : List ℕ)
+    → ((i : ℕ) → IsNewsOfStep j x q i → event_interval_at j q i < n)
     → HasFreshNewsBelow j x q n old places → (i : ℕ) → Has places i ↔ (Has old i ⊎ IsNewsOfStep j x q i)
-fresh_news_below_all j x q n old places le was i = (
+fresh_news_below_all j x q n old places few was i = (
   (λ at. elim ((was i).0 at) [ inl first ↦ inl first | inr new ↦ inr new.0 ]),
   λ s. elim s [
     | inl first ↦ (was i).1 (inl first)
-    | inr new ↦ (let lt = new.counted in (was i).1 (inr (new, omega arith)))
+    | inr new ↦ (was i).1 (inr (new, few i new))
   ],
 )
+
+-- before the first interval that is news, there are none of q's
+pub fresh_news_below_none : (j : List Event) (x : Step) (q n : ℕ) (old : List ℕ)
+    → ((i : ℕ) → IsNewsOfStep j x q i → n ≤ event_interval_at j q i) → HasFreshNewsBelow j x q n old old
+fresh_news_below_none j x q n old late i = (
+  (λ at. inl at),
+  λ s. elim s [
+    | inl first ↦ first
+    | inr new ↦ (let above = late i new.0 in let below = new.1 in absurd (omega arith))
+  ],
+)
+
+-- where a processor hears of nothing of q's, there is no news of q's
+pub fresh_news_none : {j : List Event} {x : Step} {q i : ℕ} → slice_index x.before q ≡ slice_index x.after q → ¬ IsNewsOfStep j x q i
+fresh_news_none same new = let late = new.late in let known = new.known in omega arith
 
 -- a place more that isn't among them
 fresh_news_once_next : (xs : List ℕ) (y : ℕ) → IsOnce xs → ¬ Has xs y → IsOnce (xs ++ y ∷ [])
@@ -340,10 +345,10 @@ fresh_news_flips a b = elim (cases_eq a b) [
 ]
 
 -- those of all processors, sorted, are the news
-pub fresh_news_sorted_all : {j : List Event} {x : Step} {n : ℕ} {places : List ℕ} (sorted : List ℕ) → 16 ≤ n
-    → EventProcessorsInRange 16 j → NewsTimesAround j x → AreFreshNewsBelow j x n places → IsPermutation places sorted
+pub fresh_news_sorted_all : {j : List Event} {x : Step} {n : ℕ} {places : List ℕ} (sorted : List ℕ)
+    → EventProcessorsInRange n j → NewsCutsAround j x → AreFreshNewsBelow j x n places → IsPermutation places sorted
     → IsNonDecreasing sorted → AreNewsRising j x.place sorted
-fresh_news_sorted_all {j} {x} {n} {places} sorted most low step are moved up = record { has = λ i. (there i, back i); order = order }
+fresh_news_sorted_all {j} {x} {n} {places} sorted low step are moved up = record { has = λ i. (there i, back i); order = order }
   where
     there : (i : ℕ) → Has sorted i → IsNews j i x.place
     there i at =
@@ -352,9 +357,8 @@ fresh_news_sorted_all {j} {x} {n} {places} sorted most low step are moved up = r
 
     back : (i : ℕ) → IsNews j i x.place → Has sorted i
     back i news =
-        let new = fresh_news_is_of_step j x i low step news in
-        let lt = new.low in
-        fresh_news_has_moved places sorted i moved ((are.has i).1 (new.by, omega arith, new.new))
+        let new = fresh_news_is_of_step j x n i low step news in
+        fresh_news_has_moved places sorted i moved ((are.has i).1 (new.by, new.low, new.new))
 
     apart : (m n d : ℕ) → m < n → n < length places → (slice_index_or places m d == slice_index_or places n d) ≡ false
     apart m n d lt inside =
@@ -388,11 +392,3 @@ fresh_news_leads_by_turns {j} {i} {k} {e} {f} {s} {t} b one two lt apart tells =
         (subst (λ n. EdgeLetsOn e.kind n f.kind t.departed) (sym one.turn.arrived)
         (subst (λ m. EdgeLetsOn e.kind (event_count event_arrives (take i j) e.processor) f.kind m) (sym two.turn.departed)
         (edge_leads_led j i k e f one.at two.at x).1))
-
--- an interval that the step's event counts is one that its processor closes
-pub fresh_news_number_closed : (j : List Event) (x : Step) (q n : ℕ) → NewsTimesAround j x → n < slice_index x.after q
-    → n < event_count event_closes j q
-fresh_news_number_closed j x q n step lt =
-    let counts = step.after.within q in
-    let all = event_count-front-le event_closes j (x.place + 1) q in
-    omega arith

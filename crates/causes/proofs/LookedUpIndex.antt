@@ -4,13 +4,16 @@ use Rattle.std.specs.Global.{Vec}
 use Rattle.std.proofs.lemmas.Bool.{cases_eq, cases_lt, eq-eqb, ne_eqb, eqb-true, and_parts}
 use Rattle.std.proofs.lemmas.List.{length-append, length-take-le, take_all}
 use Rattle.std.proofs.lemmas.List.Sums.{count_by-le-length}
-use Rattle.std.proofs.lemmas.Option.{slice_get_read}
+use Rattle.std.proofs.lemmas.Option.{slice_get-get_or, slice_get_read}
+use Rattle.base.specs.InOrderOnce.{InOrder}
+use Rattle.journal.specs.DidEvent.{event}
+use Rattle.journal.specs.Times.{ClosesAt}
 use Rattle.base.proofs.SlicesAndCounts.{slice_push_cases}
 use Rattle.base.proofs.SliceSets.{slice_get-set_found, slice_get-set_other, slice_get-replicate_found}
 use Rattle.journal.specs.declared.event.Event.{Event}
-use Rattle.journal.specs.Events.{EventAt, event_count, event_arrives, event_closes, event_departs}
+use Rattle.journal.specs.Events.{EventAt, event_count, event_interval_at, event_arrives, event_closes, event_departs}
 use Rattle.journal.specs.declared.event.Kind.{Kind}
-use Rattle.journal.proofs.Order.EventPlacesAndCounts.{event_place_same, event_count-past, event_place_does}
+use Rattle.journal.proofs.Order.EventPlacesAndCounts.{event_place_same, event_place_inside, event_count-mono, event_count-past, event_place_does}
 use Rattle.journal.proofs.Passes.NextRaces.{next_race_count}
 use Rattle.causes.specs.declared.index.Turn.{Turn}
 use Rattle.causes.specs.Index.{AreIndexedClosings, AreIndexedClosingsOf, IsIndexedClosing, IsIndexedTurn}
@@ -80,7 +83,7 @@ pub record IsLookedUpClosing (rows : List (Vec ℕ)) (q n p : ℕ) : Type 0 wher
   pub place_is : p ≡ slice_index_or row.items n p
 
 -- q's interval of this number is closed there, if it closes so many
-pub looked_up_closing_read : {j : List Event} {rows : List (Vec ℕ)} {q n p : ℕ} → AreIndexedClosings j rows → q < 16
+pub looked_up_closing_read : {j : List Event} {rows : List (Vec ℕ)} {q n p : ℕ} → AreIndexedClosings j rows → q < 64
     → n < event_count event_closes j q → IsLookedUpClosing rows q n p → IsIndexedClosing j q n p
 looked_up_closing_read {j} {rows} {q} {n} {p} are low lt read =
     let long = are.long in
@@ -107,14 +110,42 @@ looked_up_closing_same j q n i m x y = elim (cases_lt i m) [
   ]
 ]
 
+-- the places at which q closes its intervals rise
+pub looked_up_closings_rise : {j : List Event} {q : ℕ} {places : List ℕ} → AreIndexedClosingsOf j q places
+    → InOrder (λ i m. i < m) places
+looked_up_closings_rise {j} {q} {places} are m n i k lt at to =
+    let one = are.each m i at in
+    let two = are.each n k to in
+    let first = one.number in
+    let second = two.number in
+    elim (cases_lt i k) [
+      | inl before ↦ before
+      | inr le ↦ (let mono = event_count-mono event_closes j k i q le in absurd (omega arith))
+    ]
+
+-- where q closes an interval, that of its number is at hand
+pub looked_up_closing_at : {j : List Event} {q i : ℕ} {places : List ℕ} → AreIndexedClosingsOf j q places → ClosesAt j q i
+    → slice_get places (event_interval_at j q i) ≡ Some i
+looked_up_closing_at {j} {q} {i} {places} are closes =
+    let inside = event_place_inside j i (event q closes.kind) closes.does in
+    let past = event_count-past event_closes j i (length j) q closes.kind closes.does closes.closes inside in
+    let all : event_count event_closes (take (length j) j) q ≡ event_count event_closes j q =
+    ap (λ (xs : List Event). event_count event_closes xs q) (take_all (length j) j (omega arith)) in
+    let long = are.long in
+    let n = event_interval_at j q i in
+    let at = slice_get-get_or places n 0 (omega arith) in
+    let same = looked_up_closing_same j q n (slice_index_or places n 0) i (are.each n (slice_index_or places n 0) at)
+    (record { closes = closes; number = refl }) in
+    at ∙ ap (λ k. Some k) same
+
 -- the turns of the next events
 abbrev pub AreLookedUpNextTurns : List Event → ℕ → List Turn → Type 0
 AreLookedUpNextTurns j n next = (q : ℕ) (t : Turn) → slice_get next q ≡ Some t → IsIndexedTurn j n q t
 
 pub looked_up_turns_start : (j : List Event) (zero : Turn) → zero.arrived ≡ 0 → zero.departed ≡ 0
-    → AreLookedUpNextTurns j 0 (replicate 16 zero)
+    → AreLookedUpNextTurns j 0 (replicate 64 zero)
 looked_up_turns_start j zero arrived departed q t at =
-    let is = slice_get-replicate_found 16 zero t q at in
+    let is = slice_get-replicate_found 64 zero t q at in
     record {
       arrived = sym (ap (λ (x : Turn). x.arrived) is) ∙ arrived;
       departed = sym (ap (λ (x : Turn). x.departed) is) ∙ departed;

@@ -1,9 +1,10 @@
 -- Which of a processor's events an event reaches first, and how a way goes on from there.
--- The timestamp after an event of q counts p's event i exactly where i is up to that event (`reached_path_taken_tells`). What another's
--- event reaches first of q is one that takes (`reached_path_taking_before`), so the first timestamp that counts it is that event's.
+-- The cut after an event of q has p's event i exactly where i is up to that event (`reached_path_taken_tells`). What another's
+-- event reaches first of q is one that takes (`reached_path_taking_before`), so the first cut that has it is that event's.
 -- It is reached by its news alone: by an event of q it would not be the first.
 use Rattle.std.proofs.Common.{◌≡◌, ◌≢◌, ℕ, ◌+◌, ◌-◌, ◌<◌, ◌≤◌, inl, inr, ◌↔◌, IsTrue, List, [], ◌∷◌, ◌++◌, Some, length, take, slice_get, slice_index, zero, suc, subst, sym, refl, ap, ◌∙◌, length-append, arith}
 use Rattle.std.proofs.lemmas.Bool.{cases_eq, cases_lt}
+use Rattle.std.proofs.lemmas.List.{length-take-le}
 use Rattle.std.proofs.lemmas.Option.{same_Some, slice_get_within}
 use Rattle.base.specs.InOrderOnce.{InOrder}
 use Rattle.base.proofs.SlicesAndCounts.{slice_push_cases, slice_get-append_left, slice_get-from_take, slice_get-last, slice_get-take, slice_get-take_within}
@@ -11,22 +12,21 @@ use Rattle.journal.specs.declared.event.Event.{Event}
 use Rattle.journal.specs.declared.event.Kind.{Kind}
 use Rattle.journal.specs.declared.event.Kind.TheVariants.{Acquire, Release, Set, Await}
 use Rattle.journal.specs.DidEvent.{event}
-use Rattle.journal.specs.Events.{event_interval_at, event_closes, event_takes}
+use Rattle.journal.specs.Events.{event_takes}
 use Rattle.journal.specs.HappensBeforeEdges.{Edge, HappensBefore, LetsThrough, Link, same, lets, meets}
 use Rattle.journal.specs.Pasts.{InPast, UpTo}
-use Rattle.journal.specs.Times.{IsTimeOf}
+use Rattle.judge.specs.Cuts.{IsCutOf}
 use Rattle.journal.specs.WellFormed.{Does}
-use Rattle.journal.proofs.Order.EventPlacesAndCounts.{event_place_same, event_place_inside, event_count-mono, event_place_does, event_place_does_same}
+use Rattle.journal.proofs.Order.EventPlacesAndCounts.{event_place_same, event_place_inside, event_place_does, event_place_does_same}
 use Rattle.journal.proofs.Order.HappensBefore.{happens_before_goes_forward}
 use Rattle.journal.proofs.Order.IntoPast.{into_past_last_step, into_past_up_to_back}
 use Rattle.journal.proofs.Times.LeavingCloses.{leaving_closes_own_order}
-use Rattle.journal.proofs.Times.PushedTimes.{pushed_time_covers_past}
 use Rattle.causes.specs.declared.taking_events.Taking.{Taking}
 use Rattle.causes.specs.Edges.{EdgeFromOther}
 use Rattle.causes.specs.News.{IsNews}
 use Rattle.causes.specs.TakingEvents.{AreTakingEvents, IsFirstTakingEventAbove, IsTakingEvent, NoTakingEventAbove}
 use Rattle.causes.specs.Paths.{IsPathEntry, IsPathWay}
-use Rattle.causes.proofs.FreshNews.{fresh_news_from_front, fresh_news_in_front, fresh_news_number_in_front}
+use Rattle.causes.proofs.FreshNews.{fresh_news_from_front, fresh_news_in_front}
 
 -- what is up to a place doesn't stand behind it
 pub reached_path_up_to_le : (j : List Event) (k i : ℕ) → UpTo j k i → i ≤ k
@@ -54,10 +54,10 @@ reached_path_up_to_own {a} {b} j q i k m one two le up = elim (cases_eq k m) [
   | inr isnt ↦ reached_path_up_to_longer j i k m up (inr (leaving_closes_own_order j q k m a b one two (omega arith)))
 ]
 
--- after its event at place m, q's timestamp counts p's event at place i exactly where that is up to place m
+-- after its event at place m, q's cut has p's event at place i exactly where that is up to place m
 pub reached_path_taken_tells : {j : List Event} {p i q m : ℕ} {t : ℕ → ℕ} → AreReachedPathEnds j p i q m
-    → IsTimeOf (take (m + 1) j) q t → UpTo j m i ↔ (event_interval_at j p i < t p)
-reached_path_taken_tells {j} {p} {i} {q} {m} {t} two time = (there, back)
+    → IsCutOf (take (m + 1) j) q t → UpTo j m i ↔ (i < t p)
+reached_path_taken_tells {j} {p} {i} {q} {m} {t} two cut = (there, back)
   where
     a : Kind
     a = two.first
@@ -77,12 +77,11 @@ reached_path_taken_tells {j} {p} {i} {q} {m} {t} two time = (there, back)
     within : m < length j
     within = event_place_inside j m (event q b) at
 
-    there : UpTo j m i → event_interval_at j p i < t p
+    there : UpTo j m i → i < t p
     there (inl is) = absurd (apart (event_place_does_same j m p q a b (subst (λ n. Does j n p a) is does) at).0)
     there (inr h) =
         let lt : i < m = happens_before_goes_forward j h in
         let inside = within in
-        let number = fresh_news_number_in_front j (m + 1) p i (omega arith) in
         let past : InPast (take (m + 1) j) q i =
         record {
           own = m;
@@ -91,9 +90,7 @@ reached_path_taken_tells {j} {p} {i} {q} {m} {t} two time = (there, back)
           mine = refl;
           reaches = inr (fresh_news_in_front j (m + 1) i m (omega arith) (omega arith) h);
         } in
-        let less =
-        (pushed_time_covers_past (take (m + 1) j) q p i a t time (slice_get-take j (m + 1) i (omega arith) ∙ does) apart).0 past in
-        omega arith
+        (cut.covers i (event p a) (slice_get-take j (m + 1) i (omega arith) ∙ does) apart).0 past
 
     up_front : (k : ℕ) → UpTo (take (m + 1) j) k i → UpTo j k i
     up_front k (inl is) = inl is
@@ -106,17 +103,11 @@ reached_path_taken_tells {j} {p} {i} {q} {m} {t} two time = (there, back)
         reached_path_up_to_own j q i x.own m (event_place_does j x.own q x.event there x.mine) at (omega arith)
         (up_front x.own x.reaches)
 
-    back : event_interval_at j p i < t p → UpTo j m i
-    back lt = elim (cases_lt i (m + 1)) [
-      | inl before ↦
-          (let number = fresh_news_number_in_front j (m + 1) p i (omega arith) in
-          from_past ((pushed_time_covers_past (take (m + 1) j) q p i a t time (slice_get-take j (m + 1) i before ∙ does) apart).1
-          (omega arith)))
-      | inr behind ↦
-          (let counts = time.within p in
-          let up = event_count-mono event_closes j (m + 1) i p behind in
-          absurd (omega arith))
-    ]
+    back : i < t p → UpTo j m i
+    back lt =
+        let top = cut.within p in
+        let long = length-take-le (m + 1) j (let inside = within in omega arith) in
+        from_past ((cut.covers i (event p a) (slice_get-take j (m + 1) i (omega arith) ∙ does) apart).1 lt)
 
 reached_path_lets_takes : (a b : Kind) → LetsThrough a b → IsTrue (event_takes b)
 reached_path_lets_takes (Release l) (Acquire m) h = refl
@@ -202,35 +193,30 @@ reached_path_first_own j p i a does = record {
   first = λ k b lt at up. (let le = reached_path_up_to_le j k i up in absurd (omega arith));
 }
 
--- p's event at place i lies in its interval of this number, and these are the events below place n that take of another one, q
-pub record ReachedPathTakesBesides (j : List Event) (p i q n number : ℕ) (takings : List Taking) : Type 0 where
+-- p does something at place i, and these are the events below place n that take of another one, q
+pub record ReachedPathTakesBesides (j : List Event) (p i q n : ℕ) (takings : List Taking) : Type 0 where
   pub kind : Kind
   pub does : Does j i p kind
   pub apart : p ≢ q
-  pub number_is : number ≡ event_interval_at j p i
   pub are : AreTakingEvents j q n takings
 
 -- p's event, and one of q
-reached_path_beside : {j : List Event} {p i q n number : ℕ} {takings : List Taking} (k : ℕ) (b : Kind)
-    → ReachedPathTakesBesides j p i q n number takings → Does j k q b → AreReachedPathEnds j p i q k
-reached_path_beside {j} {p} {i} {q} {n} {number} {takings} k b x at =
+reached_path_beside : {j : List Event} {p i q n : ℕ} {takings : List Taking} (k : ℕ) (b : Kind)
+    → ReachedPathTakesBesides j p i q n takings → Does j k q b → AreReachedPathEnds j p i q k
+reached_path_beside {j} {p} {i} {q} {n} {takings} k b x at =
     record { first = x.kind; does = x.does; second = b; did = at; apart = x.apart }
 
--- the timestamp after an event of q that takes counts the interval exactly where that event reaches p's
-reached_path_taking_tells : {j : List Event} {p i q n number : ℕ} {takings : List Taking} (y : Taking)
-    → ReachedPathTakesBesides j p i q n number takings → IsTakingEvent j q n y → UpTo j y.place i ↔ (number < slice_index y.after p)
-reached_path_taking_tells {j} {p} {i} {q} {n} {number} {takings} y x is =
-    let both = reached_path_taken_tells (reached_path_beside y.place is.kind x is.does) is.after in
-    let same = x.number_is in (
-      (λ up. (let lt = both.0 up in omega arith)),
-      λ lt. both.1 (omega arith),
-    )
+-- the cut after an event of q that takes has p's event exactly where that is up to it
+reached_path_taking_tells : {j : List Event} {p i q n : ℕ} {takings : List Taking} (y : Taking)
+    → ReachedPathTakesBesides j p i q n takings → IsTakingEvent j q n y → UpTo j y.place i ↔ (i < slice_index y.after.items p)
+reached_path_taking_tells {j} {p} {i} {q} {n} {takings} y x is =
+    reached_path_taken_tells (reached_path_beside y.place is.kind x is.does) is.after
 
--- the timestamps of takings that do not count an interval stand in front
-pub reached_path_parted : {j : List Event} {p i q n number : ℕ} {takings : List Taking} → ReachedPathTakesBesides j p i q n number takings
-    → InOrder (λ (x y : Taking). slice_index y.after p ≤ number → slice_index x.after p ≤ number) takings
-reached_path_parted {j} {p} {i} {q} {n} {number} {takings} besides k m x y lt at to le =
-    elim (cases_lt number (slice_index x.after p)) [
+-- the cuts of takings that don't have p's event stand in front
+pub reached_path_parted : {j : List Event} {p i q n : ℕ} {takings : List Taking} → ReachedPathTakesBesides j p i q n takings
+    → InOrder (λ (x y : Taking). slice_index y.after.items p ≤ i → slice_index x.after.items p ≤ i) takings
+reached_path_parted {j} {p} {i} {q} {n} {takings} besides k m x y lt at to le =
+    elim (cases_lt i (slice_index x.after.items p)) [
       | inl above ↦
           (let one = besides.are.each k x at in
           let two = besides.are.each m y to in
@@ -243,11 +229,11 @@ reached_path_parted {j} {p} {i} {q} {n} {number} {takings} besides k m x y lt at
       | inr within ↦ within
     ]
 
--- where no timestamp counts it, it reaches none of q's events
-pub reached_path_none : {j : List Event} {p i q number : ℕ} {takings : List Taking}
-    → ReachedPathTakesBesides j p i q (length j) number takings → NoTakingEventAbove takings p number
+-- where no cut has it, it reaches none of q's events
+pub reached_path_none : {j : List Event} {p i q : ℕ} {takings : List Taking}
+    → ReachedPathTakesBesides j p i q (length j) takings → NoTakingEventAbove takings p i
     → (k : ℕ) (b : Kind) → Does j k q b → ¬ UpTo j k i
-reached_path_none {j} {p} {i} {q} {number} {takings} besides none k b at up =
+reached_path_none {j} {p} {i} {q} {takings} besides none k b at up =
     let t = reached_path_taking_before (reached_path_beside k b besides at) up in
     let w = besides.are.all t.place t.kind (event_place_inside j t.place (event q t.kind) t.does) t.does t.takes in
     let le = none w.0 w.1 w.2 in
@@ -256,10 +242,10 @@ reached_path_none {j} {p} {i} {q} {number} {takings} besides none k b at up =
     (subst (λ n. UpTo j n i) (sym w.3) t.reached) in
     omega arith
 
--- the first one that counts it is that after the first event that it reaches
-pub reached_path_first : {j : List Event} {p i q m number : ℕ} {takings : List Taking}
-    → ReachedPathTakesBesides j p i q (length j) number takings → IsFirstTakingEventAbove takings p number m → IsPathEntry j i q m
-reached_path_first {j} {p} {i} {q} {m} {number} {takings} besides found =
+-- the first one that has it is that after the first event that it reaches
+pub reached_path_first : {j : List Event} {p i q m : ℕ} {takings : List Taking}
+    → ReachedPathTakesBesides j p i q (length j) takings → IsFirstTakingEventAbove takings p i m → IsPathEntry j i q m
+reached_path_first {j} {p} {i} {q} {m} {takings} besides found =
     subst (IsPathEntry j i q) found.place_is
     (record { kind = here.kind; does = here.does; reached = reached; first = first })
   where

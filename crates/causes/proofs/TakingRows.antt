@@ -1,10 +1,11 @@
 -- Events that take, row by row, as the history goes on: the rows below place n, with the event at place n, are those below
 -- n + 1. An event that takes stands last in its processor's row, for all before it stand at lower places; any other
 -- event, and every other row, changes nothing. The numbers of intervals are counts that go on the same way.
-use Rattle.std.proofs.Common.{◌≡◌, ℕ, ◌+◌, ◌<◌, inl, inr, IsTrue, false, List, [], ◌∷◌, ◌++◌, Some, length, slice_get, slice_index, slice_set, take, subst, sym, ap, ◌∙◌, true≢false, arith}
+use Rattle.std.proofs.Common.{◌≡◌, ℕ, ◌+◌, ◌<◌, ◌≤◌, inl, inr, IsTrue, false, List, [], ◌∷◌, ◌++◌, Some, length, slice_get, slice_index, slice_set, take, subst, sym, ap, ◌∙◌, true≢false, arith}
 use Rattle.std.specs.Global.{Vec}
-use Rattle.std.proofs.lemmas.Bool.{cases_eq}
-use Rattle.std.proofs.lemmas.List.{get_or_append_left, length-set}
+use Rattle.std.proofs.lemmas.Bool.{cases_eq, cases_lt}
+use Rattle.std.proofs.lemmas.List.{get_or_append_left, get_or-take, get_or_past, length-set, length-take-le}
+use Rattle.journal.specs.EventsInRange.{EventProcessorsInRange}
 use Rattle.std.proofs.lemmas.Option.{none-some, slice_get_within}
 use Rattle.base.proofs.SlicesAndCounts.{slice_push_cases, slice_get-append_left, slice_get-last}
 use Rattle.base.proofs.SliceSets.{slice_get-set_found, slice_get-set_other}
@@ -14,7 +15,7 @@ use Rattle.journal.specs.declared.event.Event.{Event}
 use Rattle.journal.specs.declared.event.Kind.{Kind}
 use Rattle.journal.specs.DidEvent.{event}
 use Rattle.journal.specs.Events.{EventAt, event_interval_at, event_takes}
-use Rattle.journal.specs.Times.{IsTimeOf}
+use Rattle.judge.specs.Cuts.{IsCutOf}
 use Rattle.journal.specs.WellFormed.{Does}
 use Rattle.journal.proofs.Order.EventPlacesAndCounts.{event_place_same}
 use Rattle.causes.specs.declared.taking_events.Taking.{Taking}
@@ -27,6 +28,19 @@ taking_row_below j q n x is = record {
   kind = is.kind;
   does = is.does;
   after = is.after;
+}
+
+-- the entries of the processors that there are make the same cut
+pub taking_row_cut : {j : List Event} {n p : ℕ} (t : List ℕ) → n ≤ length t → EventProcessorsInRange n j → IsCutOf j p (slice_index t)
+    → IsCutOf j p (slice_index (take n t))
+taking_row_cut {j} {n} {p} t le range cut = record {
+  covers =
+      λ i e at apart. (let is = get_or-take n t e.processor 0 (range i e at) in
+      ((λ h. (let lt = (cut.covers i e at apart).0 h in omega arith)), λ lt. (cut.covers i e at apart).1 (omega arith)));
+  within = λ q. elim (cases_lt q n) [
+    | inl lt ↦ (let is = get_or-take n t q 0 lt in let top = cut.within q in omega arith)
+    | inr ge ↦ (let long = length-take-le n t le in let none = get_or_past (take n t) q 0 (omega arith) in omega arith)
+  ];
 }
 
 -- none below the first place
@@ -57,9 +71,9 @@ pub record IsNotedForTakingRow (j : List Event) (q n : ℕ) (x : Taking) : Type 
   pub kind : Kind
   pub does : Does j n q kind
   pub place : x.place ≡ n
-  pub time : IsTimeOf (take (n + 1) j) q (slice_index x.after)
+  pub cut : IsCutOf (take (n + 1) j) q (slice_index x.after.items)
 
--- an event of q that takes, with its timestamp
+-- an event of q that takes, with its cut
 taking_row_next : {j : List Event} {q n : ℕ} {x : Taking} {takings : List Taking} → IsNotedForTakingRow j q n x → AreTakingEvents j q n takings
     → AreTakingEvents j q (n + 1) (takings ++ x ∷ [])
 taking_row_next {j} {q} {n} {x} {takings} noted old = record { each = each; rising = rising; all = all }
@@ -72,7 +86,7 @@ taking_row_next {j} {q} {n} {x} {takings} noted old = record { each = each; risi
       below = omega arith;
       kind = noted.kind;
       does = subst (λ m. Does j m q noted.kind) (sym place) noted.does;
-      after = subst (λ m. IsTimeOf (take (m + 1) j) q (slice_index x.after)) (sym place) noted.time;
+      after = subst (λ m. IsCutOf (take (m + 1) j) q (slice_index x.after.items)) (sym place) noted.cut;
     }
 
     each : (m : ℕ) (y : Taking) → slice_get (takings ++ x ∷ []) m ≡ Some y → IsTakingEvent j q (n + 1) y

@@ -1,10 +1,10 @@
 -- What is looked up of a history.
 use Rattle.std.specs.Prelude.{ℕ, ◌≡◌, List, Some, length, slice_get, take}
 use Rattle.std.specs.Global.{Vec}
-use Rattle.base.specs.Limits.{most_processors}
 use Rattle.journal.specs.declared.event.Event.{Event}
 use Rattle.journal.specs.Events.{EventAt, event_count, event_interval_at, event_arrives, event_closes, event_departs}
 use Rattle.journal.specs.Times.{ClosesAt}
+use Rattle.judge.specs.JudgedSizes.{most_judged_processors}
 use Rattle.causes.specs.declared.index.Index.{Index}
 use Rattle.causes.specs.declared.index.Turn.{Turn}
 
@@ -30,7 +30,7 @@ pub record AreIndexedClosingsOf (j : List Event) (q : ℕ) (places : List ℕ) :
 
 -- and each processor at its places
 pub record AreIndexedClosings (j : List Event) (rows : List (Vec ℕ)) : Type 0 where
-  pub long : length rows ≡ most_processors
+  pub long : length rows ≡ most_judged_processors
   pub each : (q : ℕ) (row : Vec ℕ) → slice_get rows q ≡ Some row → AreIndexedClosingsOf j q row.items
 
 pub record IsIndex (j : List Event) (x : Index) : Type 0 where

@@ -3,9 +3,10 @@ use Rattle.std.specs.Prelude.{ℕ, ◌≡◌, ◌+◌, ◌<◌, ◌≤◌, ◌�
 use Rattle.std.specs.Global.{Vec}
 use Rattle.base.specs.InOrderOnce.{Has, InOrder}
 use Rattle.journal.specs.declared.event.Event.{Event}
-use Rattle.journal.specs.Events.{EventAt, event_interval_at}
+use Rattle.journal.specs.Events.{EventAt}
 use Rattle.journal.specs.HappensBeforeEdges.{HappensBefore}
-use Rattle.journal.specs.Times.{ClosesAt, IsTimeOf}
+use Rattle.journal.specs.Times.{ClosesAt}
+use Rattle.judge.specs.Cuts.{IsCutOf}
 use Rattle.causes.specs.declared.step.Step.{Step}
 use Rattle.causes.specs.Edges.{EdgeFromOther}
 
@@ -23,17 +24,16 @@ pub record AreNewsRising (j : List Event) (k : ℕ) (places : List ℕ) : Type 0
 abbrev pub AreIncomingNews : List Event → List (Vec ℕ) → Type 0
 AreIncomingNews j rows = (k : ℕ) (row : Vec ℕ) → slice_get rows k ≡ Some row → AreNewsRising j k row.items
 
--- the timestamps are those before and after the event at this place
-pub record NewsTimesAround (j : List Event) (x : Step) : Type 0 where
+-- the cuts are those before and after the event at this place
+pub record NewsCutsAround (j : List Event) (x : Step) : Type 0 where
   pub event : Event
   pub at : EventAt j x.place event
-  pub before : IsTimeOf (take x.place j) event.processor (slice_index x.before)
-  pub after : IsTimeOf (take (x.place + 1) j) event.processor (slice_index x.after)
+  pub before : IsCutOf (take x.place j) event.processor (slice_index x.before)
+  pub after : IsCutOf (take (x.place + 1) j) event.processor (slice_index x.after)
 
--- q closes an interval at place i, which has an edge to the step's event; the timestamps count it after that, and not
--- before
+-- q closes an interval at place i, which has an edge to the step's event; it is known after that, and was not before
 pub record IsNewsOfStep (j : List Event) (x : Step) (q i : ℕ) : Type 0 where
   pub closes : ClosesAt j q i
   pub leads : EdgeFromOther j i x.place
-  pub late : slice_index x.before q ≤ event_interval_at j q i
-  pub counted : event_interval_at j q i < slice_index x.after q
+  pub late : slice_index x.before q ≤ i
+  pub known : i < slice_index x.after q

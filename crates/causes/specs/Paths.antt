@@ -1,16 +1,16 @@
 -- Ways along edges from one place to another.
 use Rattle.std.specs.Prelude.{ℕ, ◌≡◌, ◌+◌, ◌-◌, ◌<◌, List, Option, Some, MatchOption, length, slice_get}
-use Rattle.base.specs.Limits.{most_processors}
 use Rattle.journal.specs.declared.event.Event.{Event}
 use Rattle.journal.specs.declared.event.Kind.{Kind}
 use Rattle.journal.specs.EventsInRange.{EventProcessorsInRange}
 use Rattle.journal.specs.HappensBeforeEdges.{Edge}
 use Rattle.journal.specs.Pasts.{UpTo}
 use Rattle.journal.specs.WellFormed.{Does}
+use Rattle.judge.specs.JudgedSizes.{most_judged_processors}
 use Rattle.causes.specs.declared.ways.Ways.{Ways}
 use Rattle.causes.specs.declared.reaching.Reach.{Reach}
 use Rattle.causes.specs.HandOvers.{AreAllHandOvers}
-use Rattle.causes.specs.TakingEvents.{AreAllTakingEvents, AreTakingEventNumbers}
+use Rattle.causes.specs.TakingEvents.{AreAllTakingEvents}
 
 -- these places lead from place i to place k: each has an edge to the next
 pub record IsPathWay (j : List Event) (i k : ℕ) (places : List ℕ) : Type 0 where
@@ -31,8 +31,7 @@ PathEntryIfAny j i q o = MatchOption o ((k : ℕ) (a : Kind) → Does j k q a �
 
 -- what is looked up is the history's
 pub record IsPathLookup (j : List Event) (x : Reach) : Type 0 where
-  pub processors : EventProcessorsInRange most_processors j
-  pub numbers : AreTakingEventNumbers j x.numbers.items
+  pub processors : EventProcessorsInRange most_judged_processors j
   pub takings : AreAllTakingEvents j (length j) x.takings.items
 
 pub record ArePathWays (j : List Event) (x : Ways) : Type 0 where

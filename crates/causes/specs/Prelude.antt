@@ -6,7 +6,7 @@ pub use Rattle.causes.specs.Part.{IsInPart}
 pub use Rattle.causes.specs.Edges.{AreEdges, EdgeLetsOn}
 pub use Rattle.causes.specs.Edges.{EdgeFromOther}
 pub use Rattle.causes.specs.Index.{AreIndexedClosings, AreIndexedClosingsOf, AreIndexedTurns, IsIndex}
-pub use Rattle.causes.specs.News.{AreIncomingNews, AreNewsRising, IsNewsOfStep, IsNews, NewsTimesAround}
+pub use Rattle.causes.specs.News.{AreIncomingNews, AreNewsRising, IsNewsOfStep, IsNews, NewsCutsAround}
 pub use Rattle.causes.specs.HandOvers.{AreAllHandOvers, AreHandOvers, AreHandOversFrom}
 pub use Rattle.causes.specs.TakingEvents.{AreAllTakingEvents, AreTakingEventNumbers, IsFirstTakingEventAbove, NoTakingEventAbove}
 pub use Rattle.causes.specs.Paths.{ArePathWays, PathEntryIfAny, IsPathLookup, IsPathWay}

@@ -1,9 +1,8 @@
 //! What keeps the two accesses of a race apart: what the one's processor had heard of the other's, and which locks they held.
 ghost use Rattle.std.specs.Prelude.{◌<◌, ◌≤◌, IfOk, length};
-ghost use Rattle.base.specs.Prelude.{most_processors};
 ghost use Rattle.journal.specs.declared.event.Event.{Event};
 ghost use Rattle.journal.specs.Prelude.{EventProcessorsInRange, Race};
-ghost use Rattle.judge.specs.Prelude.{most_in_sized_history};
+ghost use Rattle.judge.specs.Prelude.{most_in_sized_history, most_judged_processors};
 ghost use Rattle.causes.specs.Prelude.{IsRaceApart};
 
 use crate::heard::heard;
@@ -28,7 +27,7 @@ pub struct RaceApart {
     pub second_locks: Vec<usize>,
 }
 
-/// What keeps the two accesses of this race of the events apart, which so many processors made, at most `MOST_PROCESSORS`, with
+/// What keeps the two accesses of this race of the events apart, which so many processors made, at most `judge::MOST_JUDGED_PROCESSORS`, with
 /// so many locks. The only error is running out of memory.
 ///
 /// It takes time in the order of the events up to the second access times the processors, and of the locks.
@@ -40,7 +39,7 @@ pub fn race_accesses_apart(
     race: (usize, usize),
 ) -> Result<RaceApart, AllocError>
     requires few { length events.now ≤ most_in_sized_history }
-    requires few_processors { processors ≤ most_processors }
+    requires few_processors { processors ≤ most_judged_processors }
     requires processors { EventProcessorsInRange processors events.now }
     requires race { Race events.now race.0 race.1 }
     ensures { IfOk result (IsRaceApart locks events.now race.0 race.1) }

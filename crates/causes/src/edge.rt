@@ -1,13 +1,11 @@
 //! What lets an event through: the events of other processors with an edge to it.
 ghost use Rattle.std.specs.Prelude.{◌≡◌, ◌↔◌, ◌==◌, ◌&&◌, ◌<◌, ◌≤◌, IsTrue, IfOk, cond, length, take};
-ghost use Rattle.base.specs.Prelude.{most_processors};
 ghost use Rattle.journal.specs.declared.event.Kind.TheVariants.{Release, Set};
 ghost use Rattle.journal.specs.Prelude.{EventProcessorsInRange, event_count, event_arrives, event_departs};
 ghost use Rattle.causes.specs.Prelude.{AreEdges, EdgeLetsOn};
 
-use base::MOST_PROCESSORS;
 use journal::{Event, Kind};
-use judge::History;
+use judge::{History, MOST_JUDGED_PROCESSORS};
 use std::alloc::{AllocError, Global};
 
 /// Whether it is a release of this lock.
@@ -96,7 +94,7 @@ pub fn edges(alloc: Global, history: &History<'_>, place: usize) -> Result<Vec<u
     let events = history.events();
     let to = events[place];
     let departed = edge_departures_before(events, to.processor, place);
-    let mut arrivals = [0; MOST_PROCESSORS];
+    let mut arrivals = [0; MOST_JUDGED_PROCESSORS];
     let mut places = Vec::new(alloc);
     for i in 0..place {
         let from = events[i];

@@ -1,7 +1,6 @@
 //! By which events each event's processor gets its news: of those that it had not heard of, the last ones.
 ghost use Rattle.std.specs.Prelude.{◌≡◌, ◌↔◌, ℕ, ◌<◌, ◌≤◌, IsTrue, IfOk, length};
 ghost use Rattle.base.specs.InOrderOnce.{Has, InOrder};
-ghost use Rattle.base.specs.Prelude.{most_processors};
 ghost use Rattle.journal.specs.Pasts.{UpTo};
 ghost use Rattle.journal.specs.Prelude.{EventProcessorsInRange};
 ghost use Rattle.judge.specs.Prelude.{most_in_sized_history};

@@ -1,13 +1,13 @@
 //! What is looked up of a history again and again: how often each event's processor had arrived and departed, and where
 //! each processor closed its intervals.
-ghost use Rattle.std.specs.Prelude.{◌≡◌, ◌==◌, ◌&&◌, ◌+◌, ◌<◌, ◌≤◌, ◌^◌, IfOk, cond, length};
-ghost use Rattle.base.specs.Prelude.{most_processors};
+ghost use Rattle.std.specs.Prelude.{◌≡◌, ◌==◌, ◌&&◌, ◌↔◌, ℕ, ◌+◌, ◌<◌, ◌≤◌, ◌^◌, IfOk, Some, cond, length, slice_get};
+ghost use Rattle.base.specs.InOrderOnce.{InOrder};
 ghost use Rattle.journal.specs.Prelude.{EventProcessorsInRange, event_arrives, event_closes, event_departs};
-ghost use Rattle.judge.specs.Prelude.{most_in_sized_history};
+ghost use Rattle.judge.specs.Prelude.{most_in_sized_history, most_judged_processors};
 ghost use Rattle.causes.specs.Prelude.{AreIndexedClosings, AreIndexedClosingsOf, AreIndexedTurns, IsIndex};
 
-use base::MOST_PROCESSORS;
 use journal::{Event, Kind};
+use judge::MOST_JUDGED_PROCESSORS;
 use std::alloc::{AllocError, Global};
 
 /// How often an event's processor had arrived and departed before it.
@@ -22,7 +22,7 @@ pub(crate) struct Turn {
 pub(crate) struct Index {
     /// The turn of each event.
     pub(crate) turns: Vec<Turn>,
-    /// Of each of sixteen processors, the places of the events that close its intervals.
+    /// Of each of `MOST_JUDGED_PROCESSORS` processors, the places of the events that close its intervals, in order.
     pub(crate) closings: Vec<Vec<usize>>,
 }
 
@@ -61,13 +61,13 @@ fn index_turn_after(turn: Turn, kind: Kind) -> Turn
 /// The turn of each event.
 fn index_turns(alloc: Global, events: &[Event]) -> Result<Vec<Turn>, AllocError>
     requires few { length events.now ≤ most_in_sized_history }
-    requires processors { EventProcessorsInRange most_processors events.now }
+    requires processors { EventProcessorsInRange most_judged_processors events.now }
     ensures { IfOk result (λ v. AreIndexedTurns events.now v.items) }
 {
     let mut next = [Turn {
         arrived: 0,
         departed: 0,
-    }; MOST_PROCESSORS];
+    }; MOST_JUDGED_PROCESSORS];
     let mut turns = Vec::with_capacity(alloc, events.len())?;
     for place in 0..events.len() {
         let event = events[place];
@@ -91,21 +91,30 @@ fn index_closings_of(alloc: Global, events: &[Event], by: usize) -> Result<Vec<u
     Ok(places)
 }
 
-/// Those of each of sixteen processors.
+/// Those of each of `MOST_JUDGED_PROCESSORS` processors.
 fn index_closings(alloc: Global, events: &[Event]) -> Result<Vec<Vec<usize>>, AllocError>
     ensures { IfOk result (λ v. AreIndexedClosings events.now v.items) }
 {
-    let mut closings = Vec::with_capacity(alloc, MOST_PROCESSORS)?;
-    for by in 0..16 {
+    let mut closings = Vec::with_capacity(alloc, MOST_JUDGED_PROCESSORS)?;
+    for by in 0..MOST_JUDGED_PROCESSORS {
         closings.push(index_closings_of(alloc, events, by)?)?;
     }
     Ok(closings)
 }
 
+/// How many of these places, which rise, stand before this one. It is found by halving.
+pub(crate) fn index_places_before(places: &[usize], place: usize) -> usize
+    requires { InOrder (λ i m. i < m) places.now }
+    ensures within { result ≤ length places.now }
+    ensures before { (n i : ℕ) → slice_get places.now n ≡ Some i → (n < result) ↔ (i < place) }
+{
+    places.partition_point(|other| *other < place)
+}
+
 /// What is looked up of this history. The only error is running out of memory.
 pub(crate) fn index_of(alloc: Global, events: &[Event]) -> Result<Index, AllocError>
     requires few { length events.now ≤ most_in_sized_history }
-    requires processors { EventProcessorsInRange most_processors events.now }
+    requires processors { EventProcessorsInRange most_judged_processors events.now }
     ensures { IfOk result (IsIndex events.now) }
 {
     let turns = index_turns(alloc, events)?;

@@ -1,17 +1,17 @@
 //! What each event brings its processor news of: the events that let it through and that its processor had not heard of.
 ghost use Rattle.std.specs.Prelude.{◌≡◌, ◌↔◌, ◌⊎◌, ℕ, ◌<◌, ◌≤◌, [], IsTrue, IfOk, OnOk, length, vec_len};
-ghost use Rattle.base.specs.Prelude.{Has, most_processors};
+ghost use Rattle.base.specs.Prelude.{Has};
 ghost use Rattle.base.specs.InOrderOnce.{IsOnce};
 ghost use Rattle.journal.specs.Times.{ClosesAt};
-ghost use Rattle.journal.specs.Prelude.{AreClocks, EventProcessorsInRange};
-ghost use Rattle.judge.specs.Prelude.{most_in_sized_history};
-ghost use Rattle.causes.specs.Prelude.{AreIncomingNews, AreNewsRising, AreIndexedTurns, EdgeFromOther, IsIndex, IsNewsOfStep, NewsTimesAround};
+ghost use Rattle.journal.specs.Prelude.{EventProcessorsInRange};
+ghost use Rattle.judge.specs.Prelude.{AreCuts, most_in_sized_history, most_judged_processors};
+ghost use Rattle.causes.specs.Prelude.{AreIncomingNews, AreNewsRising, AreIndexedTurns, EdgeFromOther, IsIndex, IsNewsOfStep, NewsCutsAround};
 
 use crate::edge::edge_lets_on;
-use crate::index::{Index, Turn, index_of};
+use crate::index::{Index, Turn, index_of, index_places_before};
 use crate::step::{Step, next_step};
-use journal::{Event, EventClocks};
-use judge::History;
+use journal::Event;
+use judge::{Cuts, History};
 use std::alloc::{AllocError, Global};
 
 /// Whether an edge leads from the event at the first place to another processor's at the second one.
@@ -43,16 +43,22 @@ fn add_news(
     step: &Step,
     by: usize,
 ) -> Result<(), AllocError>
-    requires by { by < most_processors }
+    requires by { by < most_judged_processors }
     requires index { IsIndex events.now index.now }
-    requires step { NewsTimesAround events.now step.now }
+    requires step { NewsCutsAround events.now step.now }
     ensures has { OnOk result ((i : ℕ)
         → Has places.new.items i ↔ (Has places.old.items i ⊎ IsNewsOfStep events.now step.now by i)) }
     ensures once { OnOk result (IsOnce places.old.items
         → ((i : ℕ) → Has places.old.items i → ¬ ClosesAt events.now by i) → IsOnce places.new.items) }
 {
-    for number in step.before[by] as usize..step.after[by] as usize {
-        let place = index.closings[by][number];
+    if step.before[by] == step.after[by] {
+        return Ok(());
+    }
+    let closings = &index.closings[by];
+    let first = index_places_before(closings, step.before[by] as usize);
+    let end = index_places_before(closings, step.after[by] as usize);
+    for number in first..end {
+        let place = closings[number];
         if is_news_edge(events, &index.turns, place, step.place) {
             places.push(place)?;
         }
@@ -66,38 +72,42 @@ fn news(
     events: &[Event],
     index: &Index,
     step: &Step,
+    processors: usize,
 ) -> Result<Vec<usize>, AllocError>
-    requires processors { EventProcessorsInRange most_processors events.now }
+    requires few_processors { processors ≤ most_judged_processors }
+    requires processors { EventProcessorsInRange processors events.now }
     requires index { IsIndex events.now index.now }
-    requires step { NewsTimesAround events.now step.now }
+    requires step { NewsCutsAround events.now step.now }
     ensures { IfOk result (λ v. AreNewsRising events.now step.now.place v.items) }
 {
     let mut places = Vec::new(alloc);
-    for by in 0..16 {
+    for by in 0..processors {
         add_news(&mut places, events, index, step, by)?;
     }
     places.sort_unstable();
     Ok(places)
 }
 
-/// Of each event its news, where the clocks tell nothing so far.
+/// Of each event its news, where the cuts tell nothing so far.
 fn all_news(
     alloc: Global,
-    clocks: &mut EventClocks,
+    cuts: &mut Cuts,
     events: &[Event],
     index: &Index,
+    processors: usize,
 ) -> Result<Vec<Vec<usize>>, AllocError>
     requires few { length events.now ≤ most_in_sized_history }
-    requires processors { EventProcessorsInRange clocks.old.present events.now }
-    requires start { AreClocks [] clocks.old }
+    requires present { cuts.old.present ≡ processors }
+    requires processors { EventProcessorsInRange processors events.now }
+    requires start { AreCuts [] cuts.old }
     requires index { IsIndex events.now index.now }
     ensures long { IfOk result (λ v. vec_len v ≡ length events.now) }
     ensures news { IfOk result (λ v. AreIncomingNews events.now v.items) }
 {
     let mut rows = Vec::with_capacity(alloc, events.len())?;
     for place in 0..events.len() {
-        let step = next_step(clocks, events, place)?;
-        rows.push(news(alloc, events, index, &step)?)?;
+        let step = next_step(cuts, events, place)?;
+        rows.push(news(alloc, events, index, &step, processors)?)?;
     }
     Ok(rows)
 }
@@ -113,7 +123,8 @@ pub fn incoming_news(alloc: Global, history: &History<'_>) -> Result<Vec<Vec<usi
     ensures news { IfOk result (λ v. AreIncomingNews history.now.events v.items) }
 {
     let events = history.events();
+    let processors = history.sizes().processors;
     let index = index_of(alloc, events)?;
-    let mut clocks = EventClocks::new(alloc, history.sizes().processors)?;
-    all_news(alloc, &mut clocks, events, &index)
+    let mut cuts = Cuts::new(alloc, processors)?;
+    all_news(alloc, &mut cuts, events, &index, processors)
 }

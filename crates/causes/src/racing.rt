@@ -8,7 +8,6 @@ ghost use Rattle.judge.specs.Prelude.{most_in_sized_history};
 ghost use Rattle.causes.specs.Prelude.{IsHeardAtRace};
 
 use crate::heard::heard;
-use journal::first_race_of;
 use judge::History;
 use std::alloc::{AllocError, Global};
 
@@ -25,17 +24,16 @@ pub struct FirstRace {
 }
 
 /// The first race of the history: the pair with the least second place and, among these, the least first one, as
-/// `journal::first_race_of` answers it, and the last event of the first one's processor that the second one's processor had
+/// `History::first_race` answers it, and the last event of the first one's processor that the second one's processor had
 /// heard of. None where there is no race. The only error is running out of memory.
 ///
-/// It takes time as `Journal::first_race` does.
+/// It takes time and memory as `History::first_race` does.
 pub fn race(alloc: Global, history: &History<'_>) -> Result<Option<FirstRace>, AllocError>
     ensures { IfOk result (λ o. MatchOption o (RaceFree history.now.events) (IsHeardAtRace history.now.events)) }
 {
     let events = history.events();
     let processors = history.sizes().processors;
-    let Some((first, second)) = first_race_of(alloc, processors, history.addresses(), events)?
-    else {
+    let Some((first, second)) = history.first_race(alloc)? else {
         return Ok(None);
     };
     let by = events[first].processor;

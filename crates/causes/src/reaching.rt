@@ -1,25 +1,21 @@
 //! Which event of a processor is the first that an event reaches.
 ghost use Rattle.std.specs.Prelude.{◌↔◌, ◌<◌, ◌≤◌, IsTrue, IfOk, length};
-ghost use Rattle.base.specs.Prelude.{most_processors};
 ghost use Rattle.journal.specs.Pasts.{UpTo};
+ghost use Rattle.judge.specs.Prelude.{most_judged_processors};
 ghost use Rattle.causes.specs.Prelude.{PathEntryIfAny, IsPathLookup};
 
-use crate::taking_events::{
-    Taking, first_taking_event_above, taking_event_numbers, taking_events_of,
-};
+use crate::taking_events::{Taking, first_taking_event_above, taking_events_of};
 use journal::Event;
 use judge::History;
 use std::alloc::{AllocError, Global};
 
 /// What is looked up of a history to tell which events one reaches: happens before, or is.
 ///
-/// Vector timestamps (Mattern 1989; Fidge 1988) tell of each processor which of its events is the first one that an
-/// event reaches.
+/// What a processor knows of the others after each of its events that take (`judge::Cuts`) tells which of its events is the first
+/// one that an event reaches.
 #[derive(Drop)]
 pub(crate) struct Reach {
-    /// Of each event, how many intervals its processor had closed before it.
-    numbers: Vec<u32>,
-    /// Of each of sixteen processors, its events that take.
+    /// Of each of `judge::MOST_JUDGED_PROCESSORS` processors, its events that take.
     takings: Vec<Vec<Taking>>,
 }
 
@@ -29,23 +25,22 @@ impl Reach {
         ensures { IfOk result (IsPathLookup history.now.events) }
     {
         let events = history.events();
-        let numbers = taking_event_numbers(alloc, events)?;
         let takings = taking_events_of(alloc, history.sizes().processors, events)?;
-        Ok(Reach { numbers, takings })
+        Ok(Reach { takings })
     }
 
     /// The processor's first event that the one at `from` is, or happens before.
     pub(crate) fn first(&self, events: &[Event], from: usize, processor: usize) -> Option<usize>
         requires tells { IsPathLookup events.now self.now }
         requires from { from < length events.now }
-        requires processor { processor < most_processors }
+        requires processor { processor < most_judged_processors }
         ensures { PathEntryIfAny events.now from processor result }
     {
         let by = events[from].processor;
         if by == processor {
             return Some(from);
         }
-        first_taking_event_above(&self.takings[processor], by, self.numbers[from])
+        first_taking_event_above(&self.takings[processor], by, from)
     }
 
     /// Whether the event at `from` is the one at this place, or happens before it.

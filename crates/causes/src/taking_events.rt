@@ -1,23 +1,22 @@
-//! Of each processor, the events that take, with its timestamps after them; of each event, the number of its interval.
-ghost use Rattle.std.specs.Prelude.{◌≡◌, ◌+◌, ◌<◌, ◌≤◌, IfOk, List, MatchOption, OnOk, cond, length, slice_index};
+//! Of each processor, the events that take, with what it knows after them; of each event, the number of its interval.
+ghost use Rattle.std.specs.Prelude.{◌≡◌, ◌+◌, ◌<◌, ◌≤◌, IfOk, List, MatchOption, OnOk, cond, length, slice_index, take};
 ghost use Rattle.base.specs.InOrderOnce.{InOrder};
-ghost use Rattle.base.specs.Prelude.{most_processors};
 ghost use Rattle.journal.specs.declared.event.Event.{Event};
 ghost use Rattle.journal.specs.Prelude.{EventProcessorsInRange, event_closes, event_takes};
-ghost use Rattle.judge.specs.Prelude.{most_in_sized_history};
-ghost use Rattle.causes.specs.Prelude.{AreAllTakingEvents, AreTakingEventNumbers, IsFirstTakingEventAbove, NewsTimesAround, NoTakingEventAbove};
+ghost use Rattle.judge.specs.Prelude.{most_in_sized_history, most_judged_processors};
+ghost use Rattle.causes.specs.Prelude.{AreAllTakingEvents, AreTakingEventNumbers, IsFirstTakingEventAbove, NewsCutsAround, NoTakingEventAbove};
 
 use crate::index::is_index_closing;
 use crate::step::{Step, next_step};
-use base::MOST_PROCESSORS;
-use journal::{Clock, Event, EventClocks, Kind};
+use journal::{Event, Kind};
+use judge::{Cut, Cuts, MOST_JUDGED_PROCESSORS};
 use std::alloc::{AllocError, Global};
 
-/// An event that takes: where it stands, and its processor's timestamp after it.
+/// An event that takes: where it stands, and its processor's cut after it, with as many entries as there are processors.
 #[derive(Drop)]
 pub(crate) struct Taking {
     pub(crate) place: usize,
-    pub(crate) after: Clock,
+    pub(crate) after: Vec<u32>,
 }
 
 /// Whether an event of this kind takes.
@@ -40,10 +39,10 @@ fn taking_event_closings(event: Event) -> u32
 /// Of each event, how many intervals its processor had closed before it. The only error is running out of memory.
 pub(crate) fn taking_event_numbers(alloc: Global, events: &[Event]) -> Result<Vec<u32>, AllocError>
     requires few { length events.now ≤ most_in_sized_history }
-    requires processors { EventProcessorsInRange most_processors events.now }
+    requires processors { EventProcessorsInRange most_judged_processors events.now }
     ensures { IfOk result (λ v. AreTakingEventNumbers events.now v.items) }
 {
-    let mut closed = [0; MOST_PROCESSORS];
+    let mut closed = [0; MOST_JUDGED_PROCESSORS];
     let mut numbers = Vec::with_capacity(alloc, events.len())?;
     for place in 0..events.len() {
         let event = events[place];
@@ -54,25 +53,38 @@ pub(crate) fn taking_event_numbers(alloc: Global, events: &[Event]) -> Result<Ve
     Ok(numbers)
 }
 
-/// A row for each of sixteen processors, with nothing in it.
+/// A row for each of `MOST_JUDGED_PROCESSORS` processors, with nothing in it.
 fn no_taking_events(alloc: Global) -> Result<Vec<Vec<Taking>>, AllocError>
     ensures { IfOk result (λ v. (j : List Event) → AreAllTakingEvents j 0 v.items) }
 {
-    let mut takings = Vec::with_capacity(alloc, MOST_PROCESSORS)?;
-    for _ in 0..16_usize {
+    let mut takings = Vec::with_capacity(alloc, MOST_JUDGED_PROCESSORS)?;
+    for _ in 0..MOST_JUDGED_PROCESSORS {
         takings.push(Vec::new(alloc))?;
     }
     Ok(takings)
 }
 
-/// Adds the step's event, where it takes.
+/// The first entries of the cut, so many.
+fn taking_cut(alloc: Global, cut: &Cut, count: usize) -> Result<Vec<u32>, AllocError>
+    requires { count ≤ most_judged_processors }
+    ensures { IfOk result (λ v. v.items ≡ take count cut.now) }
+{
+    let mut entries = Vec::with_capacity(alloc, count)?;
+    entries.extend_from_slice(&cut[..count])?;
+    Ok(entries)
+}
+
+/// Adds the step's event, where it takes, of a history of so many processors.
 fn add_taking_event(
+    alloc: Global,
     takings: &mut Vec<Vec<Taking>>,
     events: &[Event],
+    processors: usize,
     step: &Step,
 ) -> Result<(), AllocError>
-    requires step { NewsTimesAround events.now step.now }
-    requires processors { EventProcessorsInRange most_processors events.now }
+    requires step { NewsCutsAround events.now step.now }
+    requires few_processors { processors ≤ most_judged_processors }
+    requires processors { EventProcessorsInRange processors events.now }
     requires so_far { AreAllTakingEvents events.now step.now.place takings.old.items }
     ensures { OnOk result (AreAllTakingEvents events.now (step.now.place + 1) takings.new.items) }
 {
@@ -82,45 +94,50 @@ fn add_taking_event(
     }
     let taking = Taking {
         place: step.place,
-        after: step.after,
+        after: taking_cut(alloc, &step.after, processors)?,
     };
     takings[event.processor].push(taking)?;
     Ok(())
 }
 
-/// Of each of sixteen processors, its events that take. The only error is running out of memory.
+/// Of each of `MOST_JUDGED_PROCESSORS` processors, its events that take, of a history of so many. The only error is running out of memory.
 pub(crate) fn taking_events_of(
     alloc: Global,
     processors: usize,
     events: &[Event],
 ) -> Result<Vec<Vec<Taking>>, AllocError>
     requires few { length events.now ≤ most_in_sized_history }
-    requires few_processors { processors ≤ most_processors }
+    requires few_processors { processors ≤ most_judged_processors }
     requires processors { EventProcessorsInRange processors events.now }
     ensures { IfOk result (λ v. AreAllTakingEvents events.now (length events.now) v.items) }
 {
-    let mut clocks = EventClocks::new(alloc, processors)?;
+    let mut cuts = Cuts::new(alloc, processors)?;
     let mut takings = no_taking_events(alloc)?;
     for place in 0..events.len() {
-        let step = next_step(&mut clocks, events, place)?;
-        add_taking_event(&mut takings, events, &step)?;
+        let step = next_step(&mut cuts, events, place)?;
+        add_taking_event(alloc, &mut takings, events, processors, &step)?;
     }
     Ok(takings)
 }
 
-/// The place of the first of these events after which the timestamp counts more than this many intervals of the
-/// processor. It is found by halving.
+/// The processor's entry of the cut after the event; 0 where it has none.
+fn known_after_taking(taking: &Taking, processor: usize) -> usize
+    ensures { result ≡ slice_index taking.now.after.items processor }
+{
+    taking.after.get(processor).copied().unwrap_or(0) as usize
+}
+
+/// The place of the first of these events after which the processor's event at this place is known. It is found by halving.
 pub(crate) fn first_taking_event_above(
     takings: &[Taking],
     processor: usize,
-    number: u32,
+    place: usize,
 ) -> Option<usize>
-    requires processor { processor < most_processors }
     requires parted { InOrder
-        (λ x y. slice_index y.after processor ≤ number → slice_index x.after processor ≤ number) takings.now }
-    ensures { MatchOption result (NoTakingEventAbove takings.now processor number) (IsFirstTakingEventAbove takings.now processor number) }
+        (λ x y. slice_index y.after.items processor ≤ place → slice_index x.after.items processor ≤ place) takings.now }
+    ensures { MatchOption result (NoTakingEventAbove takings.now processor place) (IsFirstTakingEventAbove takings.now processor place) }
 {
-    let index = takings.partition_point(|taking| taking.after[processor] <= number);
+    let index = takings.partition_point(|taking| known_after_taking(taking, processor) <= place);
     if index < takings.len() {
         Some(takings[index].place)
     } else {

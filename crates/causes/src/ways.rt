@@ -1,8 +1,8 @@
 //! Ways from one event to another, along edges.
 ghost use Rattle.std.specs.Prelude.{◌≡◌, ◌↔◌, ℕ, ◌<◌, ◌≤◌, IsSome, IsTrue, IfOk, IfSome, MatchOption, length};
-ghost use Rattle.base.specs.Prelude.{most_processors};
 ghost use Rattle.journal.specs.Pasts.{UpTo};
 ghost use Rattle.journal.specs.Prelude.{Edge};
+ghost use Rattle.judge.specs.Prelude.{most_judged_processors};
 ghost use Rattle.causes.specs.Prelude.{ArePathWays, EdgeFromOther, PathEntryIfAny, IsNews, IsPathWay};
 
 use crate::hand_over_lists::hand_overs_by;
@@ -35,7 +35,7 @@ impl Ways {
     pub fn first(&self, events: &[Event], from: usize, processor: usize) -> Option<usize>
         requires tells { ArePathWays events.now self.now }
         requires from { from < length events.now }
-        requires processor { processor < most_processors }
+        requires processor { processor < most_judged_processors }
         ensures { PathEntryIfAny events.now from processor result }
     {
         self.reach.first(events, from, processor)

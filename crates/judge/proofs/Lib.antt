@@ -20,7 +20,9 @@ pub mod TallyRows
 pub mod GapEvents
 pub mod KeepingGaps
 pub mod GapParts
+pub mod TellingCuts
 pub mod NearestRaceSteps
+pub mod FirstRaces
 pub mod DecidedOrder
 pub mod Flattening
 pub mod FlatAnswers

@@ -18,7 +18,7 @@ use Rattle.journal.proofs.Order.HappensBefore.{happens_before_longer, happens_be
 use Rattle.journal.proofs.Passes.NextRaces.{next_race_events}
 use Rattle.judge.specs.Cuts.{IsCutOf}
 use Rattle.judge.specs.NearestRaces.{AreNearestRaceAccesses, IsNearestRaceAccess, IsNearestRaceAccessOf, IsNearestRaceLastUnknown, IsNearestRace, IsNearestRaceTo, IsNearestRaceUnknown, SomeNearestRaceUnknown, is_nearest_race_access, is_nearest_race_store, nearest_race_row}
-use Rattle.judge.proofs.cuts.TellingCuts.{cut_tells_race}
+use Rattle.judge.proofs.TellingCuts.{cut_tells_race}
 use Rattle.judge.specs.declared.sparse_table.SparseTable.{SparseTable}
 use Rattle.judge.specs.SparseTables.{IsSparseWith, sparse_at}
 

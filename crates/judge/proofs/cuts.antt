@@ -4,4 +4,3 @@ pub mod PushedCuts
 pub mod KeptCuts
 pub mod FirstCuts
 pub mod NextCuts
-pub mod TellingCuts

@@ -21,6 +21,11 @@ abbrev pub IsNearestRaceTo : List Event → Event → Option ℕ → Type 0
 IsNearestRaceTo j e o = MatchOption o ((i : ℕ) → ¬ Race (j ++ e ∷ []) i (length j))
     (λ i. Race (j ++ e ∷ []) i (length j) × ((m : ℕ) → Race (j ++ e ∷ []) m (length j) → m ≤ i))
 
+-- and this is the first one
+abbrev pub IsFirstRaceTo : List Event → Event → Option ℕ → Type 0
+IsFirstRaceTo j e o = MatchOption o ((i : ℕ) → ¬ Race (j ++ e ∷ []) i (length j))
+    (λ i. Race (j ++ e ∷ []) i (length j) × ((m : ℕ) → Race (j ++ e ∷ []) m (length j) → i ≤ m))
+
 -- a store to a
 abbrev pub is_nearest_race_store : ℕ → Kind → Bool
 is_nearest_race_store a (Store b v) = b == a

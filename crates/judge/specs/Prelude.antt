@@ -12,7 +12,7 @@ pub use Rattle.judge.specs.Models.{ExplainedUnderModel, IsFlatModelWord, IsModel
 pub use Rattle.judge.specs.CutEntries.{CutEntriesJoinedAt, CutEntriesMarkedAt}
 pub use Rattle.judge.specs.NumberedCuts.{numbered_cut_at}
 pub use Rattle.judge.specs.Cuts.{AreCuts, CutsAfterArrival, IsCutOf}
-pub use Rattle.judge.specs.NearestRaces.{NearestRaceAccessesAreKept, AreNearestRacesOf, IsNearestRaceLastUnknown, IsNearestRace, IsNearestRaceTo, IsNearestRaceUnknown, nearest_race_row}
+pub use Rattle.judge.specs.NearestRaces.{NearestRaceAccessesAreKept, AreNearestRacesOf, IsFirstRaceTo, IsNearestRaceLastUnknown, IsNearestRace, IsNearestRaceTo, IsNearestRaceUnknown, nearest_race_row}
 pub use Rattle.judge.specs.LastFlatStores.{HasLastFlatStores, KeepsLastFlatStore}
 pub use Rattle.judge.specs.Owed.{AreOwedBy, IsOwedRacy, PermitsOwed}
 pub use Rattle.judge.specs.SizedHistory.{IsHistoryInSizes, IsSizedHistoryOfJournal, IsHistoryOfSizes, IsSizedHistory, most_in_sized_history, whole_sized_history}

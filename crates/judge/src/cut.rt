@@ -10,7 +10,7 @@ use std::collections::{BTreeMap, VecDeque};
 
 /// Of each processor, the place up to which its events are known: one more than that of the last one, 0 where there is
 /// none. So an entry is at most the number of events, at most 2^31 - 1.
-pub(crate) type Cut = [u32; MOST_JUDGED_PROCESSORS];
+pub type Cut = [u32; MOST_JUDGED_PROCESSORS];
 
 /// As many cuts, all zeros. The only error is running out of memory.
 pub(crate) fn zero_cuts(alloc: Global, count: usize) -> Result<Vec<Cut>, AllocError>

@@ -19,7 +19,7 @@ use std::collections::VecDeque;
 /// A processor's own entry in its cut is of use only where it hands on what it knows, so it is written there alone, and
 /// accesses change no cut. It takes memory in the order of the locks, flags and open episodes, however long the history is.
 #[derive(Drop)]
-pub(crate) struct Cuts {
+pub struct Cuts {
     processors: Vec<Cut>,
     locks: NumberedCuts,
     flags: NumberedCuts,
@@ -73,7 +73,7 @@ fn take_cut(
 
 impl Cuts {
     /// What this many processors know before the first event. The only error is running out of memory.
-    pub(crate) fn new(alloc: Global, processors: usize) -> Result<Cuts, AllocError>
+    pub fn new(alloc: Global, processors: usize) -> Result<Cuts, AllocError>
         requires { processors ≤ most_judged_processors }
         ensures cuts { IfOk result (AreCuts []) }
         ensures present { IfOk result (λ c. c.present ≡ processors) }
@@ -91,8 +91,9 @@ impl Cuts {
         })
     }
 
-    /// What the processor knows of the others.
-    pub(crate) fn of(&self, processor: usize) -> &Cut
+    /// What the processor knows of the others: of each, the place up to which its events are known. The processor's own entry
+    /// tells nothing.
+    pub fn of(&self, processor: usize) -> &Cut
         requires { processor < vec_len self.now.processors }
         ensures { (q : ℕ) → slice_index result.now q ≡ entry self.now.processors.items processor q }
     {
@@ -213,7 +214,7 @@ impl Cuts {
 
     /// Takes note of the event, which comes next. The only error is running out of memory, after which the cuts may be
     /// those of no history.
-    pub(crate) fn note(&mut self, event: Event) -> Result<(), AllocError>
+    pub fn note(&mut self, event: Event) -> Result<(), AllocError>
         requires few { self.old.place < most_judged_events }
         requires processor { event.processor < self.old.present }
         requires so_far { (j : List Event) × AreCuts j self.old }

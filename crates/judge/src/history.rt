@@ -6,9 +6,10 @@ ghost use Rattle.journal.specs.Prelude.{EventAddressesInRange, IsFirstRace, Even
 ghost use Rattle.judge.specs.Prelude.{AreJudgedSizes, IsHistoryInSizes, IsSizedHistoryOfJournal, IsHistoryOfSizes, IsSizedHistory};
 ghost use Rattle.judge.specs.Prelude.{most_in_sized_history, judged_sizes_of, whole_sized_history};
 
+use crate::nearest_races::NearestRaces;
 use crate::sizes::Sizes;
 use base::MOST_HELD;
-use journal::{Event, Journal, first_race_of};
+use journal::{Event, Journal};
 use std::alloc::{AllocError, Global};
 use std::marker::Model;
 
@@ -137,16 +138,24 @@ impl<'a> History<'a> {
         let events = self.events;
         &events[self.opening..]
     }
-    /// The first race, as `journal::first_race_of` answers it. The only error is running out of memory.
+
+    /// The first race: the pair with the least second place and, among these, the least first one; None if there is none. The only
+    /// error is running out of memory.
+    ///
+    /// An access takes time in the order of the processors. It takes memory as `NearestRaces` does.
     pub fn first_race(&self, alloc: Global) -> Result<Option<(usize, usize)>, AllocError>
         ensures { IfOk result (λ o. MatchOption o (RaceFree self.now.events)
             (λ r. IsFirstRace self.now.events r.0 r.1)) }
     {
-        first_race_of(
-            alloc,
-            self.sizes.processors,
-            self.addresses(),
-            self.events(),
-        )
+        let events = self.events();
+        let mut races = NearestRaces::new(alloc, self.sizes.processors, self.addresses())?;
+        for place in 0..events.len() {
+            let event = events[place];
+            if let Some(first) = races.first(&events[..place], event) {
+                return Ok(Some((first, place)));
+            }
+            races.note(event)?;
+        }
+        Ok(None)
     }
 }

@@ -49,6 +49,8 @@ mod stored_counts;
 mod stored_steps;
 mod why;
 
+pub use cut::Cut;
+pub use cuts::Cuts;
 pub use due_counts::DueCounts;
 pub use flat_memory::{FlatMemory, FlatStore};
 pub use frontier::Frontier;

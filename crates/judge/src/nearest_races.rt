@@ -1,9 +1,9 @@
 //! The race that is nearest to an event.
-ghost use Rattle.std.specs.Prelude.{◌≡◌, ◌↔◌, ◌⊎◌, ℕ, ◌+◌, ◌-◌, ◌*◌, ◌<◌, ◌≤◌, ◌^◌, [], ◌∷◌, ◌++◌, IfOk, IfSome, OnOk, List};
+ghost use Rattle.std.specs.Prelude.{◌≡◌, ◌≢◌, ◌↔◌, ◌⊎◌, IsTrue, ℕ, ◌+◌, ◌-◌, ◌*◌, ◌<◌, ◌≤◌, ◌^◌, [], ◌∷◌, ◌++◌, IfOk, IfSome, OnOk, List};
 ghost use Rattle.std.specs.Prelude.{Some, slice_index};
 ghost use Rattle.journal.specs.declared.event.Event.{Event};
-ghost use Rattle.journal.specs.Prelude.{EventAddressInRange};
-ghost use Rattle.judge.specs.Prelude.{NearestRaceAccessesAreKept, AreNearestRacesOf, IsNearestRaceLastUnknown, IsNearestRaceTo, IsSparse, IsNearestRaceUnknown};
+ghost use Rattle.journal.specs.Prelude.{Conflict, EventAddressInRange, EventProcessorsInRange};
+ghost use Rattle.judge.specs.Prelude.{NearestRaceAccessesAreKept, AreNearestRacesOf, IsCutOf, IsFirstRaceTo, IsNearestRaceLastUnknown, IsNearestRaceTo, IsSparse, IsNearestRaceUnknown};
 ghost use Rattle.judge.specs.Prelude.{most_judged_events, most_judged_processors, nearest_race_row, sparse_at};
 
 use crate::cut::Cut;
@@ -86,6 +86,33 @@ fn nearest_race_in_row(
     nearest
 }
 
+/// Whether the two accesses conflict: whether they are of one address and by two processors, and one of them stores.
+fn is_nearest_race_conflict(first: Event, second: Event) -> bool
+    ensures { IsTrue result ↔ ((first.processor ≢ second.processor) × Conflict first second) }
+{
+    let conflicts = match (first.kind, second.kind) {
+        (Kind::Load(a, _), Kind::Store(b, _)) => a == b,
+        (Kind::Store(a, _), Kind::Load(b, _) | Kind::Store(b, _)) => a == b,
+        _ => false,
+    };
+    conflicts && first.processor != second.processor
+}
+
+/// The first of the events that races with this one, which comes next and whose processor has this cut.
+fn first_race_to(events: &[Event], event: Event, cut: &Cut) -> Option<usize>
+    requires few { EventProcessorsInRange most_judged_processors events.now }
+    requires cut { IsCutOf events.now event.processor (slice_index cut.now) }
+    ensures { IsFirstRaceTo events.now event result }
+{
+    for place in 0..events.len() {
+        let earlier = events[place];
+        if is_nearest_race_conflict(earlier, event) && place >= cut[earlier.processor] as usize {
+            return Some(place);
+        }
+    }
+    None
+}
+
 impl NearestRaces {
     /// Before the first event, of a history of `processors` processors, at most `MOST_JUDGED_PROCESSORS`, and `addresses`
     /// addresses. The only error is running out of memory.
@@ -151,6 +178,20 @@ impl NearestRaces {
             }
             _ => None,
         }
+    }
+
+    /// The place of the first event that races with this one, which comes next behind these; None where none does. The events are
+    /// only gone through if one of them does, else it takes time in the order of the processors.
+    pub fn first(&self, events: &[Event], event: Event) -> Option<usize>
+        requires tells { AreNearestRacesOf events.now self.now }
+        requires processor { event.processor < self.now.processors }
+        requires address { EventAddressInRange self.now.addresses event.kind }
+        ensures { IsFirstRaceTo events.now event result }
+    {
+        if self.nearest(event).is_none() {
+            return None;
+        }
+        first_race_to(events, event, self.cuts.of(event.processor))
     }
 
     /// Keeps the place of the event, which comes next, if it is an access. The only error is running out of memory.

@@ -1,5 +1,5 @@
 -- Traces that are judged as they are read.
-use Rattle.std.proofs.Common.{◌≡◌, ℕ, List, true≢false, [], ◌∷◌, ◌++◌, Option, Some, drop, length, take, subst, sym, refl, ap, ◌∙◌, append_assoc, arith, length-append}
+use Rattle.std.proofs.Common.{◌≡◌, ℕ, ◌≤◌, List, true≢false, [], ◌∷◌, ◌++◌, Option, Some, drop, length, take, subst, sym, refl, ap, ◌∙◌, append_assoc, arith, length-append}
 use Rattle.std.specs.Prelude.{None, IfSome, MatchOption}
 use Rattle.std.proofs.lemmas.List.{take-append-drop}
 use Rattle.std.proofs.lemmas.Option.{get_or_from_slice_get, none-some, same_Some, slice_get_within}
@@ -7,7 +7,7 @@ use Rattle.std.proofs.Math.Seq.{take-append_seam}
 use Rattle.journal.specs.declared.event.Event.{Event}
 use Rattle.journal.specs.EventsInRange.{EventProcessorsInRange}
 use Rattle.journal.specs.Races.{Race}
-use Rattle.judge.specs.JudgedSizes.{AreStreamedSizes, judged_sizes_of}
+use Rattle.judge.specs.JudgedSizes.{AreStreamedSizes, judged_sizes_of, most_judged_processors}
 use Rattle.lrc_check.specs.declared.checked.Checked.{Checked}
 use Rattle.lrc_check.specs.declared.checked.Rules.{Rules}
 use Rattle.lrc_check.specs.declared.history_judge.HistoryJudge.{HistoryJudge}
@@ -175,6 +175,12 @@ stream_processors known sizes gone front es is none trace k e at =
     let within = subst (IsWithinLawfulTrace (trace_sizes_of known)) (get_or_from_slice_get es k e e at)
     (lawful.events k e (slice_get_within es k e at)) in
     within.processor
+
+-- and it has no more processors than a history that is judged as it comes
+pub stream_few_processors : (known : TraceSizes) (sizes : Option TraceSizes) (gone : ℕ) (front es : List Event) → sizes ≡ Some known
+    → IsTraceSoFar sizes gone front es → known.processors ≤ most_judged_processors
+stream_few_processors known sizes gone front es is trace =
+    (stream_trace known sizes gone front es is trace).sizes.streamed.processors
 
 -- the race that was found is one of the events that were read
 pub stream_race : (x : TraceStream) {front : List Event} (found : Checked) → IsFoundInStream front found x

@@ -17,7 +17,7 @@ pub record IsHeldTrace (s : Sizes) (j : List Event) : Type 0 where
   pub trace : IsLawfulTrace s j
   pub few : IsFewForHeldTrace s j
 
--- what keeps the race's accesses apart, if there is one: it is told of a trace with no more than that
+-- what keeps the race's accesses apart, if there is one: it is told of a trace with no more events than a journal holds
 abbrev pub IsTraceRaceApart : Sizes → List Event → Option (ℕ × ℕ) → Option RaceApart → Type 0
 IsTraceRaceApart s j race apart = MatchOption race (apart ≡ None)
-    (λ r. MatchOption apart (¬ IsFewForHeldTrace s j) (IsRaceApart s.locks j r.0 r.1))
+    (λ r. MatchOption apart (¬ (length j ≤ most_held)) (IsRaceApart s.locks j r.0 r.1))

@@ -12,17 +12,18 @@ use crate::check_fault::CheckFault;
 use crate::checked::{Checked, Rules};
 use crate::history_judge::judge_whole_history;
 use crate::told_events::ToldEvents;
-use crate::trace_history::{can_trace_be_held, trace_history_sizes};
+use crate::trace_history::trace_history_sizes;
 use crate::traces::trace::{LabelledTrace, Trace, TraceSizes, read};
 use crate::verdict_text::verdict_text_of;
+use base::MOST_HELD;
 use causes::{RaceApart, race_accesses_apart};
 use judge::locksets::Unprotected;
 use lrc_report::render::OutFault;
 use std::alloc::{AllocError, Global};
 use std::io::Write;
 
-/// What keeps the accesses of this race of the trace apart; None where no race was found, or if the trace is too large to
-/// tell it of.
+/// What keeps the accesses of this race of the trace apart; None where no race was found, or if the trace has more than `MOST_HELD`
+/// events.
 fn checked_trace_race_apart(
     alloc: Global,
     trace: &Trace,
@@ -35,7 +36,7 @@ fn checked_trace_race_apart(
     let Some(race) = race else {
         return Ok(None);
     };
-    if !can_trace_be_held(trace) {
+    if trace.events.len() > MOST_HELD {
         return Ok(None);
     }
     let TraceSizes {
@@ -64,7 +65,8 @@ fn write_checked_trace_text<W: Write>(out: &mut W, bytes: &[u8]) -> Result<(), O
 #[derive(Drop)]
 pub struct JudgedTrace {
     pub found: Checked,
-    /// What keeps the race's accesses apart; None where no race was found, or if the trace isn't one that `can_trace_be_held`.
+    /// What keeps the race's accesses apart; None where no race was found, if the trace has more than `MOST_HELD` events, or if not
+    /// all of them are at hand.
     pub race: Option<RaceApart>,
     /// By rising address the words that need a lock and have none, those that were asked for, if the trace is faithful and has
     /// no race; empty otherwise.

@@ -14,7 +14,7 @@ use crate::trace_history::trace_history_sizes;
 use crate::traces::fault::TraceFault;
 use crate::traces::reader::Reader;
 use crate::verdict_text::{AnswersTold, verdict_text_answers};
-use base::{MOST_HELD, MOST_PROCESSORS};
+use base::MOST_HELD;
 use causes::{RaceApart, race_accesses_apart};
 use journal::{Event, Kind};
 use judge::FlatStore;
@@ -198,8 +198,8 @@ impl TraceStream {
         }
     }
 
-    /// What keeps the accesses of this race apart, if all events are at hand and the trace is one that `can_trace_be_held`. The
-    /// only error is running out of memory.
+    /// What keeps the accesses of this race apart, if all events are at hand and no more than `MOST_HELD`. The only error is running
+    /// out of memory.
     fn race_apart(
         &self,
         alloc: Global,
@@ -214,10 +214,7 @@ impl TraceStream {
             return Ok(None);
         };
         let events = self.reader.events();
-        if self.reader.gone() > 0
-            || sizes.processors > MOST_PROCESSORS
-            || events.len() > MOST_HELD
-        {
+        if self.reader.gone() > 0 || events.len() > MOST_HELD {
             return Ok(None);
         }
         let apart = race_accesses_apart(alloc, sizes.processors, sizes.locks, events, race)?;
@@ -256,8 +253,8 @@ impl TraceStream {
         }
     }
 
-    /// What was found, as it is told: with what keeps the race's accesses apart, if all events are at hand and the trace is one
-    /// that `can_trace_be_held`, and with the words that need a lock and have none, if these are asked for and it is faithful
+    /// What was found, as it is told: with what keeps the race's accesses apart, if all events are at hand and no more than
+    /// `MOST_HELD`, and with the words that need a lock and have none, if these are asked for and it is faithful
     /// without a race. The only error is running out of memory.
     pub fn judged(&mut self, alloc: Global, found: Checked) -> Result<JudgedTrace, AllocError>
         requires { (front : List AnEvent) × IsFoundInStream front found self.old }

@@ -3,9 +3,20 @@ use Rattle.std.proofs.Common.{◌≡◌, ◌+◌, ℕ, inl, inr, List, [], ◌�
 use Rattle.base.proofs.SlicesAndCounts.{slice_push_cases}
 use Rattle.journal.specs.declared.event.Event.{Event}
 use Rattle.journal.specs.Events.{EventAt}
-use Rattle.journal.specs.Times.{IsTimeOf}
+use Rattle.journal.specs.Times.{IsTimeIn, IsTimeOf}
 use Rattle.journal.proofs.Order.EventPlacesAndCounts.{event_place_same}
 use Rattle.lrc_picture.specs.Timestamps.{ArePictureTimestampsAfter}
+
+-- a timestamp with the same entries
+pub drawn_timestamps_same : (j : List Event) (among : ℕ → Type 0) (t u : ℕ → ℕ) → ((q : ℕ) → u q ≡ t q) → IsTimeIn j among t
+    → IsTimeIn j among u
+drawn_timestamps_same j among t u same time = record {
+  covers = λ q i x.
+      (let c = time.covers q i x in
+      let is = same q in
+      ((λ h. (let lt = c.0 h in omega arith)), λ lt. c.1 (omega arith)));
+  within = λ q. (let le = time.within q in let is = same q in omega arith);
+}
 
 -- an event's timestamp more
 pub drawn_timestamps_next : (j : List Event) (times : List (List ℕ)) (k : ℕ) (t : List ℕ) (e : Event) → length times ≡ k

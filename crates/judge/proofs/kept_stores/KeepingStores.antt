@@ -21,7 +21,7 @@ use Rattle.judge.specs.KeptStores.{AreKeptStores, HasKeptStoreAt, IsCutBefore, I
 use Rattle.judge.specs.SparseTables.{IsSparseRowWith, sparse_at, sparse_items, sparse_row}
 use Rattle.judge.specs.StoresInPasts.{MayBeAnsweredLater}
 use Rattle.judge.proofs.NearestRaceSteps.{nearest_race_row_one}
-use Rattle.judge.proofs.cuts.TellingCuts.{cut_tells_happens_before}
+use Rattle.judge.proofs.TellingCuts.{cut_tells_happens_before}
 use Rattle.judge.specs.MovedCuts.{KeepsCuts}
 
 -- ---- what may be answered later

@@ -7,7 +7,7 @@ use Rattle.journal.specs.declared.event.Event.{Event}
 use Rattle.journal.specs.ClockEntry.{entry}
 use Rattle.judge.specs.Cuts.{IsCutOf}
 use Rattle.judge.specs.MovedCuts.{KeepsCuts}
-use Rattle.judge.proofs.cuts.TellingCuts.{cut_of_equal}
+use Rattle.judge.proofs.TellingCuts.{cut_of_equal}
 
 -- one cut more
 pub keeping_cut_pushed : (cuts : List (List ℕ)) (t : List ℕ) → KeepsCuts cuts (cuts ++ t ∷ [])

@@ -25,7 +25,7 @@ use Rattle.judge.specs.Locksets.Held.{AreHeldLocks, HasHeldLock, HeldLocksShare}
 use Rattle.judge.specs.Locksets.Pairs.{IsGuardedPair, IsPairLockHeld, IsPairedAccess, IsUnguardedPair, IsPairToLock, TellsGuardedPair, TellsUnguardedPair}
 use Rattle.judge.specs.Locksets.Watched.{AreWatchedRacing, AreWatchedAccesses, IsWatchedNext, HasWatchedStandIn}
 use Rattle.judge.specs.Locksets.Watched.{IsWatchedGuarded, IsWatchedGuardedWith, IsWatchCandidate, IsWatchedUnguarded, IsWatchedUnguardedWith, IsWatchedAccess, paired_access}
-use Rattle.judge.proofs.cuts.TellingCuts.{cut_tells_race_at}
+use Rattle.judge.proofs.TellingCuts.{cut_tells_race_at}
 use Rattle.judge.proofs.locksets.WithoutLocks.{without_locks_address, without_locks_at, without_locks_store, without_locks_stood, WithoutLocksStoodAt}
 
 -- the address of a race is that of its first event

@@ -1,7 +1,7 @@
 -- The rows of a history, as it goes on.
 use Rattle.std.proofs.Common.{◌≡◌, ◌≢◌, ℕ, ◌<◌, inl, inr, ◌↔◌, List, [], ◌∷◌, ◌++◌, length, take, drop, Option, Some, slice_get, subst, sym, refl, ap, ◌∙◌, suc, take-append-drop, arith}
-use Rattle.std.specs.Prelude.{None}
-use Rattle.std.proofs.lemmas.Option.{none-some, same_Some, slice_get_within}
+use Rattle.std.specs.Prelude.{None, map, option_map}
+use Rattle.std.proofs.lemmas.Option.{none-some, same_Some, slice_get-map}
 use Rattle.std.proofs.lemmas.List.{length-take-le}
 use Rattle.base.specs.InOrderOnce.{Has, InOrder}
 use Rattle.base.proofs.SlicesAndCounts.{slice_push_cases, slice_get-append_left, slice_get-last, slice_take-suc_at}
@@ -13,7 +13,13 @@ use Rattle.journal.specs.HappensBeforeEdges.{HappensBefore}
 use Rattle.journal.specs.WellFormed.{Does}
 use Rattle.journal.proofs.Order.EventPlacesAndCounts.{event_place_inside, event_place_longer, event_place_shorter, event_place_at_end, event_place_same}
 use Rattle.journal.proofs.Order.HappensBefore.{happens_before_begins_within, happens_before_goes_forward, happens_before_longer, happens_before_shorter}
-use Rattle.judge.specs.Sources.Latest.{IsLatest, AreLatest, IsLatestRow, AreLatestMarked}
+use Rattle.judge.specs.declared.flat_memory.FlatStore.{FlatStore}
+use Rattle.judge.specs.PermittedStores.{AreLatestStores, IsLatestStore}
+use Rattle.judge.specs.Sources.Latest.{IsLatest, AreLatest, IsLatestRow}
+
+-- the place of a store
+abbrev pub load_row_place : FlatStore → ℕ
+load_row_place x = x.place
 
 -- what a load may answer stays as the journal goes on
 pub load_row_latest_longer : (j es : List Event) (k a q i : ℕ) → k < length j → IsLatest j k a q i
@@ -95,38 +101,68 @@ load_row_in_front events k e places at row =
     subst (λ n. IsLatestRow events n places) long
     (subst (λ xs. IsLatestRow xs (length (take k events)) places) split whole)
 
--- marks of the latest stores by processor make the row of a load
-pub load_row_of_marks : (j : List Event) (p a v : ℕ) (marks : List (Option ℕ)) (places : List ℕ)
-    → ((q i : ℕ) → (slice_get marks q ≡ Some (Some i)) ↔ IsLatest (j ++ event p (Load a v) ∷ []) (length j) a q i)
-    → AreLatestMarked marks places → IsLatestRow (j ++ event p (Load a v) ∷ []) (length j) places
-load_row_of_marks j p a v marks places tells are = record { loads = loads; others = others }
+-- what stands at a place of the places of stores is that of the store there
+load_row_place_of : (stores : List FlatStore) (n i : ℕ) → slice_get (map load_row_place stores) n ≡ Some i
+    → (x : FlatStore) × (slice_get stores n ≡ Some x) × (x.place ≡ i)
+load_row_place_of stores n i at = go (slice_get stores n) refl
   where
-    e : Event
-    e = event p (Load a v)
+    go : (o : Option FlatStore) → slice_get stores n ≡ o → (x : FlatStore) × (slice_get stores n ≡ Some x) × (x.place ≡ i)
+    go None none = absurd (none-some i (sym (slice_get-map load_row_place stores n ∙ ap (option_map load_row_place) none) ∙ at))
+    go (Some x) some =
+        (x, some, same_Some x.place i (sym (slice_get-map load_row_place stores n ∙ ap (option_map load_row_place) some) ∙ at))
 
-    here : AreLatest (j ++ event p (Load a v) ∷ []) (length j) a places
+-- the places of the latest stores are the row of a load
+pub load_row_of_stores : (j : List Event) (p a v : ℕ) (stores : List FlatStore)
+    → AreLatestStores (j ++ event p (Load a v) ∷ []) (length j) a stores
+    → IsLatestRow (j ++ event p (Load a v) ∷ []) (length j) (map load_row_place stores)
+load_row_of_stores j p a v stores are = record { loads = loads; others = others }
+  where
+    now : List Event
+    now = j ++ event p (Load a v) ∷ []
+
+    store_of : (i q : ℕ) → (x : IsLatest now (length j) a q i)
+        → IsLatestStore now (length j) a (record { by = q; place = i; value = x.value })
+    store_of i q x = record {
+      stores = subst (λ r. Does now i r (Store a x.value)) x.by
+          (subst (λ m. Does now m x.store.by (Store a x.value)) x.place x.store.stores);
+      latest = x;
+    }
+
+    here : AreLatest now (length j) a (map load_row_place stores)
     here = record {
       has = λ i. (
-        λ h. (let m = (are.has i).0 h in (m.0, (tells m.0 i).0 m.1)),
-        λ x. (are.has i).1 (x.0, (tells x.0 i).1 x.1),
+        λ h. (let x = load_row_place_of stores h.0 i h.1 in
+            let latest = ((are.has x.0).0 (h.0, x.1)).latest in
+            (x.0.by, subst (λ m. IsLatest now (length j) a x.0.by m) x.2 latest)),
+        λ l. (let h = (are.has (record { by = l.0; place = i; value = l.1.value })).1 (store_of i l.0 l.1) in
+            (h.0, slice_get-map load_row_place stores h.0 ∙ ap (option_map load_row_place) h.1)),
       );
-      order = λ m n i l lt at to. (let x = are.order m n i l lt at to in
-          (x.0, x.1, x.2, (tells x.0 i).0 x.3, (tells x.1 l).0 x.4));
+      order = λ m n i l lt at to.
+          (let x = load_row_place_of stores m i at in
+          let y = load_row_place_of stores n l to in
+          let first = ((are.has x.0).0 (m, x.1)).latest in
+          let second = ((are.has y.0).0 (n, y.1)).latest in (
+            x.0.by,
+            y.0.by,
+            are.order m n x.0 y.0 lt x.1 y.1,
+            subst (λ k. IsLatest now (length j) a x.0.by k) x.2 first,
+            subst (λ k. IsLatest now (length j) a y.0.by k) y.2 second,
+          ));
     }
 
     loads : (r b w : ℕ) → Does (j ++ event p (Load a v) ∷ []) (length j) r (Load b w)
-        → AreLatest (j ++ event p (Load a v) ∷ []) (length j) b places
+        → AreLatest (j ++ event p (Load a v) ∷ []) (length j) b (map load_row_place stores)
     loads r b w does =
         let same =
         event_place_same (j ++ event p (Load a v) ∷ []) (length j) (event p (Load a v)) (event r (Load b w))
         (event_place_at_end j (event p (Load a v))) does in
         let is : a ≡ b = load_address a b v w (ap (λ x. x.kind) same) in
-        subst (λ x. AreLatest (j ++ event p (Load a v) ∷ []) (length j) x places) is here
+        subst (λ x. AreLatest (j ++ event p (Load a v) ∷ []) (length j) x (map load_row_place stores)) is here
       where
         load_address : (x y u w : ℕ) → Load x u ≡ Load y w → x ≡ y
         load_address x y u w is = cc
 
-    others : ((r b w : ℕ) → ¬ Does (j ++ event p (Load a v) ∷ []) (length j) r (Load b w)) → places ≡ []
+    others : ((r b w : ℕ) → ¬ Does (j ++ event p (Load a v) ∷ []) (length j) r (Load b w)) → map load_row_place stores ≡ []
     others none = absurd (none p a v (event_place_at_end j (event p (Load a v))))
 
 -- an event that is no load has no place
@@ -137,67 +173,3 @@ load_row_others j e isnt = record {
       absurd (isnt a v (ap (λ x. x.kind) same)));
   others = λ none. refl;
 }
-
--- a mark more is a place more
-pub load_row_marked_next : (marks : List (Option ℕ)) (places : List ℕ) (i : ℕ) → AreLatestMarked marks places
-    → AreLatestMarked (marks ++ Some i ∷ []) (places ++ i ∷ [])
-load_row_marked_next marks places i are = record { has = λ n. (there n, back n); order = order }
-  where
-    there : (n : ℕ) → Has (places ++ i ∷ []) n → Has (marks ++ Some i ∷ []) (Some n)
-    there n h = elim (slice_push_cases places i h.0 n h.1) [
-      | inl old ↦ (let m = (are.has n).0 (h.0, old.1) in (m.0, kept m.0 (Some n) m.1))
-      | inr new ↦ (length marks, slice_get-last marks (Some i) ∙ ap (λ (x : ℕ). Some (Some x)) new.1)
-    ]
-      where
-        kept : (q : ℕ) (o : Option ℕ) → slice_get marks q ≡ Some o → slice_get (marks ++ Some i ∷ []) q ≡ Some o
-        kept q o at = slice_get-append_left marks (Some i ∷ []) q (slice_get_within marks q o at) ∙ at
-
-    back : (n : ℕ) → Has (marks ++ Some i ∷ []) (Some n) → Has (places ++ i ∷ []) n
-    back n h = elim (slice_push_cases marks (Some i) h.0 (Some n) h.1) [
-      | inl old ↦ (let m = (are.has n).1 (h.0, old.1) in (m.0, kept m.0 n m.1))
-      | inr new ↦ (length places, slice_get-last places i ∙ ap (λ (x : ℕ). Some x) (same_Some i n new.1))
-    ]
-      where
-        kept : (x n : ℕ) → slice_get places x ≡ Some n → slice_get (places ++ i ∷ []) x ≡ Some n
-        kept x n at = slice_get-append_left places (i ∷ []) x (slice_get_within places x n at) ∙ at
-
-    order : InOrder (λ x m. (q r : ℕ) × (q < r) × (slice_get (marks ++ Some i ∷ []) q ≡ Some (Some x))
-        × (slice_get (marks ++ Some i ∷ []) r ≡ Some (Some m))) (places ++ i ∷ [])
-    order x y m n lt at to = elim (slice_push_cases places i y n to) [
-      | inl second ↦ elim (slice_push_cases places i x m at) [
-        | inl first ↦
-            (let o = are.order x y m n lt first.1 second.1 in
-            (o.0, o.1, o.2, kept o.0 (Some m) o.3, kept o.1 (Some n) o.4))
-        | inr new ↦ absurd (omega (arith, second.0, new.0, lt))
-      ]
-      | inr last ↦ elim (slice_push_cases places i x m at) [
-        | inl first ↦
-            (let o = (are.has m).0 (x, first.1) in (
-              o.0,
-              length marks,
-              slice_get_within marks o.0 (Some m) o.1,
-              kept o.0 (Some m) o.1,
-              slice_get-last marks (Some i) ∙ ap (λ (z : ℕ). Some (Some z)) last.1,
-            ))
-        | inr new ↦ absurd (omega (arith, last.0, new.0, lt))
-      ]
-    ]
-      where
-        kept : (q : ℕ) (o : Option ℕ) → slice_get marks q ≡ Some o → slice_get (marks ++ Some i ∷ []) q ≡ Some o
-        kept q o at = slice_get-append_left marks (Some i ∷ []) q (slice_get_within marks q o at) ∙ at
-
--- and without a mark there is none
-pub load_row_marked_none : (marks : List (Option ℕ)) (places : List ℕ) → AreLatestMarked marks places
-    → AreLatestMarked (marks ++ None ∷ []) places
-load_row_marked_none marks places are = record {
-  has = λ n. (
-    λ h. (let m = (are.has n).0 h in (m.0, kept m.0 (Some n) m.1)),
-    λ h. elim (slice_push_cases marks None h.0 (Some n) h.1)
-        [ inl old ↦ (are.has n).1 (h.0, old.1) | inr new ↦ absurd (none-some n new.1) ],
-  );
-  order = λ x y m n lt at to. (let o = are.order x y m n lt at to in
-      (o.0, o.1, o.2, kept o.0 (Some m) o.3, kept o.1 (Some n) o.4));
-}
-  where
-    kept : (q : ℕ) (o : Option ℕ) → slice_get marks q ≡ Some o → slice_get (marks ++ None ∷ []) q ≡ Some o
-    kept q o at = slice_get-append_left marks (None ∷ []) q (slice_get_within marks q o at) ∙ at

@@ -1,5 +1,5 @@
 -- Which stores a load may answer, by processor and place.
-use Rattle.std.specs.Prelude.{ℕ, ◌≡◌, ◌<◌, ◌↔◌, List, [], Option, Some, slice_get}
+use Rattle.std.specs.Prelude.{ℕ, ◌≡◌, ◌<◌, ◌↔◌, List, [], Some, slice_get}
 use Rattle.std.specs.Global.{Vec}
 use Rattle.base.specs.InOrderOnce.{Has, InOrder}
 use Rattle.journal.specs.declared.event.Event.{Event}
@@ -27,9 +27,3 @@ pub record IsLatestRow (j : List Event) (k : ℕ) (places : List ℕ) : Type 0 w
 -- these are the rows of the first places
 abbrev pub AreLatestRows : List Event → List (Vec ℕ) → Type 0
 AreLatestRows j rows = (k : ℕ) (row : Vec ℕ) → slice_get rows k ≡ Some row → IsLatestRow j k row.items
-
--- the marked places, in order
-pub record AreLatestMarked (marks : List (Option ℕ)) (places : List ℕ) : Type 0 where
-  pub has : (i : ℕ) → Has places i ↔ Has marks (Some i)
-  pub order : InOrder (λ i m. (q r : ℕ) × (q < r) × (slice_get marks q ≡ Some (Some i))
-      × (slice_get marks r ≡ Some (Some m))) places

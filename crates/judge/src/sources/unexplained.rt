@@ -1,26 +1,28 @@
 //! Whether the loads of a whole history answer what they may.
-ghost use Rattle.std.specs.Prelude.{◌≡◌, ◌↔◌, ℕ, ◌<◌, ◌≤◌, ◌+◌, ◌∷◌, ◌++◌, [], IsTrue, IfOk, MatchOption, length};
+ghost use Rattle.std.specs.Prelude.{◌≡◌, ◌↔◌, ℕ, ◌<◌, ◌≤◌, ◌+◌, ◌∷◌, ◌++◌, [], IsTrue, IfOk, List, MatchOption, length};
 ghost use Rattle.base.specs.Prelude.{most_held, most_processors};
+ghost use Rattle.journal.specs.declared.event.Event.{Event as AnEvent};
 ghost use Rattle.journal.specs.declared.event.Kind.TheVariants.{Load};
 ghost use Rattle.journal.specs.ExplainedAnswers.{Explained, IsAnswer};
 ghost use Rattle.journal.specs.Prelude.{EventAddressInRange, EventAddressesInRange, EventProcessorsInRange};
-ghost use Rattle.judge.specs.Sources.Prelude.{IsFirstNotLatestAnswer, AreKeptSourcesOf};
+ghost use Rattle.judge.specs.Prelude.{AreKeptStoresOf};
+ghost use Rattle.judge.specs.Sources.Prelude.{IsFirstNotLatestAnswer};
 
 use crate::history::History;
-use crate::sources::readable::ReadableSources;
+use crate::kept_stores::KeptStores;
 use journal::{Event, Kind};
 use std::alloc::{AllocError, Global};
 
-/// Whether the event, which comes after these, answers what it may, if it is a load.
-fn is_explained(sources: &ReadableSources, front: &[Event], event: Event) -> bool
-    requires tells { AreKeptSourcesOf front.now sources.now }
+/// Whether the event, which comes next, answers what it may, if it is a load.
+fn is_explained(sources: &KeptStores, event: Event) -> bool
+    requires tells { (j : List AnEvent) × AreKeptStoresOf j sources.now }
     requires processor { event.processor < sources.now.processors }
     requires address { EventAddressInRange sources.now.addresses event.kind }
-    ensures { IsTrue result ↔ ((a v : ℕ) → event.kind ≡ Load a v
-        → IsAnswer (front.now ++ event ∷ []) (length front.now) a v) }
+    ensures { (j : List AnEvent) → AreKeptStoresOf j sources.now → IsTrue result ↔ ((a v : ℕ) → event.kind ≡ Load a v
+        → IsAnswer (j ++ event ∷ []) (length j) a v) }
 {
     match event.kind {
-        Kind::Load(address, value) => sources.may_answer(front, event.processor, address, value),
+        Kind::Load(address, value) => sources.may_answer(event.processor, address, value),
         _ => true,
     }
 }
@@ -29,18 +31,18 @@ fn is_explained(sources: &ReadableSources, front: &[Event], event: Event) -> boo
 /// 0 where there is none. None where each load answers what it may. The only error is running out of memory.
 ///
 /// It takes time in the order of the events times the processors times (the processors and the logarithm of the
-/// events), and memory as `ReadableSources` does.
+/// events), and memory as `KeptStores` does.
 pub fn first_unexplained(alloc: Global, history: &History<'_>) -> Result<Option<usize>, AllocError>
     ensures { IfOk result (λ o. MatchOption o (Explained history.now.events) (IsFirstNotLatestAnswer history.now.events)) }
 {
     let events = history.events();
-    let mut sources = ReadableSources::new(alloc, history.sizes().processors, history.addresses())?;
+    let mut sources = KeptStores::new(alloc, history.sizes().processors, history.addresses())?;
     for place in 0..events.len() {
-        let front = &events[..place];
-        if !is_explained(&sources, front, events[place]) {
+        let event = events[place];
+        if !is_explained(&sources, event) {
             return Ok(Some(place));
         }
-        sources.note(events, place)?;
+        sources.note(event)?;
     }
     Ok(None)
 }

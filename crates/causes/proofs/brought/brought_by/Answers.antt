@@ -71,4 +71,4 @@ returns c = λ s j looked fetch page.
     record { row = c.index.result.now; row_is = c.index.ensures; place_is = c.index-2.ensures } in
     let closed = brought_store_fetched_closed s j c.args.fetch.now q c.in-Some.store.interval fetch last.under in
     brought_store_last c.index-2.result.now c.in-Some.store from are last c.if-store-fetch.false
-    (looked_up_closing_read looked.index.closings c.requires.by closed read)
+    (looked_up_closing_read looked.index.closings (let lt = c.requires.by in omega arith) closed read)

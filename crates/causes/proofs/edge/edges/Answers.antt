@@ -16,9 +16,9 @@ use Rattle.causes.proofs.edge.edges.Goals.{then-from-to+then-edge_lets_on+in_ok-
 abbrev here : List Event → ℕ → Event
 here events place = slice_index_or events place (event 0 (Load 0 0))
 
--- the processor of an event before the place is one of sixteen
-low : (events : List Event) (place i : ℕ) → i < place → place < length events → EventProcessorsInRange 16 events
-    → (here events i).processor < 16
+-- the processor of an event before the place is one of sixty-four
+low : (events : List Event) (place i : ℕ) → i < place → place < length events → EventProcessorsInRange 64 events
+    → (here events i).processor < 64
 low events place i lt inside range =
     range i (here events i) (slice_get-get_or events i (event 0 (Load 0 0)) (omega arith))
 
@@ -26,12 +26,12 @@ low events place i lt inside range =
 within_here : (j events : List Event) → events ≡ j → (k : ℕ) → k < length j → k < length events
 within_here j events is k lt = subst (λ (xs : List Event). k < length xs) (sym is) lt
 
-sixteen : (n : ℕ) (events : List Event) → n ≤ 16 → EventProcessorsInRange n events → EventProcessorsInRange 16 events
-sixteen n events few range i e at = let lt = range i e at in omega arith
+few_present : (n : ℕ) (events : List Event) → n ≤ 64 → EventProcessorsInRange n events → EventProcessorsInRange 64 events
+few_present n events few range i e at = let lt = range i e at in omega arith
 
 pub loop-i-init : goal.loop-i-init
 loop-i-init c = record {
-  counts = record { long = refl; each = λ q lt. clock_zeros_at 16 q };
+  counts = record { long = refl; each = λ q lt. clock_zeros_at 64 q };
   edges =
       subst (AreLeadingEdgesBelow c.events-events.result.now c.args.place 0) (sym c.new-places.ensures.items)
       (edge_leads_start c.events-events.result.now c.args.place);
@@ -39,12 +39,12 @@ loop-i-init c = record {
 
 pub offset_bounds-arrivals-from : goal.offset_bounds-arrivals-from
 offset_bounds-arrivals-from c =
-    let is = low c.events-events.result.now c.args.place c.loop-i.i c.loop-i-test.true (within_here c.args.history.now.events c.events-events.result.now c.events-events.ensures.value c.args.place c.requires) (sixteen c.args.history.now.sizes.processors c.events-events.result.now c.events-events.ensures.few_processors c.events-events.ensures.processors) in
+    let is = low c.events-events.result.now c.args.place c.loop-i.i c.loop-i-test.true (within_here c.args.history.now.events c.events-events.result.now c.events-events.ensures.value c.args.place c.requires) (few_present c.args.history.now.sizes.processors c.events-events.result.now (let few = c.events-events.ensures.few_processors in omega arith) c.events-events.ensures.processors) in
     omega arith
 
 pub bounds-arrivals-from : goal.bounds-arrivals-from
 bounds-arrivals-from c =
-    low c.events-events.result.now c.args.place c.loop-i.i c.loop-i-test.true (within_here c.args.history.now.events c.events-events.result.now c.events-events.ensures.value c.args.place c.requires) (sixteen c.args.history.now.sizes.processors c.events-events.result.now c.events-events.ensures.few_processors c.events-events.ensures.processors)
+    low c.events-events.result.now c.args.place c.loop-i.i c.loop-i-test.true (within_here c.args.history.now.events c.events-events.result.now c.events-events.ensures.value c.args.place c.requires) (few_present c.args.history.now.sizes.processors c.events-events.result.now (let few = c.events-events.ensures.few_processors in omega arith) c.events-events.ensures.processors)
 
 pub overflow_add-arrivals : goal.overflow_add-arrivals
 overflow_add-arrivals c =
@@ -54,7 +54,7 @@ overflow_add-arrivals c =
     let lt = c.loop-i-test.true in
     let inside = (within_here c.args.history.now.events c.events-events.result.now c.events-events.ensures.value c.args.place c.requires) in
     let small = c.ranges.place.fits in
-    let is = low events c.args.place i lt inside (sixteen c.args.history.now.sizes.processors c.events-events.result.now c.events-events.ensures.few_processors c.events-events.ensures.processors) in
+    let is = low events c.args.place i lt inside (few_present c.args.history.now.sizes.processors c.events-events.result.now (let few = c.events-events.ensures.few_processors in omega arith) c.events-events.ensures.processors) in
     let count = c.loop-i.invariant.counts.each p is in
     let most = edge_leads_count_within event_arrives events i p (omega arith) in
     let one = c.edge_arrivals_of.ensures in
@@ -63,12 +63,12 @@ overflow_add-arrivals c =
 
 pub offset_bounds-arrivals-from-in-loop-i : goal.offset_bounds-arrivals-from-in-loop-i
 offset_bounds-arrivals-from-in-loop-i c =
-    let is = low c.events-events.result.now c.args.place c.loop-i.i c.loop-i-test.true (within_here c.args.history.now.events c.events-events.result.now c.events-events.ensures.value c.args.place c.requires) (sixteen c.args.history.now.sizes.processors c.events-events.result.now c.events-events.ensures.few_processors c.events-events.ensures.processors) in
+    let is = low c.events-events.result.now c.args.place c.loop-i.i c.loop-i-test.true (within_here c.args.history.now.events c.events-events.result.now c.events-events.ensures.value c.args.place c.requires) (few_present c.args.history.now.sizes.processors c.events-events.result.now (let few = c.events-events.ensures.few_processors in omega arith) c.events-events.ensures.processors) in
     omega arith
 
 pub bounds-arrivals-from-in-loop-i : goal.bounds-arrivals-from-in-loop-i
 bounds-arrivals-from-in-loop-i c =
-    low c.events-events.result.now c.args.place c.loop-i.i c.loop-i-test.true (within_here c.args.history.now.events c.events-events.result.now c.events-events.ensures.value c.args.place c.requires) (sixteen c.args.history.now.sizes.processors c.events-events.result.now c.events-events.ensures.few_processors c.events-events.ensures.processors)
+    low c.events-events.result.now c.args.place c.loop-i.i c.loop-i-test.true (within_here c.args.history.now.events c.events-events.result.now c.events-events.ensures.value c.args.place c.requires) (few_present c.args.history.now.sizes.processors c.events-events.result.now (let few = c.events-events.ensures.few_processors in omega arith) c.events-events.ensures.processors)
 
 pub loop-i-preserved : goal.loop-i-preserved
 loop-i-preserved c =
@@ -82,7 +82,7 @@ loop-i-preserved c =
     let inside = (within_here c.args.history.now.events c.events-events.result.now c.events-events.ensures.value c.args.place c.requires) in
     let at = slice_get-get_or events i (event 0 (Load 0 0)) (omega arith) in
     let end = slice_get-get_or events k (event 0 (Load 0 0)) inside in
-    let low = (sixteen c.args.history.now.sizes.processors c.events-events.result.now c.events-events.ensures.few_processors c.events-events.ensures.processors) i from at in
+    let low = (few_present c.args.history.now.sizes.processors c.events-events.result.now (let few = c.events-events.ensures.few_processors in omega arith) c.events-events.ensures.processors) i from at in
     let arrived = old.counts.each from.processor low in
     let departed = c.edge_departures_before-departed.ensures in
     let one = c.edge_arrivals_of.ensures in

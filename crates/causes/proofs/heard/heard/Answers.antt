@@ -3,19 +3,19 @@ use Rattle.std.proofs.lemmas.Option.{slice_get-get_or, slice_get_within}
 use Rattle.journal.specs.declared.event.Event.{Event}
 use Rattle.journal.specs.declared.event.Kind.TheVariants.{Load}
 use Rattle.journal.specs.DidEvent.{event}
-use Rattle.journal.specs.Times.{IsTimeOf}
+use Rattle.judge.specs.Cuts.{IsCutOf}
+use Rattle.judge.proofs.TellingCuts.{cut_of_present, cut_tells_before_at}
 use Rattle.journal.specs.ClockEntry.{entry}
 use Rattle.journal.proofs.Order.EventPlacesAndCounts.{event_place_same}
-use Rattle.journal.proofs.Times.OrderByTime.{order_by_time_counts}
 use Rattle.journal.specs.EventsInRange.{EventProcessorsInRange}
 use Rattle.causes.proofs.heard.heard.Goals as goal
 
-pub note-requires-clause-processors : goal.note-requires-clause-processors
-note-requires-clause-processors c =
+pub note_step-requires-clause-processors : goal.note_step-requires-clause-processors
+note_step-requires-clause-processors c =
     subst (λ n. EventProcessorsInRange n c.args.events.now) (sym c.loop-place.invariant.present) c.requires.processors
 
-pub note-requires-clause-place : goal.note-requires-clause-place
-note-requires-clause-place c =
+pub note_step-requires-clause-place : goal.note_step-requires-clause-place
+note_step-requires-clause-place c =
     let within = slice_get_within c.args.events.now c.args.second c.requires.second.0 c.requires.second.1 in
     let lt = c.loop-place-test.true in
     omega arith
@@ -28,8 +28,8 @@ offset_bounds-events-second c =
 pub bounds-events-second : goal.bounds-events-second
 bounds-events-second c = slice_get_within c.args.events.now c.args.second c.requires.second.0 c.requires.second.1
 
-pub of-time-requires : goal.of-time-requires
-of-time-requires c =
+pub of-cut-requires : goal.of-cut-requires
+of-cut-requires c =
     let events = c.args.events.now in
     let second = c.args.second in
     let e = c.requires.second.0 in
@@ -41,7 +41,7 @@ of-time-requires c =
     let one = ap (λ (y : Event). y.processor) same in
     let few = c.requires.few_processors in
     let low = c.requires.processors second e at in
-    let long = c.loop-place.invariant.clocks.long in
+    let long = c.loop-place.invariant.cuts.long in
     omega arith
 
 pub last_heard-requires-clause-place : goal.last_heard-requires-clause-place
@@ -60,18 +60,17 @@ last_heard-requires-clause-tells c = λ i a does lt.
     let same =
     event_place_same events second (slice_index_or events second (event 0 (Load 0 0))) e
     (slice_get-get_or events second (event 0 (Load 0 0)) within) at in
-    let items = c.loop-place.clocks.processors.items in
-    let few = c.requires.few_processors in
+    let items = c.loop-place.cuts.processors.items in
     let low = c.requires.processors second e at in
+    let present = c.loop-place.invariant.present in
     let top = c.loop-place.auto.place-end in
     let end = c.loop-place-test.false in
     let is : c.loop-place.place ≡ second = omega arith in
-    let time : IsTimeOf (take second events) p (entry items p) =
-    subst (λ n. IsTimeOf (take n events) p (entry items p)) is
-    (c.loop-place.invariant.clocks.times p (omega arith)) in
-    let tells =
-    order_by_time_counts time does at c.requires.second.2 c.requires.second.3
-    lt in
-    let of = c.of-time.ensures by in
+    let cut : IsCutOf (take second events) p (entry items p) =
+    subst (λ n. IsCutOf (take n events) p (entry items p)) is
+    (cut_of_present c.loop-place.invariant.cuts p (omega arith)) in
+    let apart = λ (same : by ≡ p). c.requires.second.3 same in
+    let tells = cut_tells_before_at at does lt apart c.requires.second.2 cut in
+    let of = c.of-cut.ensures by in
     let one = ap (λ (y : Event). entry items y.processor by) same in
     ((λ h. (let below = tells.0 h in omega arith)), (λ below. tells.1 (omega arith)))

@@ -1,9 +1,9 @@
 use Rattle.std.proofs.Common.{◌≡◌, take}
-use Rattle.journal.specs.Clocks.{AreClocks}
+use Rattle.judge.specs.Cuts.{AreCuts}
 use Rattle.causes.proofs.heard.heard.Given as goal
 
 abbrev pub invariant-loop-place : goal.invariant-loop-place
 invariant-loop-place l = record {
-  clocks : AreClocks (take l.place l.events) l.clocks;
-  present : l.clocks.present ≡ l.processors;
+  cuts : AreCuts (take l.place l.events) l.cuts;
+  present : l.cuts.present ≡ l.processors;
 }

@@ -19,8 +19,8 @@ abbrev here : List Event → ℕ → Event
 here events place = slice_index_or events place (event 0 (Load 0 0))
 
 -- the turn that is next for its processor
-own : (events : List Event) (place : ℕ) (next : List Turn) → place < length events → length next ≡ 16
-    → (here events place).processor < 16 → AreLookedUpNextTurns events place next
+own : (events : List Event) (place : ℕ) (next : List Turn) → place < length events → length next ≡ 64
+    → (here events place).processor < 64 → AreLookedUpNextTurns events place next
     → IsIndexedTurn events place (here events place).processor (slice_index_or next (here events place).processor zero)
 own events place next lt long low are =
     are (here events place).processor (slice_index_or next (here events place).processor zero)

@@ -9,7 +9,7 @@ use Rattle.causes.proofs.index.index_turns.Given as goal
 
 abbrev pub invariant-loop-place : goal.invariant-loop-place
 invariant-loop-place l = record {
-  next_long : length l.next ≡ 16;
+  next_long : length l.next ≡ 64;
   next : AreLookedUpNextTurns l.events l.place l.next;
   long : vec_len l.turns ≡ l.place;
   each : AreRows (λ (i : ℕ) (t : Turn). (e : Event) → EventAt l.events i e → IsIndexedTurn l.events i e.processor t) l.turns.items;

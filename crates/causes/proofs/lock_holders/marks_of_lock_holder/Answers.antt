@@ -1,6 +1,5 @@
-use Rattle.std.proofs.Common.{◌↔◌, ◌+◌, ◌<◌, ℕ, Bool, IsTrue, List, false, length, slice_index_or, subst, sym, ap, ◌∙◌, arith}
+use Rattle.std.proofs.Common.{◌↔◌, ◌+◌, Bool, IsTrue, List, false, slice_index_or, subst, sym, ap, ◌∙◌, arith}
 use Rattle.std.proofs.lemmas.Option.{slice_get-get_or}
-use Rattle.journal.specs.declared.event.Event.{Event}
 use Rattle.journal.specs.declared.event.Kind.TheVariants.{Load}
 use Rattle.journal.specs.DidEvent.{event}
 use Rattle.judge.proofs.VecItems.{vec_items_written}

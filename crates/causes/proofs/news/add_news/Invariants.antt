@@ -1,10 +1,10 @@
-use Rattle.std.proofs.Common.{◌≤◌, slice_index}
+use Rattle.std.proofs.Common.{◌≤◌}
 use Rattle.causes.proofs.FreshNews.{HasFreshNewsBelow, IsFreshNewsOnceIf}
 use Rattle.causes.proofs.news.add_news.Given as goal
 
 abbrev pub invariant-loop-number : goal.invariant-loop-number
 invariant-loop-number l = record {
-  late : slice_index l.step.before l.by ≤ l.number;
+  from : l.first ≤ l.number;
   has : HasFreshNewsBelow l.events l.step l.by l.number l.initial.places.items l.places.items;
   once : IsFreshNewsOnceIf l.events l.by l.initial.places.items l.places.items;
 }

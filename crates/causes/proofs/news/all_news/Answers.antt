@@ -1,4 +1,4 @@
-use Rattle.std.proofs.Common.{◌≡◌, ℕ, List, Some, length, slice_get, subst, sym, refl, ◌∙◌, arith}
+use Rattle.std.proofs.Common.{◌≡◌, ℕ, List, Some, length, slice_get, subst, sym, ◌∙◌, arith}
 use Rattle.std.specs.Global.{Vec}
 use Rattle.std.proofs.lemmas.Option.{none-some}
 use Rattle.journal.specs.EventsInRange.{EventProcessorsInRange}
@@ -8,8 +8,8 @@ use Rattle.causes.proofs.news.all_news.Goals as goal
 
 pub loop-place-init : goal.loop-place-init
 loop-place-init c = record {
-  clocks = c.requires.start;
-  present = refl;
+  cuts = c.requires.start;
+  present = c.requires.present;
   long = c.in_ok-rows.ensures.len;
   rows = λ k row at.
       absurd (none-some row
@@ -23,15 +23,13 @@ next_step-requires c =
       place = c.loop-place-test.true;
       few = c.requires.few;
       processors = subst (λ n. EventProcessorsInRange n c.args.events.now) (sym old.present) c.requires.processors;
-      so_far = old.clocks;
+      so_far = old.cuts;
     }
 
 pub news-requires : goal.news-requires
 news-requires c = record {
-  processors = λ k e at.
-      (let low = c.requires.processors k e at in
-      let few = c.requires.start.few in
-      omega arith);
+  few_processors = (let few = c.requires.start.few in let present = c.requires.present in omega arith);
+  processors = c.requires.processors;
   index = c.requires.index;
   step = c.in_ok-step.ensures.step;
 }
@@ -45,7 +43,7 @@ loop-place-preserved c =
     let row = c.in_ok-news.field-0 in
     let long : length rows.items ≡ place = omega (arith, rows.ok.0, old.long) in
     record {
-      clocks = c.in_ok-step.ensures.clocks;
+      cuts = c.in_ok-step.ensures.cuts;
       present = c.in_ok-step.ensures.present ∙ old.present;
       long = (let len = c.in_ok-push.ensures.len in let was = old.long in omega arith);
       rows =

@@ -1,4 +1,4 @@
-use Rattle.std.proofs.Common.{◌≡◌, ◌∙◌, ℕ, List, ap, length, subst, sym, vec_len}
+use Rattle.std.proofs.Common.{◌≡◌, ℕ, List, ap, length, subst, sym, vec_len}
 use Rattle.std.specs.Prelude.{IfOk}
 use Rattle.std.specs.Global.{Vec}
 use Rattle.journal.specs.declared.event.Event.{Event}
@@ -10,11 +10,11 @@ use Rattle.causes.proofs.news.incoming_news.Goals as goal
 pub all_news-requires : goal.all_news-requires
 all_news-requires c = record {
   few = c.events-events.ensures.few;
+  present = c.in_ok-cuts.ensures.present;
   processors =
       subst (λ n. EventProcessorsInRange n c.events-events.result.now)
-      (sym (c.in_ok-clocks.ensures.present ∙ ap (λ (s : Given). s.processors) c.sizes.ensures.value))
-      c.events-events.ensures.processors;
-  start = c.in_ok-clocks.ensures.clocks;
+      (ap (λ (s : Given). s.processors) (sym c.sizes-processors.ensures.value)) c.events-events.ensures.processors;
+  start = c.in_ok-cuts.ensures.cuts;
   index = c.in_ok-index.ensures;
 }
 

@@ -1,6 +1,6 @@
-use Rattle.std.proofs.Common.{ℕ}
+use Rattle.std.proofs.Common.{◌≡◌, ℕ, subst, arith}
 use Rattle.std.proofs.lemmas.List.Sorted.{IsNonDecreasingBy-from_sort}
-use Rattle.causes.proofs.FreshNews.{fresh_news_sorted_all, fresh_news_next_processor}
+use Rattle.causes.proofs.FreshNews.{AreFreshNewsBelow, fresh_news_sorted_all, fresh_news_next_processor}
 use Rattle.causes.proofs.news.news.Goals as goal
 
 pub loop-by-preserved : goal.loop-by-preserved
@@ -10,5 +10,9 @@ loop-by-preserved c =
 
 pub returns : goal.returns
 returns c =
-    fresh_news_sorted_all c.sort_unstable.new.self.items c.loop-by-test.false c.requires.processors c.requires.step c.loop-by.invariant c.sort_unstable.ensures.permutation
+    let end = c.loop-by-test.false in
+    let top = c.loop-by.auto.by-end in
+    let is : c.loop-by.by ≡ c.args.processors = omega arith in
+    let whole = subst (λ n. AreFreshNewsBelow c.args.events.now c.args.step.now n c.loop-by.places.items) is c.loop-by.invariant in
+    fresh_news_sorted_all c.sort_unstable.new.self.items c.requires.processors c.requires.step whole c.sort_unstable.ensures.permutation
     (IsNonDecreasingBy-from_sort (λ (x : ℕ). x) c.sort_unstable.new.self.items c.sort_unstable.ensures.sorted)

@@ -14,14 +14,14 @@ use Rattle.causes.proofs.taking_events.taking_event_numbers.Goals as goal
 abbrev here : List Event → ℕ → Event
 here events place = slice_index_or events place (event 0 (Load 0 0))
 
--- its processor is one of sixteen
-low : (events : List Event) (place : ℕ) → place < length events → EventProcessorsInRange 16 events
-    → (here events place).processor < 16
+-- its processor is one of sixty-four
+low : (events : List Event) (place : ℕ) → place < length events → EventProcessorsInRange 64 events
+    → (here events place).processor < 64
 low events place lt range = range place (here events place) (slice_get-get_or events place (event 0 (Load 0 0)) lt)
 
 pub loop-place-init : goal.loop-place-init
 loop-place-init c = record {
-  closed = record { long = refl; each = λ q lt. clock_zeros_at 16 q };
+  closed = record { long = refl; each = λ q lt. clock_zeros_at 64 q };
   long = c.in_ok-numbers.ensures.len;
   numbers = λ k e lt at. absurd (omega arith);
 }

@@ -8,16 +8,10 @@ next_step-requires-clause-processors c =
     subst (λ n. EventProcessorsInRange n c.args.events.now) (sym c.loop-place.invariant.present) c.requires.processors
 
 pub next_step-requires-clause-so_far : goal.next_step-requires-clause-so_far
-next_step-requires-clause-so_far c = c.loop-place.invariant.clocks
+next_step-requires-clause-so_far c = c.loop-place.invariant.cuts
 
 pub add_taking_event-requires-clause-step : goal.add_taking_event-requires-clause-step
 add_taking_event-requires-clause-step c = c.in_ok-step.ensures.step
-
-pub add_taking_event-requires-clause-processors : goal.add_taking_event-requires-clause-processors
-add_taking_event-requires-clause-processors c = λ k e at.
-    (let low = c.requires.processors k e at in
-    let few = c.requires.few_processors in
-    omega arith)
 
 pub add_taking_event-requires-clause-so_far : goal.add_taking_event-requires-clause-so_far
 add_taking_event-requires-clause-so_far c =
@@ -29,7 +23,7 @@ loop-place-preserved c =
     let events = c.args.events.now in
     let old = c.loop-place.invariant in
     record {
-      clocks = c.in_ok-step.ensures.clocks;
+      cuts = c.in_ok-step.ensures.cuts;
       present = c.in_ok-step.ensures.present ∙ old.present;
       takings = subst (λ n. AreAllTakingEvents events (n + 1) c.add_taking_event.new.takings.items) c.in_ok-step.ensures.place
           c.in_ok-add_taking_event.ensures;

@@ -6,9 +6,8 @@ use Rattle.journal.specs.DidEvent.{event}
 use Rattle.journal.specs.EventsInRange.{EventProcessorsInRange}
 use Rattle.journal.specs.Pasts.{InPast}
 use Rattle.journal.specs.Times.{IsTimeOf}
-use Rattle.causes.proofs.FreshNews.{fresh_news_time_same}
 use Rattle.lrc_picture.specs.Timestamps.{ArePictureTimestampsAfter}
-use Rattle.lrc_picture.proofs.DrawnTimestamps.{drawn_timestamps_next}
+use Rattle.lrc_picture.proofs.DrawnTimestamps.{drawn_timestamps_next, drawn_timestamps_same}
 use Rattle.lrc_picture.proofs.times.picture_times.Goals as goal
 
 pub note-requires-clause-processors : goal.note-requires-clause-processors
@@ -39,7 +38,7 @@ loop-place-preserved c =
     let few = c.events-events.ensures.few_processors in
     let clocks = c.in_ok-note.ensures.clocks in
     let time : IsTimeOf (take (place + 1) events) e.processor (slice_index c.of.result.now) =
-    fresh_news_time_same (take (place + 1) events) (InPast (take (place + 1) events) e.processor)
+    drawn_timestamps_same (take (place + 1) events) (InPast (take (place + 1) events) e.processor)
     (entry c.note.new.self.processors.items e.processor) (slice_index c.of.result.now) c.of.ensures
     (clocks.times e.processor (omega arith)) in
     record {

@@ -1,12 +1,11 @@
-use Rattle.std.proofs.Common.{◌≡◌, ℕ, ◌<◌, List, Option, Some, MatchOption, length, slice_index_or, subst, sym, refl, ◌∙◌, arith}
+use Rattle.std.proofs.Common.{◌≡◌, ℕ, ◌<◌, List, Option, Some, MatchOption, length, slice_index_or, subst, sym, refl, arith}
 use Rattle.std.specs.Prelude.{None}
 use Rattle.std.specs.Global.{Vec}
-use Rattle.std.proofs.lemmas.Option.{get_or_from_slice_get, slice_get-get_or, slice_get_read}
+use Rattle.std.proofs.lemmas.Option.{slice_get-get_or, slice_get_read}
 use Rattle.journal.specs.declared.event.Event.{Event}
 use Rattle.journal.specs.declared.event.Kind.TheVariants.{Load}
 use Rattle.journal.specs.DidEvent.{event}
-use Rattle.journal.specs.Events.{EventAt, event_interval_at}
-use Rattle.journal.proofs.Order.EventPlacesAndCounts.{event_place_inside, event_place_does}
+use Rattle.journal.proofs.Order.EventPlacesAndCounts.{event_place_does}
 use Rattle.causes.specs.declared.taking_events.Taking.{Taking}
 use Rattle.causes.specs.declared.reaching.Reach.{Reach}
 use Rattle.causes.specs.TakingEvents.{AreTakingEvents, IsFirstTakingEventAbove, NoTakingEventAbove}
@@ -15,7 +14,7 @@ use Rattle.causes.proofs.ReachedPaths.{ReachedPathTakesBesides, reached_path_fir
 use Rattle.causes.proofs.reaching.Reach.first.Goals as goal
 
 -- the row that is read has the processor's events that take
-row_read : (j : List Event) (x : Reach) (q : ℕ) (row : Vec Taking) (takings : List Taking) → IsPathLookup j x → q < 16
+row_read : (j : List Event) (x : Reach) (q : ℕ) (row : Vec Taking) (takings : List Taking) → IsPathLookup j x → q < 64
     → row ≡ slice_index_or x.takings.items q row → takings ≡ row.items → AreTakingEvents j q (length j) takings
 row_read j x q row takings tells lt read is =
     let long = tells.takings.long in
@@ -23,29 +22,19 @@ row_read j x q row takings tells lt read is =
     (tells.takings.each q row
     (slice_get_read x.takings.items (length x.takings.items) q row refl (omega arith) read))
 
--- and the number that is read is the interval's
-number_read : (j : List Event) (x : Reach) (i n : ℕ) (e : Event) → IsPathLookup j x → EventAt j i e
-    → n ≡ slice_index_or x.numbers.items i n → n ≡ event_interval_at j e.processor i
-number_read j x i n e tells at read =
-    let long = tells.numbers.long in
-    let within = event_place_inside j i e at in
-    sym (get_or_from_slice_get x.numbers.items i n 0
-    (slice_get_read x.numbers.items (length x.numbers.items) i n refl (omega arith) read))
-    ∙ tells.numbers.each i e at
-
--- the first of these timestamps that counts it is that after the first event that it reaches
-first_found : {j : List Event} {p i q number : ℕ} {takings : List Taking} (o : Option ℕ)
-    → ReachedPathTakesBesides j p i q (length j) number takings
-    → MatchOption o (NoTakingEventAbove takings p number) (IsFirstTakingEventAbove takings p number) → PathEntryIfAny j i q o
-first_found {j} {p} {i} {q} {number} {takings} None besides none = reached_path_none besides none
-first_found {j} {p} {i} {q} {number} {takings} (Some m) besides first = reached_path_first besides first
+-- the first of these cuts that has it is that after the first event that it reaches
+first_found : {j : List Event} {p i q : ℕ} {takings : List Taking} (o : Option ℕ)
+    → ReachedPathTakesBesides j p i q (length j) takings
+    → MatchOption o (NoTakingEventAbove takings p i) (IsFirstTakingEventAbove takings p i) → PathEntryIfAny j i q o
+first_found {j} {p} {i} {q} {takings} None besides none = reached_path_none besides none
+first_found {j} {p} {i} {q} {takings} (Some m) besides first = reached_path_first besides first
 
 -- the event at this place
 abbrev here : List Event → ℕ → Event
 here events place = slice_index_or events place (event 0 (Load 0 0))
 
-pub first_taking_event_above-requires-clause-parted : goal.first_taking_event_above-requires-clause-parted
-first_taking_event_above-requires-clause-parted c =
+pub first_taking_event_above-requires : goal.first_taking_event_above-requires
+first_taking_event_above-requires c =
     let events = c.args.events.now in
     let x = c.args.self.now in
     let i = c.args.from in
@@ -53,16 +42,15 @@ first_taking_event_above-requires-clause-parted c =
     let e = here events i in
     let tells = c.requires.tells in
     let at = slice_get-get_or events i (event 0 (Load 0 0)) c.requires.from in
-    let besides : ReachedPathTakesBesides events e.processor i q (length events) c.index-2.result.now c.deref.result.now = record {
+    let besides : ReachedPathTakesBesides events e.processor i q (length events) c.deref.result.now = record {
       kind = e.kind;
       does = event_place_does events i e.processor e at refl;
       apart = c.if-by-processor.false;
-      number_is = number_read events x i c.index-2.result.now e tells at c.index-2.ensures;
       are =
           row_read events x q c.index.result.now c.deref.result.now tells c.requires.processor c.index.ensures
           c.deref.ensures.value;
     } in
-    reached_path_parted besides
+    record { parted = reached_path_parted besides }
 
 pub returns-then-by-processor : goal.returns-then-by-processor
 returns-then-by-processor c =
@@ -82,11 +70,10 @@ returns c =
     let e = here events i in
     let tells = c.requires.tells in
     let at = slice_get-get_or events i (event 0 (Load 0 0)) c.requires.from in
-    let besides : ReachedPathTakesBesides events e.processor i q (length events) c.index-2.result.now c.deref.result.now = record {
+    let besides : ReachedPathTakesBesides events e.processor i q (length events) c.deref.result.now = record {
       kind = e.kind;
       does = event_place_does events i e.processor e at refl;
       apart = c.if-by-processor.false;
-      number_is = number_read events x i c.index-2.result.now e tells at c.index-2.ensures;
       are =
           row_read events x q c.index.result.now c.deref.result.now tells c.requires.processor c.index.ensures
           c.deref.ensures.value;

@@ -4,7 +4,7 @@ use Rattle.judge.specs.declared.asked_places.AskedPlaces.{AskedPlaces}
 use Rattle.judge.specs.AskedPlaces.{AreAskedPlaces}
 use Rattle.judge.specs.JudgedSizes.{judged_sizes_of}
 use Rattle.judge.proofs.AskedPlaces.{asked_places_add, asked_places_own, asked_places_start}
-use Rattle.judge.proofs.cuts.TellingCuts.{cut_of_present}
+use Rattle.judge.proofs.TellingCuts.{cut_of_present}
 use Rattle.judge.proofs.due_counts.DueCounts.asked_places.Goals as goal
 use Rattle.judge.proofs.due_counts.DueCounts.asked_places.Goals.{then-processor-by+in_ok-add, else-processor-by}
 

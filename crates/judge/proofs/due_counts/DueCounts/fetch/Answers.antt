@@ -15,7 +15,7 @@ use Rattle.judge.specs.StoredCounts.{stored_row}
 use Rattle.judge.proofs.DueGaps.{due_fetched_now, due_fetched_others}
 use Rattle.judge.proofs.LongerSparseTables.{longer_sparse_next}
 use Rattle.judge.proofs.NearestRaceSteps.{nearest_race_row_one}
-use Rattle.judge.proofs.cuts.TellingCuts.{cut_of_equal, cut_of_present}
+use Rattle.judge.proofs.TellingCuts.{cut_of_equal, cut_of_present}
 use Rattle.judge.proofs.due_counts.DueCounts.fetch.Goals as goal
 
 same_fetch : (p w n r d q w' m r' d' : ℕ) → event p (Fetch w n r d) ≡ event q (Fetch w' m r' d') → (q ≡ p) × (m ≡ n)

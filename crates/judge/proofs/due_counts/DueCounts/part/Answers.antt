@@ -10,7 +10,7 @@ use Rattle.judge.specs.JudgedSizes.{judged_sizes_of}
 use Rattle.judge.proofs.DueGaps.{due_gap_between}
 use Rattle.judge.proofs.GapParts.{gap_part_counts_between, gap_part_counts_own}
 use Rattle.judge.proofs.StoredAsks.{stored_asks_of_cut, stored_asks_of_fetched}
-use Rattle.judge.proofs.cuts.TellingCuts.{cut_of_equal, cut_of_present}
+use Rattle.judge.proofs.TellingCuts.{cut_of_equal, cut_of_present}
 use Rattle.judge.proofs.due_counts.DueCounts.part.Goals as goal
 
 pub returns-then-by-processor-clause-counts : goal.returns-then-by-processor-clause-counts

@@ -8,7 +8,7 @@ use Rattle.std.specs.Global.{Vec}
 use Rattle.judge.specs.declared.sparse_table.SparseTable.{SparseTable}
 use Rattle.judge.specs.SparseTables.{IsSparseRowWith}
 use Rattle.judge.proofs.LongerSparseTables.{longer_sparse_next}
-use Rattle.judge.proofs.cuts.TellingCuts.{cut_of_equal, cut_of_present}
+use Rattle.judge.proofs.TellingCuts.{cut_of_equal, cut_of_present}
 use Rattle.judge.specs.MovedCuts.{KeepsCuts}
 use Rattle.judge.proofs.kept_stores.KeepingStores.{keeping_rows_next}
 use Rattle.judge.proofs.kept_stores.KeptStores.keep_store.Goals as goal

@@ -1,6 +1,6 @@
 use Rattle.std.proofs.Common.{sym, ap, ◌∙◌, arith}
 use Rattle.journal.specs.ClockEntry.{entry}
-use Rattle.judge.proofs.cuts.TellingCuts.{cut_of_present}
+use Rattle.judge.proofs.TellingCuts.{cut_of_present}
 use Rattle.judge.proofs.kept_stores.KeptStores.known_up_to.Goals as goal
 
 pub returns-else-by-processor : goal.returns-else-by-processor

@@ -1,7 +1,7 @@
 use Rattle.std.proofs.Common.{◌≡◌, ◌<◌, length, slice_index, slice_set, subst, sym, arith}
 use Rattle.journal.specs.ClockEntry.{entry}
 use Rattle.judge.specs.Cuts.{IsCutOf}
-use Rattle.judge.proofs.cuts.TellingCuts.{cut_of_equal}
+use Rattle.judge.proofs.TellingCuts.{cut_of_equal}
 use Rattle.judge.proofs.known_cuts.KeepingCuts.{keeping_cut_last, keeping_cut_without_own}
 use Rattle.judge.proofs.known_cuts.KnownCuts.place_of.Goals as goal
 

@@ -13,7 +13,7 @@ use Rattle.judge.specs.declared.nearest_races.NearestRaces.{NearestRaces}
 use Rattle.judge.specs.Cuts.{IsCutOf}
 use Rattle.judge.specs.SparseTables.{sparse_at}
 use Rattle.judge.specs.NearestRaces.{AreNearestRacesOf, IsNearestRaceAccessOf, is_nearest_race_access, is_nearest_race_store, nearest_race_row}
-use Rattle.judge.proofs.cuts.TellingCuts.{cut_of_equal, cut_of_present}
+use Rattle.judge.proofs.TellingCuts.{cut_of_equal, cut_of_present}
 use Rattle.judge.proofs.NearestRaceSteps.{IsNearestRaceRow, nearest_race_load_conflicts, nearest_race_is, nearest_race_store_conflicts}
 use Rattle.judge.proofs.nearest_races.NearestRaces.nearest.Goals as goal
 

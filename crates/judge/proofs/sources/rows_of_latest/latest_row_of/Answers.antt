@@ -1,24 +1,30 @@
-use Rattle.std.proofs.Common.{ℕ, [], ◌∷◌, ◌++◌, List, length, subst, sym}
+use Rattle.std.proofs.Common.{ℕ, ◌≡◌, [], ◌∷◌, ◌++◌, List, length, subst, sym}
+use Rattle.std.specs.Prelude.{map}
 use Rattle.std.specs.Global.{Vec}
 use Rattle.std.proofs.lemmas.Result.{IfOk-weaker}
 use Rattle.journal.specs.declared.event.Event.{Event}
 use Rattle.journal.specs.DidEvent.{event}
-use Rattle.judge.specs.Sources.Latest.{AreLatestMarked, IsLatestRow}
-use Rattle.judge.specs.Sources.KeptSources.{AreKeptSourcesOf}
-use Rattle.judge.proofs.sources.LoadRows.{load_row_of_marks, load_row_others}
+use Rattle.journal.specs.declared.event.Kind.TheVariants.{Load}
+use Rattle.judge.specs.declared.flat_memory.FlatStore.{FlatStore}
+use Rattle.judge.specs.PermittedStores.{AreLatestStores}
+use Rattle.judge.specs.Sources.Latest.{IsLatestRow}
+use Rattle.judge.specs.KeptStores.{AreKeptStoresOf}
+use Rattle.judge.proofs.sources.LoadRows.{load_row_of_stores, load_row_others, load_row_place}
 use Rattle.judge.proofs.sources.rows_of_latest.latest_row_of.Goals as goal
 
-pub returns-in-Load : goal.returns-in-Load
-returns-in-Load c =
+pub returns : goal.returns
+returns c =
     let e = c.args.event in
-    let marks = c.before-in-Load.result in
-    IfOk-weaker c.latest_marked_places.result (λ (v : Vec ℕ). AreLatestMarked marks v.items)
-    (λ (v : Vec ℕ). (j : List Event) → AreKeptSourcesOf j c.args.sources.now → IsLatestRow (j ++ e ∷ []) (length j) v.items)
-    (λ v are j tells. subst (λ k. IsLatestRow (j ++ event e.processor k ∷ []) (length j) v.items) (sym c.in-Load.is)
-    (load_row_of_marks j e.processor c.in-Load.address c.in-Load.field-1 marks v.items
-    (c.before-in-Load.ensures j tells c.in-Load.field-1) are)) c.latest_marked_places.ensures
-
-pub returns-in_default : goal.returns-in_default
-returns-in_default c = λ j tells.
-    subst (IsLatestRow (j ++ c.args.event ∷ []) (length j)) (sym c.new.ensures.items)
-    (load_row_others j c.args.event c.in_default.not-Load)
+    let a = c.in-Load.address in
+    let w = c.in-Load.field-1 in
+    let stores = c.deref.result.now in
+    IfOk-weaker c.latest_store_places.result (λ (v : Vec ℕ). v.items ≡ map load_row_place stores)
+    (λ (v : Vec ℕ). (j : List Event) → AreKeptStoresOf j c.args.sources.now → IsLatestRow (j ++ e ∷ []) (length j) v.items)
+    (λ v are j tells.
+    let found : AreLatestStores (j ++ event e.processor (Load a w) ∷ []) (length j) a stores =
+    subst (AreLatestStores (j ++ event e.processor (Load a w) ∷ []) (length j) a) (sym c.deref.ensures.value)
+    (c.in_ok-latest.ensures j tells w) in
+    subst (IsLatestRow (j ++ e ∷ []) (length j)) (sym are)
+    (subst (λ k. IsLatestRow (j ++ event e.processor k ∷ []) (length j) (map load_row_place stores)) (sym c.in-Load.is)
+    (load_row_of_stores j e.processor a w stores found)))
+    c.latest_store_places.ensures

@@ -1,6 +1,9 @@
 use Rattle.std.proofs.Common.{◌≡◌, ℕ, inl, inr, [], ◌∷◌, ◌++◌, List, length, take, slice_index_or, subst, sym, ◌∙◌, arith}
 use Rattle.std.specs.Global.{Vec}
+use Rattle.std.proofs.lemmas.List.{length-take-le}
 use Rattle.std.proofs.lemmas.Option.{slice_get-get_or}
+use Rattle.journal.proofs.Passes.NextClocks.{next_clocks_front}
+use Rattle.judge.specs.KeptStores.{AreKeptStoresOf}
 use Rattle.base.proofs.SlicesAndCounts.{slice_push_cases}
 use Rattle.journal.specs.declared.event.Event.{Event}
 use Rattle.journal.specs.declared.event.Kind.TheVariants.{Load}
@@ -39,10 +42,6 @@ latest_row_of-requires-clause-address c =
     subst (λ n. EventAddressInRange n e.kind) (sym c.loop-place.invariant.addresses)
     (c.events-events.ensures.addresses c.loop-place.place e at)
 
-pub note-requires-clause-addresses : goal.note-requires-clause-addresses
-note-requires-clause-addresses c =
-    subst (λ n. EventAddressesInRange n c.events-events.result.now) (sym c.loop-place.invariant.addresses) c.events-events.ensures.addresses
-
 pub loop-place-preserved : goal.loop-place-preserved
 loop-place-preserved c =
     let events = c.events-events.result.now in
@@ -54,7 +53,8 @@ loop-place-preserved c =
     let long : length rows.items ≡ place = omega (arith, rows.ok.0, old.long) in
     let row = load_row_in_front events place e c.in_ok-row.row.items at (c.in_ok-row.ensures (take place events) old.tells) in
     record {
-      tells = c.in_ok-note.ensures.tells;
+      tells = subst (λ j. AreKeptStoresOf j c.note.new.self) (sym (next_clocks_front events place e at))
+          (c.in_ok-note.ensures.tells (take place events) old.tells);
       processors = c.note.ensures.processors ∙ old.processors;
       addresses = c.note.ensures.addresses ∙ old.addresses;
       long = (let len = c.in_ok-push.ensures.len in let was = old.long in omega arith);
@@ -63,6 +63,27 @@ loop-place-preserved c =
           (rows_next events rows.items place c.in_ok-row.row long old.rows row);
     }
 
-pub note-requires-clause-processors : goal.note-requires-clause-processors
-note-requires-clause-processors c =
-    subst (λ n. EventProcessorsInRange n c.events-events.result.now) (sym c.loop-place.invariant.processors) c.events-events.ensures.processors
+pub note-requires-clause-few : goal.note-requires-clause-few
+note-requires-clause-few c =
+    let events = c.events-events.result.now in
+    let place = c.loop-place.place in
+    let lt = c.loop-place-test.true in
+    let few = c.events-events.ensures.few in
+    let long = length-take-le place events (omega arith) in
+    let at = c.loop-place.invariant.tells.cuts.place in
+    omega arith
+
+pub note-requires-clause-processor : goal.note-requires-clause-processor
+note-requires-clause-processor c =
+    let e = here c.events-events.result.now c.loop-place.place in
+    let at = slice_get-get_or c.events-events.result.now c.loop-place.place (event 0 (Load 0 0)) c.loop-place-test.true in
+    let lt = c.events-events.ensures.processors c.loop-place.place e at in
+    let same = c.loop-place.invariant.processors in
+    omega arith
+
+pub note-requires-clause-address : goal.note-requires-clause-address
+note-requires-clause-address c =
+    let e = here c.events-events.result.now c.loop-place.place in
+    let at = slice_get-get_or c.events-events.result.now c.loop-place.place (event 0 (Load 0 0)) c.loop-place-test.true in
+    subst (λ n. EventAddressInRange n e.kind) (sym c.loop-place.invariant.addresses)
+    (c.events-events.ensures.addresses c.loop-place.place e at)

@@ -1,6 +1,9 @@
-use Rattle.std.proofs.Common.{◌≡◌, ℕ, ◌+◌, ◌<◌, inl, inr, List, slice_index_or, subst, sym, refl, ap, ◌∙◌, arith}
+use Rattle.std.proofs.Common.{◌≡◌, ℕ, ◌+◌, ◌<◌, inl, inr, List, slice_index_or, subst, sym, refl, ap, ◌∙◌, take, arith}
 use Rattle.std.proofs.lemmas.Bool.{cases_eq, false≢true}
+use Rattle.std.proofs.lemmas.List.{length-take-le}
 use Rattle.std.proofs.lemmas.Option.{slice_get-get_or}
+use Rattle.journal.proofs.Passes.NextClocks.{next_clocks_front}
+use Rattle.judge.specs.KeptStores.{AreKeptStoresOf}
 use Rattle.journal.specs.declared.event.Event.{Event}
 use Rattle.journal.specs.declared.event.Kind.{Kind}
 use Rattle.journal.specs.declared.event.Kind.TheVariants.{Load}
@@ -66,10 +69,6 @@ is_explained-requires-clause-address c =
     subst (λ n. EventAddressInRange n e.kind) (sym c.loop-place.invariant.addresses)
     (c.events-events.ensures.addresses c.loop-place.place e at)
 
-pub note-requires-clause-addresses : goal.note-requires-clause-addresses
-note-requires-clause-addresses c =
-    subst (λ n. EventAddressesInRange n c.events-events.result.now) (sym c.loop-place.invariant.addresses) c.events-events.ensures.addresses
-
 pub returns-then-not-is_explained : goal.returns-then-not-is_explained
 returns-then-not-is_explained c =
     let events = c.events-events.result.now in
@@ -79,7 +78,7 @@ returns-then-not-is_explained c =
     subst (λ j. IsFirstNotLatestAnswer j place) c.events-events.ensures.value
     (first_wrong events place e.processor e.kind at c.loop-place.invariant.explained
     (λ all. false≢true
-    (c.if-not-is_explained.ensures.1 (λ a v is. (answering_in_front events place a v e at).1 (all a v is)))))
+    ((c.if-not-is_explained.ensures (take place events) c.loop-place.invariant.tells).1 (λ a v is. (answering_in_front events place a v e at).1 (all a v is)))))
 
 pub loop-place-preserved : goal.loop-place-preserved
 loop-place-preserved c =
@@ -89,11 +88,12 @@ loop-place-preserved c =
     let at = slice_get-get_or events place (event 0 (Load 0 0)) c.loop-place-test.true in
     let old = c.loop-place.invariant in
     record {
-      tells = c.in_ok-note.ensures.tells;
+      tells = subst (λ j. AreKeptStoresOf j c.note.new.self) (sym (next_clocks_front events place e at))
+          (c.in_ok-note.ensures.tells (take place events) old.tells);
       processors = c.note.ensures.processors ∙ old.processors;
       addresses = c.note.ensures.addresses ∙ old.addresses;
       explained = explained_next events place e at old.explained
-          (λ a v is. (answering_in_front events place a v e at).0 (c.if-not-is_explained.ensures.0 refl a v is));
+          (λ a v is. (answering_in_front events place a v e at).0 ((c.if-not-is_explained.ensures (take place events) old.tells).0 refl a v is));
     }
 
 pub returns : goal.returns
@@ -104,6 +104,27 @@ returns c =
     let over = c.loop-place-test.false in
     c.loop-place.invariant.explained k p a v (omega arith) does))
 
-pub note-requires-clause-processors : goal.note-requires-clause-processors
-note-requires-clause-processors c =
-    subst (λ n. EventProcessorsInRange n c.events-events.result.now) (sym c.loop-place.invariant.processors) c.events-events.ensures.processors
+pub note-requires-clause-few : goal.note-requires-clause-few
+note-requires-clause-few c =
+    let events = c.events-events.result.now in
+    let place = c.loop-place.place in
+    let lt = c.loop-place-test.true in
+    let few = c.events-events.ensures.few in
+    let long = length-take-le place events (omega arith) in
+    let at = c.loop-place.invariant.tells.cuts.place in
+    omega arith
+
+pub note-requires-clause-processor : goal.note-requires-clause-processor
+note-requires-clause-processor c =
+    let e = here c.events-events.result.now c.loop-place.place in
+    let at = slice_get-get_or c.events-events.result.now c.loop-place.place (event 0 (Load 0 0)) c.loop-place-test.true in
+    let lt = c.events-events.ensures.processors c.loop-place.place e at in
+    let same = c.loop-place.invariant.processors in
+    omega arith
+
+pub note-requires-clause-address : goal.note-requires-clause-address
+note-requires-clause-address c =
+    let e = here c.events-events.result.now c.loop-place.place in
+    let at = slice_get-get_or c.events-events.result.now c.loop-place.place (event 0 (Load 0 0)) c.loop-place-test.true in
+    subst (λ n. EventAddressInRange n e.kind) (sym c.loop-place.invariant.addresses)
+    (c.events-events.ensures.addresses c.loop-place.place e at)

@@ -23,12 +23,12 @@ one_load j p a v k is answer b w same =
     (subst (λ x. IsAnswer (j ++ event p x ∷ []) (length j) a v) (sym is) answer))
 
 pub returns-in-Load : goal.returns-in-Load
-returns-in-Load c =
-    let j = c.args.front.now in
+returns-in-Load c = λ j tells.
     let p = c.args.event.processor in
-    let k = c.args.event.kind in (
-      λ yes_is. one_load j p c.in-Load.address c.in-Load.value k c.in-Load.is (c.may_answer.ensures.0 yes_is),
-      λ all. c.may_answer.ensures.1
+    let k = c.args.event.kind in
+    let may = c.may_answer.ensures j tells in (
+      λ yes_is. one_load j p c.in-Load.address c.in-Load.value k c.in-Load.is (may.0 yes_is),
+      λ all. may.1
           (subst (λ x. IsAnswer (j ++ event p x ∷ []) (length j) c.in-Load.address c.in-Load.value) c.in-Load.is
           (all c.in-Load.address c.in-Load.value c.in-Load.is)),
     )

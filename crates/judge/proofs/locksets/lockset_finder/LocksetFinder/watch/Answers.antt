@@ -14,7 +14,7 @@ use Rattle.judge.specs.SparseTables.{sparse_at}
 use Rattle.judge.specs.Locksets.KeptLocksets.{ComesNextToWatch, IsLocksetFinderOf}
 use Rattle.judge.specs.Locksets.Unlocked.{unlocked_history}
 use Rattle.judge.specs.Locksets.Watched.{IsWatchCandidate, IsWatchedNext}
-use Rattle.judge.proofs.cuts.TellingCuts.{cut_of_equal, cut_of_present}
+use Rattle.judge.proofs.TellingCuts.{cut_of_equal, cut_of_present}
 use Rattle.judge.proofs.locksets.TellingLocksets.{telling_locksets_begins, telling_locksets_words_left}
 use Rattle.judge.proofs.locksets.lockset_finder.LocksetFinder.watch.Goals as goal
 

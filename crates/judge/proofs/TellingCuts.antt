@@ -10,6 +10,7 @@ use Rattle.journal.specs.declared.event.Kind.TheVariants.{Acquire, Depart, Await
 use Rattle.journal.specs.Events.{EventAt, event_address, event_takes}
 use Rattle.journal.specs.HappensBeforeEdges.{HappensBefore}
 use Rattle.journal.specs.Races.{Conflict, Race}
+use Rattle.journal.specs.WellFormed.{Does}
 use Rattle.journal.specs.ClockEntry.{entry}
 use Rattle.journal.proofs.Order.EventPlacesAndCounts.{event_place_inside, event_place_longer, event_place_at_end}
 use Rattle.journal.proofs.Order.HappensBefore.{happens_before_longer, happens_before_shorter}
@@ -71,10 +72,10 @@ cut_tells_race {j = j} {e = e} {f = f} {t = t} {i = i} cut at apart conflict = (
       unordered = λ h. (let below = tells.0 h in omega arith);
     }
 
--- the same of one that stands at this place
-pub cut_tells_race_at : {j : List Event} {n i : ℕ} {e f : Event} {t : ℕ → ℕ} → EventAt j n e → EventAt j i f → i < n
-    → f.processor ≢ e.processor → Conflict f e → IsCutOf (take n j) e.processor t → Race j i n ↔ (t f.processor ≤ i)
-cut_tells_race_at {j = j} {n = n} {i = i} {e = e} {f = f} {t = t} at to lt apart conflict cut = (there, here)
+-- another processor's event happens before one at place n that takes nothing, exactly if it is in the cut
+pub cut_tells_before_at : {j : List Event} {n i q : ℕ} {a : Kind} {e : Event} {t : ℕ → ℕ} → EventAt j n e → Does j i q a → i < n
+    → q ≢ e.processor → event_takes e.kind ≡ false → IsCutOf (take n j) e.processor t → HappensBefore j i n ↔ (i < t q)
+cut_tells_before_at {j = j} {n = n} {i = i} {q = q} {a = a} {e = e} {t = t} at does lt apart quiet cut = (below, above)
   where
     front : List Event
     front = take n j
@@ -85,25 +86,32 @@ cut_tells_race_at {j = j} {n = n} {i = i} {e = e} {f = f} {t = t} at to lt apart
     whole : (front ++ e ∷ []) ++ drop (n + 1) j ≡ j
     whole = ap (λ xs. xs ++ drop (n + 1) j) (sym (next_clocks_front j n e at)) ∙ take-append-drop (n + 1) j
 
-    tells : HappensBefore (front ++ e ∷ []) i (length front) ↔ (i < t f.processor)
-    tells = cut_tells_happens_before e cut (cut_of_access_quiet e.kind conflict.address conflict.second)
-        (slice_get-take j n i lt ∙ to) apart
+    tells : HappensBefore (front ++ e ∷ []) i (length front) ↔ (i < t q)
+    tells = cut_tells_happens_before e cut quiet (slice_get-take j n i lt ∙ does) apart
 
     inside : length front < length (front ++ e ∷ [])
     inside = event_place_inside (front ++ e ∷ []) (length front) e (event_place_at_end front e)
 
-    below : HappensBefore j i n → i < t f.processor
+    below : HappensBefore j i n → i < t q
     below h = tells.0 (happens_before_shorter (front ++ e ∷ []) (drop (n + 1) j) inside
         (subst (λ m. HappensBefore ((front ++ e ∷ []) ++ drop (n + 1) j) i m) (sym long)
         (subst (λ xs. HappensBefore xs i n) (sym whole) h)))
 
-    above : i < t f.processor → HappensBefore j i n
+    above : i < t q → HappensBefore j i n
     above less = subst (λ xs. HappensBefore xs i n) whole
         (subst (λ m. HappensBefore ((front ++ e ∷ []) ++ drop (n + 1) j) i m) long
         (happens_before_longer (front ++ e ∷ []) (drop (n + 1) j) (tells.1 less)))
 
+-- the same of one that stands at this place
+pub cut_tells_race_at : {j : List Event} {n i : ℕ} {e f : Event} {t : ℕ → ℕ} → EventAt j n e → EventAt j i f → i < n
+    → f.processor ≢ e.processor → Conflict f e → IsCutOf (take n j) e.processor t → Race j i n ↔ (t f.processor ≤ i)
+cut_tells_race_at {j = j} {n = n} {i = i} {e = e} {f = f} {t = t} at to lt apart conflict cut = (there, here)
+  where
+    tells : HappensBefore j i n ↔ (i < t f.processor)
+    tells = cut_tells_before_at at to lt apart (cut_of_access_quiet e.kind conflict.address conflict.second) cut
+
     there : Race j i n → t f.processor ≤ i
-    there r = elim (cases_lt i (t f.processor)) [ inl less ↦ absurd (r.unordered (above less)) | inr le ↦ le ]
+    there r = elim (cases_lt i (t f.processor)) [ inl less ↦ absurd (r.unordered (tells.1 less)) | inr le ↦ le ]
 
     here : t f.processor ≤ i → Race j i n
     here le = record {
@@ -114,5 +122,5 @@ cut_tells_race_at {j = j} {n = n} {i = i} {e = e} {f = f} {t = t} at to lt apart
       second_at = at;
       apart = apart;
       conflict = conflict;
-      unordered = λ h. (let less = below h in omega arith);
+      unordered = λ h. (let less = tells.0 h in omega arith);
     }
