@@ -1,8 +1,8 @@
 //! Which words the script's text shows to be guarded: accesses of them that conflict are apart by a barrier, or made under
 //! one lock. Whatever the order of events, they don't race.
 //!
-//! With flags it is also guarded if such accesses come one behind the other in every run: the later one behind an await of a
-//! flag that is set behind the earlier one only (`text_walk`).
+//! Where a script has flags, it is also enough that such accesses come one behind the other in every run: the later one behind
+//! an await of a flag that is set behind the earlier one only (`text_walk`).
 //!
 //! It is the lockset discipline of Savage, Burrows, Nelson, Sobalvarro and Anderson (Eraser, TOCS 1997), for each phase
 //! between two barriers by itself, and of the text, so that it holds of every run.

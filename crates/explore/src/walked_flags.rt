@@ -10,8 +10,8 @@ use base::MOST_PROCESSORS;
 pub struct WalkedFlag {
     /// Who sets it somewhere, and whose first set the walk hasn't come to.
     pub due: [bool; MOST_PROCESSORS],
-    /// Of each processor, how many steps it has made whenever one of the others sets it. At first all that there may be: of
-    /// a flag that nobody sets anything may be said.
+    /// Of each processor, how many steps it has made whenever somebody sets the flag who isn't due. At first all that there
+    /// may be: of a flag that nobody sets anything may be said.
     pub made: StepsMade,
 }
 

@@ -20,27 +20,27 @@ asked_places_start s j n q asked end none = record {
   only = λ v h. absurd (joined_list_has-nil v (subst (λ xs. Has xs v) none h));
 }
 
-entry_more : {j : List Event} {q count v : ℕ} → IsAskedEntry j q count v → IsAskedEntry j q (count + 1) v
-entry_more h = let lt = h.1 in (h.0, omega arith, h.2, h.3)
+asked_places_entry_more : {j : List Event} {q count v : ℕ} → IsAskedEntry j q count v → IsAskedEntry j q (count + 1) v
+asked_places_entry_more h = let lt = h.1 in (h.0, omega arith, h.2, h.3)
 
-fetch_more : {s : Sizes} {j : List Event} {n q count v : ℕ} → IsAskedFetch s j n q count v → IsAskedFetch s j n q (count + 1) v
-fetch_more h = let lt = h.1 in (h.0, omega arith, h.2, h.3)
+asked_places_fetch_more : {s : Sizes} {j : List Event} {n q count v : ℕ} → IsAskedFetch s j n q count v → IsAskedFetch s j n q (count + 1) v
+asked_places_fetch_more h = let lt = h.1 in (h.0, omega arith, h.2, h.3)
 
 -- the processor itself is passed over
 pub asked_places_own : (s : Sizes) (j : List Event) (n q p : ℕ) (asked : AskedPlaces) → p ≡ q → AreAskedPlaces s j n q p asked
     → AreAskedPlaces s j n q (p + 1) asked
 asked_places_own s j n q p asked own are = record {
   known = λ r lt other. are.known r (omega (arith, lt, other, own)) other;
-  least = elim are.least [ inl end ↦ inl end | inr h ↦ inr (entry_more h) ];
+  least = elim are.least [ inl end ↦ inl end | inr h ↦ inr (asked_places_entry_more h) ];
   fetched = λ r lt other. are.fetched r (omega (arith, lt, other, own)) other;
-  only = λ v h. fetch_more (are.only v h);
+  only = λ v h. asked_places_fetch_more (are.only v h);
 }
 
 -- another one's places are added
-pub asked_places_add : (s : Sizes) (j : List Event) (n q p : ℕ) (old new : AskedPlaces) (t u : ℕ → ℕ) → q ≢ p → IsCutOf j p t
+pub asked_places_add : {s : Sizes} {j : List Event} {n q p : ℕ} {old new : AskedPlaces} {t u : ℕ → ℕ} → q ≢ p → IsCutOf j p t
     → IsDueFetchedCut s j p n u → new.all_from ≡ min old.all_from (t q) → new.fetched.items ≡ old.fetched.items ++ u q ∷ []
     → AreAskedPlaces s j n q p old → AreAskedPlaces s j n q (p + 1) new
-asked_places_add s j n q p old new t u apart cut had least more are = record {
+asked_places_add {s = s} {j = j} {n = n} {q = q} {p = p} {old = old} {new = new} {t = t} {u = u} apart cut had least more are = record {
   known = λ r lt other. elim (cases_eq r p) [
     | inl is ↦ (t, subst (λ x. IsCutOf j x t) (sym is) cut, omega (arith, least))
     | inr isnt ↦
@@ -52,7 +52,7 @@ asked_places_add s j n q p old new t u apart cut had least more are = record {
         (let same : new.all_from ≡ old.all_from = omega (arith, least, le) in
         elim are.least [
           | inl end ↦ inl (omega (arith, same, end))
-          | inr h ↦ inr (subst (IsAskedEntry j q (p + 1)) (sym same) (entry_more h))
+          | inr h ↦ inr (subst (IsAskedEntry j q (p + 1)) (sym same) (asked_places_entry_more h))
         ])
   ];
   fetched = λ r lt other. elim (cases_eq r p) [
@@ -69,7 +69,7 @@ asked_places_add s j n q p old new t u apart cut had least more are = record {
         ))
   ];
   only = λ v h. elim ((joined_list_has-append old.fetched.items (u q ∷ []) v).0 (subst (λ xs. Has xs v) more h)) [
-    | inl was ↦ fetch_more (are.only v was)
+    | inl was ↦ asked_places_fetch_more (are.only v was)
     | inr now ↦ elim ((joined_list_has-cons (u q) [] v).0 now) [
       | inl is ↦ (p, omega arith, apart, (u, had, sym is))
       | inr none ↦ absurd (joined_list_has-nil v none)

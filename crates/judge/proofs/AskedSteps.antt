@@ -20,26 +20,26 @@ use Rattle.judge.proofs.StoredBefore.{stored_before_below, stored_before_here, s
 
 -- ---- whether one of the places is between two
 
-or_true : (b : Bool) → (b || true) ≡ true
-or_true true = refl
-or_true false = refl
+asked_steps_or_true : (b : Bool) → (b || true) ≡ true
+asked_steps_or_true true = refl
+asked_steps_or_true false = refl
 
-any_has : (test : ℕ → Bool) (xs : List ℕ) (v : ℕ) → Has xs v → test v ≡ true → list_any test xs ≡ true
-any_has test [] v h is = absurd (none-some v h.1)
-any_has test (x ∷ xs) v (zero, at) is = ap (λ b. b || list_any test xs) (ap test (same_Some x v at) ∙ is)
-any_has test (x ∷ xs) v (suc k, at) is =
-    ap (λ b. test x || b) (any_has test xs v (k, at) is) ∙ or_true (test x)
+asked_steps_any : (test : ℕ → Bool) (xs : List ℕ) (v : ℕ) → Has xs v → test v ≡ true → list_any test xs ≡ true
+asked_steps_any test [] v h is = absurd (none-some v h.1)
+asked_steps_any test (x ∷ xs) v (zero, at) is = ap (λ b. b || list_any test xs) (ap test (same_Some x v at) ∙ is)
+asked_steps_any test (x ∷ xs) v (suc k, at) is =
+    ap (λ b. test x || b) (asked_steps_any test xs v (k, at) is) ∙ asked_steps_or_true (test x)
 
-between_from : (asked : AskedPlaces) (from to : ℕ) → asked.all_from ≤ to → is_asked_between asked from to ≡ true
-between_from asked from to le =
+asked_steps_between_all : (asked : AskedPlaces) (from to : ℕ) → asked.all_from ≤ to → is_asked_between asked from to ≡ true
+asked_steps_between_all asked from to le =
     ap (λ b. b || list_any (λ v. nat_le from v && nat_le v to) asked.fetched.items) (le-leb asked.all_from to le)
 
-between_fetched : (asked : AskedPlaces) (from to v : ℕ) → Has asked.fetched.items v → from ≤ v → v ≤ to
+asked_steps_between_fetched : (asked : AskedPlaces) (from to v : ℕ) → Has asked.fetched.items v → from ≤ v → v ≤ to
     → is_asked_between asked from to ≡ true
-between_fetched asked from to v h low high =
+asked_steps_between_fetched asked from to v h low high =
     let is = ap (λ b. b && nat_le v to) (le-leb from v low) ∙ le-leb v to high in
-    ap (λ b. nat_le asked.all_from to || b) (any_has (λ x. nat_le from x && nat_le x to) asked.fetched.items v h is)
-    ∙ or_true (nat_le asked.all_from to)
+    ap (λ b. nat_le asked.all_from to || b) (asked_steps_any (λ x. nat_le from x && nat_le x to) asked.fetched.items v h is)
+    ∙ asked_steps_or_true (nat_le asked.all_from to)
 
 -- ---- the steps that stay
 
@@ -52,10 +52,10 @@ pub record StaysAsked (asked : AskedPlaces) (steps : List StoredStep) (v : ℕ) 
   pub stays : (from : ℕ) (x : StoredStep) → IsAskedStart steps from → Has steps x → from ≤ v → v ≤ x.place
       → is_asked_between asked from x.place ≡ true
 
-may_stay : (b : Bool) (x : StoredStep) (rest : List StoredStep) (all : StoredAmounts) (v : ℕ) → x.place < v
+asked_steps_may_stay : (b : Bool) (x : StoredStep) (rest : List StoredStep) (all : StoredAmounts) (v : ℕ) → x.place < v
     → stored_before (cond b (x ∷ rest) rest) all v ≡ stored_before rest all v
-may_stay true x rest all v lt = stored_before_below x rest all v lt
-may_stay false x rest all v lt = refl
+asked_steps_may_stay true x rest all v lt = stored_before_below x rest all v lt
+asked_steps_may_stay false x rest all v lt = refl
 
 -- they tell the same of it
 pub asked_steps_before : {asked : AskedPlaces} {whole : List StoredStep} {v : ℕ} → StaysAsked asked whole v → (from : ℕ)
@@ -67,7 +67,7 @@ asked_steps_before {asked = asked} {v = v} stay from (x ∷ steps) all start le 
     let rest = asked_steps_from asked (x.place + 1) steps in
     elim (cases_lt x.place v) [
       | inl lt ↦
-          may_stay (is_asked_between asked from x.place) x rest all v lt
+          asked_steps_may_stay (is_asked_between asked from x.place) x rest all v lt
           ∙ asked_steps_before stay (x.place + 1) steps all (inr (x, among x (0, refl), refl)) (omega arith)
           (λ y h. among y (suc h.0, h.1))
           ∙ sym (stored_before_below x steps all v lt)
@@ -76,10 +76,10 @@ asked_steps_before {asked = asked} {v = v} stay from (x ∷ steps) all start le 
           ∙ stored_before_here x rest all v ge ∙ sym (stored_before_here x steps all v ge)
     ]
 
-still_from : (b : Bool) (x : StoredStep) (rest : List StoredStep) (v : ℕ) → HasStoredStepFrom rest v
+asked_steps_still_from : (b : Bool) (x : StoredStep) (rest : List StoredStep) (v : ℕ) → HasStoredStepFrom rest v
     → HasStoredStepFrom (cond b (x ∷ rest) rest) v
-still_from true x rest v h = record { step = h.step; has = (suc h.has.0, h.has.1); from = h.from }
-still_from false x rest v h = h
+asked_steps_still_from true x rest v h = record { step = h.step; has = (suc h.has.0, h.has.1); from = h.from }
+asked_steps_still_from false x rest v h = h
 
 -- and one of them is from it on, if one was
 pub asked_steps_last : {asked : AskedPlaces} {whole : List StoredStep} {v : ℕ} → StaysAsked asked whole v → (from : ℕ)
@@ -89,7 +89,7 @@ asked_steps_last stay from [] start le among h = h
 asked_steps_last {asked = asked} {v = v} stay from (x ∷ steps) start le among h =
     let rest = asked_steps_from asked (x.place + 1) steps in
     elim (cases_lt x.place v) [
-      | inl lt ↦ still_from (is_asked_between asked from x.place) x rest v
+      | inl lt ↦ asked_steps_still_from (is_asked_between asked from x.place) x rest v
           (asked_steps_last stay (x.place + 1) steps (inr (x, among x (0, refl), refl)) (omega arith)
           (λ y has. among y (suc has.0, has.1)) (stored_before_later x steps v h lt))
       | inr ge ↦
@@ -97,46 +97,46 @@ asked_steps_last {asked = asked} {v = v} stay from (x ∷ steps) start le among 
           (record { step = x; has = (0, refl); from = ge })
     ]
 
-has_stayed : (b : Bool) (y : StoredStep) (rest steps : List StoredStep) (x : StoredStep) → (Has rest x → Has steps x)
+asked_steps_were : (b : Bool) (y : StoredStep) (rest steps : List StoredStep) (x : StoredStep) → (Has rest x → Has steps x)
     → Has (cond b (y ∷ rest) rest) x → Has (y ∷ steps) x
-has_stayed true y rest steps x old h = elim ((joined_list_has-cons y rest x).0 h) [
+asked_steps_were true y rest steps x old h = elim ((joined_list_has-cons y rest x).0 h) [
   | inl is ↦ (joined_list_has-cons y steps x).1 (inl is)
   | inr later ↦ (joined_list_has-cons y steps x).1 (inr (old later))
 ]
-has_stayed false y rest steps x old h = (joined_list_has-cons y steps x).1 (inr (old h))
+asked_steps_were false y rest steps x old h = (joined_list_has-cons y steps x).1 (inr (old h))
 
 -- each was one of the steps
 pub asked_steps_has : (asked : AskedPlaces) (from : ℕ) (steps : List StoredStep) (x : StoredStep)
     → Has (asked_steps_from asked from steps) x → Has steps x
 asked_steps_has asked from [] x h = h
 asked_steps_has asked from (y ∷ steps) x h =
-    has_stayed (is_asked_between asked from y.place) y (asked_steps_from asked (y.place + 1) steps) steps x
+    asked_steps_were (is_asked_between asked from y.place) y (asked_steps_from asked (y.place + 1) steps) steps x
     (asked_steps_has asked (y.place + 1) steps x) h
 
-in_order_stayed : (R : StoredStep → StoredStep → Type 0) (b : Bool) (x : StoredStep) (rest : List StoredStep)
+asked_steps_stay_in_order : (R : StoredStep → StoredStep → Type 0) (b : Bool) (x : StoredStep) (rest : List StoredStep)
     → ((y : StoredStep) → Has rest y → R x y) → InOrder R rest → InOrder R (cond b (x ∷ rest) rest)
-in_order_stayed R true x rest first order = joined_list_in_order-cons R x rest first order
-in_order_stayed R false x rest first order = order
+asked_steps_stay_in_order R true x rest first order = joined_list_in_order-cons R x rest first order
+asked_steps_stay_in_order R false x rest first order = order
 
 -- in their order
 pub asked_steps_in_order : (R : StoredStep → StoredStep → Type 0) (asked : AskedPlaces) (from : ℕ) (steps : List StoredStep)
     → InOrder R steps → InOrder R (asked_steps_from asked from steps)
 asked_steps_in_order R asked from [] order = order
 asked_steps_in_order R asked from (x ∷ steps) order =
-    in_order_stayed R (is_asked_between asked from x.place) x (asked_steps_from asked (x.place + 1) steps)
+    asked_steps_stay_in_order R (is_asked_between asked from x.place) x (asked_steps_from asked (x.place + 1) steps)
     (λ y h. let old = asked_steps_has asked (x.place + 1) steps y h in order 0 (suc old.0) x y (omega arith) refl old.1)
     (asked_steps_in_order R asked (x.place + 1) steps (joined_list_in_order_tail R x steps order))
 
-stayed_fewer : (b : Bool) (x : StoredStep) (rest steps : List StoredStep) → length rest ≤ length steps
+asked_steps_one_fewer : (b : Bool) (x : StoredStep) (rest steps : List StoredStep) → length rest ≤ length steps
     → length (cond b (x ∷ rest) rest) ≤ length (x ∷ steps)
-stayed_fewer true x rest steps le = omega arith
-stayed_fewer false x rest steps le = omega arith
+asked_steps_one_fewer true x rest steps le = omega arith
+asked_steps_one_fewer false x rest steps le = omega arith
 
 pub asked_steps_fewer : (asked : AskedPlaces) (from : ℕ) (steps : List StoredStep)
     → length (asked_steps_from asked from steps) ≤ length steps
 asked_steps_fewer asked from [] = omega arith
 asked_steps_fewer asked from (x ∷ steps) =
-    stayed_fewer (is_asked_between asked from x.place) x (asked_steps_from asked (x.place + 1) steps) steps
+    asked_steps_one_fewer (is_asked_between asked from x.place) x (asked_steps_from asked (x.place + 1) steps) steps
     (asked_steps_fewer asked (x.place + 1) steps)
 
 -- ---- of a history
@@ -163,7 +163,7 @@ asked_steps_stay {s = s} {j = j} {n = n} {q = q} {v = v} {steps = steps} {asked 
                     (let past = (here.1.covers x.place (event q (Store at.address at.value)) at.does ask.other).1 lt in
                     let less = known x.place at past in
                     absurd (omega arith))
-                | inr le ↦ between_from asked from x.place (omega arith)
+                | inr le ↦ asked_steps_between_all asked from x.place (omega arith)
               ])
           | inr had ↦
               (let here = places.fetched p ask.present ask.other in
@@ -183,7 +183,7 @@ asked_steps_stay {s = s} {j = j} {n = n} {q = q} {v = v} {steps = steps} {asked 
                     let lt = (brought q y.0.place z.address z.value ask.other z.does z.in_page).0 ((had y.0.place z).1 (omega arith)) in
                     omega arith)
               ] in
-              between_fetched asked from x.place (t q) here.2 below above)
+              asked_steps_between_fetched asked from x.place (t q) here.2 below above)
         ]
 
 -- so they are enough

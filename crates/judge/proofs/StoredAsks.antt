@@ -14,7 +14,7 @@ use Rattle.journal.proofs.Order.EventPlacesAndCounts.{event_place_at_end, event_
 use Rattle.journal.proofs.Order.IntoPast.{into_past_longer, into_past_reaches_new}
 use Rattle.judge.specs.Cuts.{IsCutOf}
 use Rattle.judge.specs.DueCounts.{IsDueFetchedCut}
-use Rattle.judge.specs.StoredSteps.{IsStoredAsked, IsStoredAt, MayStoredAsk}
+use Rattle.judge.specs.StoredSteps.{IsStoredAsked, IsStoredAt, MayAskStored}
 use Rattle.judge.proofs.StoredLimits.{stored_limit_of_cut, stored_limit_shorter}
 
 -- ---- stores of the page
@@ -34,19 +34,19 @@ stored_asks_longer {j = j} {q = q} e i at = record {
 -- ---- what is asked after one event more was asked before it
 
 -- it is a fetch of page n, or isn't
-kind_fetches_or_not : (k : Kind) (n : ℕ)
+stored_asks_kind_fetches : (k : Kind) (n : ℕ)
     → ((w : ℕ) × (r : ℕ) × (d : ℕ) × (k ≡ Fetch w n r d)) ⊎ ((w r d : ℕ) → k ≢ Fetch w n r d)
-kind_fetches_or_not (Fetch w m r d) n = elim (cases_eq m n) [
+stored_asks_kind_fetches (Fetch w m r d) n = elim (cases_eq m n) [
   | inl is ↦ inl (w, r, d, ap (λ x. Fetch w x r d) is)
   | inr isnt ↦ inr (λ v s c same. isnt cc)
 ]
-kind_fetches_or_not k n = inr (λ w r d same. cc)
+stored_asks_kind_fetches k n = inr (λ w r d same. cc)
 
 -- it is p's fetch of page n, or isn't
-fetches_or_not : (e : Event) (p n : ℕ)
+stored_asks_fetches : (e : Event) (p n : ℕ)
     → ((w : ℕ) × (r : ℕ) × (d : ℕ) × (e ≡ event p (Fetch w n r d))) ⊎ ((w r d : ℕ) → e ≢ event p (Fetch w n r d))
-fetches_or_not e p n = elim (cases_eq e.processor p) [
-  | inl mine ↦ elim (kind_fetches_or_not e.kind n) [
+stored_asks_fetches e p n = elim (cases_eq e.processor p) [
+  | inl mine ↦ elim (stored_asks_kind_fetches e.kind n) [
     | inl f ↦ inl (f.0, f.1, f.2, ap (λ x. event x e.kind) mine ∙ ap (event p) f.3)
     | inr none ↦ inr (λ w r d is. none w r d (ap (λ (x : Event). x.kind) is))
   ]
@@ -54,8 +54,8 @@ fetches_or_not e p n = elim (cases_eq e.processor p) [
 ]
 
 -- a fetch brings what its processor knows
-brought_now : (j : List Event) (p n w r d i : ℕ) → InPast j p i → BroughtToCopy (did j p (Fetch w n r d)) p n i
-brought_now j p n w r d i past =
+stored_asks_brought_now : (j : List Event) (p n w r d i : ℕ) → InPast j p i → BroughtToCopy (did j p (Fetch w n r d)) p n i
+stored_asks_brought_now j p n w r d i past =
     let e = event p (Fetch w n r d) in
     inr (length j, (w, r, d, event_place_at_end j e), (into_past_reaches_new j e i refl).1 past)
 
@@ -72,12 +72,12 @@ stored_asks_shorter {s = s} {j = j} {n = n} {q = q} {v = v} e top asked = record
     p : ℕ
     p = asked.by
 
-    may : MayStoredAsk s j p n q v
+    may : MayAskStored s j p n q v
     may = elim asked.may [
       | inl known ↦ inl (λ i at past. known i (stored_asks_longer e i at) (into_past_longer j (e ∷ []) p i past))
-      | inr had ↦ elim (fetches_or_not e p n) [
+      | inr had ↦ elim (stored_asks_fetches e p n) [
         | inl f ↦ inl (λ i at past. (had i (stored_asks_longer e i at)).0
-            (subst (λ x. BroughtToCopy (j ++ x ∷ []) p n i) (sym f.3) (brought_now j p n f.0 f.1 f.2 i past)))
+            (subst (λ x. BroughtToCopy (j ++ x ∷ []) p n i) (sym f.3) (stored_asks_brought_now j p n f.0 f.1 f.2 i past)))
         | inr none ↦ inr (λ i at. let was = had i (stored_asks_longer e i at) in (
           λ b. was.0 (brought_longer j (e ∷ []) p n i b),
           λ lt. elim (brought_push s j e p n i none (page_stores_to s (j ++ e ∷ []) n i q at.address at.value

@@ -33,8 +33,8 @@ pub record IsStoredAt (s : Sizes) (j : List Event) (n q i : ℕ) : Type 0 where
   pub in_page : address / s.words ≡ n
 
 -- p may know q's stores to page n before place v, and no more, at its next fetch of it, or did at its last one
-abbrev pub MayStoredAsk : Sizes → List Event → ℕ → ℕ → ℕ → ℕ → Type 0
-MayStoredAsk s j p n q v = ((i : ℕ) → IsStoredAt s j n q i → InPast j p i → i < v)
+abbrev pub MayAskStored : Sizes → List Event → ℕ → ℕ → ℕ → ℕ → Type 0
+MayAskStored s j p n q v = ((i : ℕ) → IsStoredAt s j n q i → InPast j p i → i < v)
     ⊎ ((i : ℕ) → IsStoredAt s j n q i → BroughtToCopy j p n i ↔ (i < v))
 
 -- a processor's fetch of page n may still ask what q had stored in it before place v
@@ -43,7 +43,7 @@ pub record IsStoredAsked (s : Sizes) (j : List Event) (n q v : ℕ) : Type 0 whe
   pub by : ℕ
   pub present : by < s.processors
   pub other : q ≢ by
-  pub may : MayStoredAsk s j by n q v
+  pub may : MayAskStored s j by n q v
 
 -- what had been stored before place v: before the first step from v on, and all where there is none
 abbrev pub stored_before : List StoredStep → StoredAmounts → ℕ → StoredAmounts

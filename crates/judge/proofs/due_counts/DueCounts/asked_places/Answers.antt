@@ -29,8 +29,8 @@ loop-processor-preserved c = λ j tells.
           let lt = c.loop-processor-test.true in
           let cut = cut_of_present tells.cuts p (omega (arith, present, lt)) in
           let least = w.add.ensures.all_from ∙ ap (min old.all_from) (w.of.ensures q) in
-          subst Are (sym w.asked-is) (asked_places_add s j n q p old w.add.new.self (entry d.cuts.processors.items p)
-          (slice_index w.last_fetch.result) (λ is. w.if-processor-by.true (sym is)) cut (w.last_fetch.ensures j tells) least w.in_ok-add.ensures.fetched were))
+          subst Are (sym w.asked-is) (asked_places_add {old = old} {new = w.add.new.self} (λ is. w.if-processor-by.true (sym is)) cut
+          (w.last_fetch.ensures j tells) least w.in_ok-add.ensures.fetched were))
       | else-processor-by w ↦
           subst Are (sym w.asked-is) (asked_places_own s j n q p old w.if-processor-by.false were)
     ]
