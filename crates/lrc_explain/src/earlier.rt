@@ -1,13 +1,11 @@
 //! The store that stands last before each access, whether or not it is ordered before it.
 ghost use Rattle.std.specs.Prelude.{◌≡◌, ◌≤◌, ◌<◌, [], List, length};
 ghost use Rattle.journal.specs.declared.event.Event.{Event};
-ghost use Rattle.journal.specs.Prelude.{EventAddressInRange, EventAddressesInRange, EventProcessorsInRange};
-ghost use Rattle.judge.specs.Prelude.{most_in_sized_history};
-ghost use Rattle.judge.specs.Sources.Prelude.{AreKeptSourcesOf};
+ghost use Rattle.journal.specs.Prelude.{EventProcessorsInRange};
+ghost use Rattle.judge.specs.Prelude.{AreCuts, most_in_sized_history};
 
 use journal::{Event, Kind};
-use judge::History;
-use judge::sources::ReadableSources;
+use judge::{Cuts, History};
 use std::alloc::{AllocError, Global};
 
 /// The last store to the address of an access that stands before it in the history, by whomever.
@@ -19,53 +17,74 @@ pub struct Earlier {
     pub is_ordered: bool,
 }
 
+/// The last store to an address so far.
+#[derive(Clone, Copy)]
+struct EarlierStore {
+    by: usize,
+    place: usize,
+}
+
+/// Whether the processor knows the store: whether it is its own, or in its cut.
+fn is_earlier_store_known(cuts: &Cuts, processor: usize, store: EarlierStore) -> bool
+    requires tells { (j : List Event) × AreCuts j cuts.now }
+    requires processor { processor < cuts.now.present }
+{
+    if store.by == processor {
+        return true;
+    }
+    match cuts.of(processor).get(store.by) {
+        Some(limit) => store.place < *limit as usize,
+        None => false,
+    }
+}
+
 /// The last store to the address of the event, where it is an access that comes next.
-fn earlier_at(sources: &ReadableSources, last: &[Option<usize>], event: Event) -> Option<Earlier>
-    requires tells { (j : List Event) × AreKeptSourcesOf j sources.now }
-    requires processor { event.processor < sources.now.processors }
-    requires address { EventAddressInRange sources.now.addresses event.kind }
+fn earlier_at(cuts: &Cuts, last: &[Option<EarlierStore>], event: Event) -> Option<Earlier>
+    requires tells { (j : List Event) × AreCuts j cuts.now }
+    requires processor { event.processor < cuts.now.present }
 {
     let (Kind::Load(address, _) | Kind::Store(address, _)) = event.kind else {
         return None;
     };
-    let Some(Some(place)) = last.get(address) else {
+    let Some(Some(store)) = last.get(address) else {
         return None;
     };
-    let latest = sources.before(event.processor, address);
     Some(Earlier {
-        place: *place,
-        is_ordered: latest.contains(&Some(*place)),
+        place: store.place,
+        is_ordered: is_earlier_store_known(cuts, event.processor, *store),
     })
 }
 
-/// Keeps the place of the event, where it is a store.
-fn keep_earlier_store(last: &mut [Option<usize>], place: usize, kind: Kind) {
-    if let Kind::Store(address, _) = kind {
+/// Keeps the event at this place, where it is a store.
+fn keep_earlier_store(last: &mut [Option<EarlierStore>], place: usize, event: Event) {
+    if let Kind::Store(address, _) = event.kind {
         if let Some(kept) = last.get_mut(address) {
-            *kept = Some(place);
+            *kept = Some(EarlierStore {
+                by: event.processor,
+                place,
+            });
         }
     }
 }
 
-/// Finds the last store before each event of a history, of which `sources` tells nothing yet. `last` has the last store to
+/// Finds the last store before each event of a history, of which `cuts` tells nothing yet. `last` has the last store to
 /// each address so far.
 fn collect_earlier_stores(
     found: &mut [Option<Earlier>],
-    last: &mut [Option<usize>],
-    sources: &mut ReadableSources,
+    last: &mut [Option<EarlierStore>],
+    cuts: &mut Cuts,
     events: &[Event],
 ) -> Result<(), AllocError>
     requires few { length events.now ≤ most_in_sized_history }
     requires places { length found.old ≡ length events.now }
-    requires tells { AreKeptSourcesOf [] sources.old }
-    requires addresses { EventAddressesInRange sources.old.addresses events.now }
-    requires processors { EventProcessorsInRange sources.old.processors events.now }
+    requires tells { AreCuts [] cuts.old }
+    requires processors { EventProcessorsInRange cuts.old.present events.now }
 {
     for place in 0..events.len() {
         let event = events[place];
-        found[place] = earlier_at(sources, last, event);
-        keep_earlier_store(last, place, event.kind);
-        sources.note(events, place)?;
+        found[place] = earlier_at(cuts, last, event);
+        keep_earlier_store(last, place, event);
+        cuts.note(event)?;
     }
     Ok(())
 }
@@ -73,16 +92,15 @@ fn collect_earlier_stores(
 /// Of each event of the history, in order: the last store to its address before it, where it is an access and there is such a
 /// store; else None. The only error is running out of memory.
 ///
-/// It takes time as `causes::loads` does.
+/// It takes time in the order of the events, and for those of locks, flags and the barrier in that of the processors.
 pub fn earlier_stores_before(
     alloc: Global,
     history: &History<'_>,
 ) -> Result<Vec<Option<Earlier>>, AllocError> {
     let events = history.events();
-    let addresses = history.addresses();
-    let mut sources = ReadableSources::new(alloc, history.sizes().processors, addresses)?;
-    let mut last = vec![in alloc; None; addresses]?;
+    let mut cuts = Cuts::new(alloc, history.sizes().processors)?;
+    let mut last = vec![in alloc; None; history.addresses()]?;
     let mut found = vec![in alloc; None; events.len()]?;
-    collect_earlier_stores(&mut found, &mut last, &mut sources, events)?;
+    collect_earlier_stores(&mut found, &mut last, &mut cuts, events)?;
     Ok(found)
 }

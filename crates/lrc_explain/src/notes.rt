@@ -11,8 +11,8 @@ use crate::strays::Stray;
 use crate::told_history::{ProseNumbers, ToldHistory, told_history_numbers};
 use crate::told_state::ToldState;
 use causes::{Due, Source, WordOrigin};
-use journal::{Event, Kind, MOST_PROCESSORS};
-use judge::Sizes;
+use journal::{Event, Kind};
+use judge::{MOST_JUDGED_PROCESSORS, Sizes};
 use lrc_prose::text::ProseText;
 
 /// What is known of a history.
@@ -257,7 +257,7 @@ impl HistoryNotes<'_> {
 
     /// Puts what is said of the departure at this place: whose arrivals it follows.
     fn put_depart(&self, text: &mut ProseText, place: usize) {
-        let mut marks = [false; MOST_PROCESSORS];
+        let mut marks = [false; MOST_JUDGED_PROCESSORS];
         for arrival in self.incoming(place) {
             if let Some(mark) = marks.get_mut(self.deed(*arrival).processor) {
                 *mark = true;
@@ -266,7 +266,7 @@ impl HistoryNotes<'_> {
         let arrived = MarkedProcessors {
             marks: &marks,
             mark: true,
-            but: MOST_PROCESSORS,
+            but: MOST_JUDGED_PROCESSORS,
         };
         match arrived.count() {
             0 => return,

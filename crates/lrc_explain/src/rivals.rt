@@ -3,9 +3,9 @@ ghost use Rattle.std.specs.Prelude.{◌≡◌, length};
 ghost use Rattle.causes.specs.Prelude.{ArePathWays};
 
 use crate::page_copy::PageCopy;
-use base::MOST_PROCESSORS;
 use causes::{Source, Ways};
 use journal::{Event, Kind};
+use judge::MOST_JUDGED_PROCESSORS;
 use std::alloc::{AllocError, Global};
 use std::collections::BTreeMap;
 
@@ -68,7 +68,7 @@ impl RivalSearch<'_> {
     {
         let words = self.words?;
         let processor = load.processor;
-        if words == 0 || store >= self.events.len() || processor >= MOST_PROCESSORS {
+        if words == 0 || store >= self.events.len() || processor >= MOST_JUDGED_PROCESSORS {
             return None;
         }
         let page = load.address / words;

@@ -3,7 +3,8 @@ ghost use Rattle.std.specs.Prelude.{◌≤◌, length};
 ghost use Rattle.causes.specs.Prelude.{ArePathWays};
 
 use causes::{Source, Ways};
-use journal::{Event, Kind, MOST_PROCESSORS};
+use journal::{Event, Kind};
+use judge::MOST_JUDGED_PROCESSORS;
 use std::alloc::{AllocError, Global};
 use std::collections::BTreeMap;
 
@@ -57,7 +58,7 @@ fn is_stray_before(
 ) -> bool
     requires { ArePathWays events.now ways.now }
 {
-    if store >= events.len() || processor >= MOST_PROCESSORS {
+    if store >= events.len() || processor >= MOST_JUDGED_PROCESSORS {
         return false;
     }
     match ways.first(events, store, processor) {
