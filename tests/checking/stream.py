@@ -147,27 +147,33 @@ for words in STORING:
 
 
 def counted_trace(events):
-    """The lines of a faithful trace whose fetches count what they bring. Seven locks go round 16 processors; under a lock each
-    processor fetches and then stores in all 16 pages of the lock, in the first one two words."""
-    visits = [[] for _ in range(7)]  # of each lock, who had it
+    """The lines of a faithful trace whose fetches count what they bring. Seven locks go round 16 processors. Under a lock each
+    processor stores in all 16 pages of the lock, in the first one two words, and fetches one of them, each time the next one."""
+    total = [0] * 7  # of each lock, how often it was had
+    last = [[0] * 16 for _ in total]  # and the number of that, from 1 on, that each processor had it last
+    own = [[0] * 16 for _ in total]  # and how often each had it
+    fetched = {}  # of a page and a processor, what both counts were at its last fetch
     place = turn = 0
     yield b"cluster 16 112 64 8\n"
     while place + 40 <= events:
-        processor, lock = turn % 16, turn % 7
-        had = visits[lock]
-        since = had[had.index(processor) + 1 :] if processor in had else had
-        brought = len(since)  # each is another processor, and in one interval of it
+        processor, lock, fetch = turn % 16, turn % 7, turn // 112 % 16
+        page = lock * 16 + fetch
+        all_then, own_then = fetched.get((page, processor), (0, 0))
+        records = total[lock] - all_then - own[lock][processor] + own_then
+        writers = sum(number > all_then for other, number in enumerate(last[lock]) if other != processor)
         whats = [f"ask {lock}", f"acquire {lock}"]
-        for page in range(lock * 16, lock * 16 + 16):
-            words = 2 if page % 16 == 0 else 1
-            if brought:
-                whats.append(f"fetch {page} {brought} {brought} {brought * words}")
-            whats.extend(f"store {page * 64 + processor + word * 16} {turn % 1000}" for word in range(words))
+        if records:
+            whats.append(f"fetch {page} {writers} {records} {records * (1 if fetch else 2)}")
+            fetched[page, processor] = total[lock], own[lock][processor]
+        whats.append(f"store {lock * 1024 + 16 + processor} {turn % 1000}")
+        whats.extend(f"store {(lock * 16 + page) * 64 + processor} {turn % 1000}" for page in range(16))
         whats.append(f"release {lock}")
         for what in whats:
             yield f"event {place} {processor} {what}\n".encode()
             place += 1
-        visits[lock] = [*since, processor]
+        total[lock] += 1
+        own[lock][processor] += 1
+        last[lock][processor] = total[lock]
         turn += 1
 
 
@@ -185,19 +191,19 @@ def memory_of(lines, *words):
     return run.returncode, said.decode(), wrong.decode(), int(used[1]) << 10 if used else 0
 
 
-# The second half has some 370,000 more intervals that store in a page.
+# The second half has some 570,000 more intervals that store in a page.
 COUNTED = list(counted_trace(LONG))
 SHORT = COUNTED[: len(COUNTED) // 2]
 status, said, wrong, short = memory_of(SHORT, "--model", "lazy-release")
 count("a trace that counts is faithful", status == 0 and f"events {len(SHORT) - 1}\n" in said and "verdict race-free" in said, status, said[:300], wrong)
 status, said, wrong, long = memory_of(COUNTED, "--model", "lazy-release")
 count("a long trace that counts is faithful", status == 0 and f"events {len(COUNTED) - 1}\n" in said, status, said[:300], wrong)
-count("the memory for counts doesn't grow with the trace", 0 < long < short + (2 << 20), short, long)
+count("the memory for counts doesn't grow with the trace", 0 < long < short + (4 << 20), short, long)
 wrongly = next(place for place in range(len(SHORT) - 1, 0, -1) if b" fetch " in SHORT[place])
 head, number = SHORT[wrongly].rsplit(b" ", 1)
 lied = [*SHORT[:wrongly], head + b" %d\n" % (int(number) + 1), *SHORT[wrongly + 1 :]]
 status, said, wrong = long_judged(lied, "--model", "lazy-release", memory=STORED)
-count("a wrong count at its end is told", status == 6 and f"unfaithful {wrongly - 1}\n" in said and "the fetch has to count 15 writers, 15 records and" in said, status, said[:300], wrong)
+count("a wrong count at its end is told", status == 6 and f"unfaithful {wrongly - 1}\n" in said and "the fetch has to count 15 writers, 240 records and" in said, status, said[:300], wrong)
 
 
 def section(processor, lock, *accesses):

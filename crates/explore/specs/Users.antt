@@ -79,7 +79,7 @@ AreUserRowsWithin size rows = (p : ℕ) (row : Vec ScriptCall) → slice_get row
 
 -- each row has few steps
 abbrev pub AreUserRowsFew : List (Vec ScriptCall) → Type 0
-AreUserRowsFew rows = (p : ℕ) (row : Vec ScriptCall) → slice_get rows p ≡ Some row → length row.items < 2 ^ 20
+AreUserRowsFew rows = (p : ℕ) (row : Vec ScriptCall) → slice_get rows p ≡ Some row → length row.items < 2 ^ 15
 
 -- the first n rows are noted
 abbrev pub AreUserRowsNoted : List GuardedWordUse → List (Vec ScriptCall) → ℕ → Type 0

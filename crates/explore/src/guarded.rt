@@ -216,7 +216,7 @@ fn track_guarded_row(
     row: &[ScriptCall],
 ) -> Result<(), AllocError>
     requires within { AreUserStepsWithin (vec_len words.old) row.now }
-    requires few { length row.now < 2 ^ 20 }
+    requires few { length row.now < 2 ^ 15 }
     ensures keeps { OnOk result (UsersAreKept words.old.items words.new.items) }
     ensures noted { OnOk result (AreStepUsersNoted words.new.items processor row.now (length row.now)) }
 {

@@ -78,7 +78,7 @@ fn note_walked_step(
 ) -> Result<(), AllocError>
     requires within { IsUserStepWithin (vec_len words.old) step }
     requires sized { (n : ℕ) × (n ≤ most_processors) × (processor < n) × AreTextWalkWordsSized n words.old.items }
-    requires place { row.now.place < 2 ^ 20 }
+    requires place { row.now.place < 2 ^ 15 }
     ensures { OnOk result (IsTextWalkStepNoted words.old.items words.new.items processor row.now step) }
 {
     if let Some(address) = guarded_address_of(step) {

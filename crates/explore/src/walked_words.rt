@@ -11,15 +11,15 @@ use base::MOST_LOCKS;
 use std::alloc::{AllocError, Global};
 use std::collections::BTreeMap;
 
-/// How a processor uses a word in one phase.
+/// How a processor uses a word in one phase. There may be many of these, and places are small.
 #[derive(Clone, Copy)]
 pub struct WalkedUser {
     /// One more than the place of its last access.
-    until: usize,
+    until: u16,
     /// The same of its last store; 0 if it only loads.
-    stored_until: usize,
+    stored_until: u16,
     /// Of each lock the same of its last access without that lock.
-    unlocked_until: [usize; MOST_LOCKS],
+    unlocked_until: [u16; MOST_LOCKS],
 }
 
 /// How a processor uses a word in each phase.
@@ -37,13 +37,21 @@ pub struct WalkedWord {
     pub is_guarded: bool,
 }
 
-/// Where the access that stands there ends, if it is without this lock; else 0.
-fn unlocked_until_at(row: &WalkedRow, lock: usize) -> usize
+/// Where the access ends that stands there.
+fn access_until(row: &WalkedRow) -> u16
+    requires { row.now.place < 2 ^ 15 }
+    ensures { result ≡ row.now.place + 1 }
+{
+    row.place as u16 + 1
+}
+
+/// Where the access ends that stands there, if it is without this lock; else 0.
+fn unlocked_until_at(row: &WalkedRow, lock: usize) -> u16
     requires lock { lock < most_locks }
-    requires place { row.now.place < 2 ^ 20 }
+    requires place { row.now.place < 2 ^ 15 }
     ensures { result ≡ cond (walked_row_holds row.now lock) 0 (row.now.place + 1) }
 {
-    if row.held[lock] { 0 } else { row.place + 1 }
+    if row.held[lock] { 0 } else { access_until(row) }
 }
 
 impl WalkedUser {
@@ -57,8 +65,8 @@ impl WalkedUser {
     }
 
     /// Of each lock where the last access without it ends, if the one that stands there is added.
-    fn unlocked_until_with(&self, row: &WalkedRow) -> [usize; MOST_LOCKS]
-        requires { row.now.place < 2 ^ 20 }
+    fn unlocked_until_with(&self, row: &WalkedRow) -> [u16; MOST_LOCKS]
+        requires { row.now.place < 2 ^ 15 }
         ensures { (l : ℕ) → l < most_locks → slice_index result l
             ≡ max (slice_index self.now.unlocked_until l) (cond (walked_row_holds row.now l) 0 (row.now.place + 1)) }
     {
@@ -70,13 +78,13 @@ impl WalkedUser {
     }
 
     /// Where the last store ends, if the access that stands there is added.
-    fn stored_until_with(&self, row: &WalkedRow, stores: bool) -> usize
-        requires { row.now.place < 2 ^ 20 }
+    fn stored_until_with(&self, row: &WalkedRow, stores: bool) -> u16
+        requires { row.now.place < 2 ^ 15 }
         ensures old { self.now.stored_until ≤ result }
         ensures new { IsTrue stores → row.now.place < result }
     {
         if stores {
-            self.stored_until.max(row.place + 1)
+            self.stored_until.max(access_until(row))
         } else {
             self.stored_until
         }
@@ -84,12 +92,12 @@ impl WalkedUser {
 
     /// The user, and the access that stands there.
     fn joined(&self, row: &WalkedRow, stores: bool) -> WalkedUser
-        requires { row.now.place < 2 ^ 20 }
+        requires { row.now.place < 2 ^ 15 }
         ensures old { (i : ℕ) (store : Bool) (held : ℕ → Bool) → IsWalkedUser self.now i store held → IsWalkedUser result i store held }
         ensures new { IsWalkedUser result row.now.place stores (walked_row_holds row.now) }
     {
         WalkedUser {
-            until: self.until.max(row.place + 1),
+            until: self.until.max(access_until(row)),
             stored_until: self.stored_until_with(row, stores),
             unlocked_until: self.unlocked_until_with(row),
         }
@@ -101,7 +109,7 @@ impl WalkedUser {
             × (slice_index self.now.unlocked_until l ≤ made) }
     {
         for lock in 0..MOST_LOCKS {
-            if held[lock] && self.unlocked_until[lock] <= made {
+            if held[lock] && self.unlocked_until[lock] as usize <= made {
                 return true;
             }
         }
@@ -113,9 +121,9 @@ impl WalkedUser {
         ensures { result ≡ (if stores then self.now.until else self.now.stored_until) }
     {
         if stores {
-            self.until
+            self.until as usize
         } else {
-            self.stored_until
+            self.stored_until as usize
         }
     }
 
@@ -155,7 +163,7 @@ impl WalkedUses {
 
     /// The user in the phase, and the access that stands there.
     fn joined(&self, row: &WalkedRow, stores: bool) -> WalkedUser
-        requires { row.now.place < 2 ^ 20 }
+        requires { row.now.place < 2 ^ 15 }
         ensures old { (u : AUser) → get nat_cmp self.now.phases row.now.phase ≡ Some u → (i : ℕ) (store : Bool) (held : ℕ → Bool)
             → IsWalkedUser u i store held → IsWalkedUser result i store held }
         ensures new { IsWalkedUser result row.now.place stores (walked_row_holds row.now) }
@@ -168,7 +176,7 @@ impl WalkedUses {
 
     /// Takes note of the access that stands there. The only error is running out of memory, after which this may be of no use.
     fn note(&mut self, row: &WalkedRow, stores: bool) -> Result<(), AllocError>
-        requires { row.now.place < 2 ^ 20 }
+        requires { row.now.place < 2 ^ 15 }
         ensures { OnOk result (IsWalkedPhaseNoted self.old self.new row.now stores) }
     {
         let user = self.joined(row, stores);
@@ -216,7 +224,7 @@ impl WalkedWord {
     ) -> Result<(), AllocError>
         requires few { vec_len self.old.uses ≤ most_processors }
         requires processor { processor < vec_len self.old.uses }
-        requires place { row.now.place < 2 ^ 20 }
+        requires place { row.now.place < 2 ^ 15 }
         ensures { OnOk result (IsWalkedAccessNoted self.old self.new processor row.now stores) }
     {
         self.is_guarded &= self.are_apart(processor, row, stores);

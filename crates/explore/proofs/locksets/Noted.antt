@@ -263,7 +263,7 @@ lockset_noted_rows_more a b rows n row at keeps noted now p other lt there = eli
   | inr isnt ↦ lockset_noted_keeps_steps a b p other.items (length other.items) keeps (noted p other (omega arith) there)
 ]
 
-lockset_noted_row_few : (s : Plan) (p : ℕ) (row : Vec ScriptCall) → IsLawful s → IsMachineStepRow s p row → length row.items < 2 ^ 20
+lockset_noted_row_few : (s : Plan) (p : ℕ) (row : Vec ScriptCall) → IsLawful s → IsMachineStepRow s p row → length row.items < 2 ^ 15
 lockset_noted_row_few s p row lawful of =
     let within = slice_get_within s.sections p of.section of.at in
     let is = subst (IsLawfulSection s)

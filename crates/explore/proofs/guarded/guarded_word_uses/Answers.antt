@@ -29,7 +29,7 @@ track_guarded_row-requires-clause-few c =
     let row = c.index-steps-processor.result in
     let at = machine_step_read_at c.args.steps.now p row c.loop-processor-test.true c.index-steps-processor.is in
     let few = c.requires.few p row at in
-    subst (λ xs. length xs < 2 ^ 20) (sym c.deref.ensures.value) few
+    subst (λ xs. length xs < 2 ^ 15) (sym c.deref.ensures.value) few
 
 pub loop-processor-preserved : goal.loop-processor-preserved
 loop-processor-preserved c =
