@@ -1,10 +1,9 @@
 -- The rows of a history, as it goes on.
-use Rattle.std.proofs.Common.{◌≡◌, ◌≢◌, ℕ, ◌<◌, inl, inr, ◌↔◌, List, [], ◌∷◌, ◌++◌, length, take, drop, Option, Some, slice_get, subst, sym, refl, ap, ◌∙◌, suc, take-append-drop, arith}
+use Rattle.std.proofs.Common.{◌≡◌, ◌≢◌, ℕ, ◌<◌, List, [], ◌∷◌, ◌++◌, length, take, drop, Option, Some, slice_get, subst, sym, refl, ap, ◌∙◌, suc, take-append-drop, arith}
 use Rattle.std.specs.Prelude.{None, map, option_map}
 use Rattle.std.proofs.lemmas.Option.{none-some, same_Some, slice_get-map}
 use Rattle.std.proofs.lemmas.List.{length-take-le}
-use Rattle.base.specs.InOrderOnce.{Has, InOrder}
-use Rattle.base.proofs.SlicesAndCounts.{slice_push_cases, slice_get-append_left, slice_get-last, slice_take-suc_at}
+use Rattle.base.proofs.SlicesAndCounts.{slice_take-suc_at}
 use Rattle.journal.specs.declared.event.Event.{Event}
 use Rattle.journal.specs.declared.event.Kind.TheVariants.{Load, Store}
 use Rattle.journal.specs.DidEvent.{event}

@@ -1,4 +1,4 @@
-use Rattle.std.proofs.Common.{◌≡◌, ◌≢◌, ℕ, inl, inr, ◌∷◌, ◌++◌, [], List, length, slice_index, slice_index_or, ◌<◌, refl, arith}
+use Rattle.std.proofs.Common.{◌≢◌, ℕ, inl, inr, ◌∷◌, ◌++◌, [], List, length, slice_index_or, refl, arith}
 use borrow.Author.Count.{below_more}
 use Rattle.std.proofs.lemmas.Bool.{cases_lt}
 use Rattle.std.proofs.lemmas.Option.{slice_get-get_or}

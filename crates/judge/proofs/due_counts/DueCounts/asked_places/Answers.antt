@@ -1,5 +1,4 @@
-use Rattle.std.proofs.Common.{◌≡◌, ◌+◌, slice_index, subst, sym, ap, ◌∙◌, min, arith}
-use Rattle.journal.specs.ClockEntry.{entry}
+use Rattle.std.proofs.Common.{◌≡◌, ◌+◌, subst, sym, ap, ◌∙◌, min, arith}
 use Rattle.judge.specs.declared.asked_places.AskedPlaces.{AskedPlaces}
 use Rattle.judge.specs.AskedPlaces.{AreAskedPlaces}
 use Rattle.judge.specs.JudgedSizes.{judged_sizes_of}

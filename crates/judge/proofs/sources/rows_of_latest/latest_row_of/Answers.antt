@@ -5,11 +5,10 @@ use Rattle.std.proofs.lemmas.Result.{IfOk-weaker}
 use Rattle.journal.specs.declared.event.Event.{Event}
 use Rattle.journal.specs.DidEvent.{event}
 use Rattle.journal.specs.declared.event.Kind.TheVariants.{Load}
-use Rattle.judge.specs.declared.flat_memory.FlatStore.{FlatStore}
 use Rattle.judge.specs.PermittedStores.{AreLatestStores}
 use Rattle.judge.specs.Sources.Latest.{IsLatestRow}
 use Rattle.judge.specs.KeptStores.{AreKeptStoresOf}
-use Rattle.judge.proofs.sources.LoadRows.{load_row_of_stores, load_row_others, load_row_place}
+use Rattle.judge.proofs.sources.LoadRows.{load_row_of_stores, load_row_place}
 use Rattle.judge.proofs.sources.rows_of_latest.latest_row_of.Goals as goal
 
 pub returns : goal.returns

@@ -8,7 +8,7 @@ use Rattle.base.proofs.SlicesAndCounts.{slice_push_cases}
 use Rattle.journal.specs.declared.event.Event.{Event}
 use Rattle.journal.specs.declared.event.Kind.TheVariants.{Load}
 use Rattle.journal.specs.DidEvent.{event}
-use Rattle.journal.specs.EventsInRange.{EventAddressInRange, EventAddressesInRange, EventProcessorsInRange}
+use Rattle.journal.specs.EventsInRange.{EventAddressInRange}
 use Rattle.judge.specs.Sources.Latest.{AreLatestRows, IsLatestRow}
 use Rattle.judge.proofs.sources.LoadRows.{load_row_in_front}
 use Rattle.judge.proofs.sources.rows_of_latest.latest_rows.Goals as goal

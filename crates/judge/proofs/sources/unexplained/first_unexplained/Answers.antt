@@ -10,7 +10,7 @@ use Rattle.journal.specs.declared.event.Kind.TheVariants.{Load}
 use Rattle.journal.specs.DidEvent.{event}
 use Rattle.journal.specs.Events.{EventAt}
 use Rattle.journal.specs.WellFormed.{Does}
-use Rattle.journal.specs.EventsInRange.{EventAddressInRange, EventAddressesInRange, EventProcessorsInRange}
+use Rattle.journal.specs.EventsInRange.{EventAddressInRange}
 use Rattle.journal.specs.ExplainedAnswers.{Explained, IsAnswer}
 use Rattle.journal.proofs.Order.EventPlacesAndCounts.{event_place_same, event_place_inside}
 use Rattle.judge.specs.Sources.LatestAnswers.{IsFirstNotLatestAnswer}
