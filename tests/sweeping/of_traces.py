@@ -141,11 +141,10 @@ class Case:
 
     def try_many(self, events, draws):
         """Compares what the program says of the trace with its processors moved apart, under the models that look at earlier
-        stores. Of so many a race has no sentences."""
+        stores."""
         script, moved = with_processors(draws, self.script, events)
         for rules in (verdicts.Rules(verdicts.HAPPENS_BEFORE), verdicts.Rules(verdicts.LAZY_RELEASE)):
-            found = verdicts.find(script, moved, rules)
-            verdict = found._replace(lines=tuple(it for it in found.lines if not it.startswith(verdicts.INDENT)))
+            verdict = verdicts.find(script, moved, rules)
             answer = self.program.call(verdicts.text_of(script, moved), "check", *rules.words())
             check_verdict(verdicts.answer_to(verdict, rules), answer)
             self.found.seen["many", rules.model, verdict.kind] += 1

@@ -1,4 +1,4 @@
-use Rattle.std.proofs.Common.{◌∙◌, ◌+◌, ℕ, List, slice_index_or, subst, sym, take, arith}
+use Rattle.std.proofs.Common.{◌∙◌, ℕ, List, slice_index_or, subst, sym, take, arith}
 use Rattle.std.proofs.lemmas.List.{length-take-le}
 use Rattle.std.proofs.lemmas.Option.{slice_get-get_or}
 use Rattle.base.proofs.SlicesAndCounts.{slice_get-from_take}
