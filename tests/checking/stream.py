@@ -8,6 +8,7 @@ doesn't grow with it: 16 processors that share 4,096 words, each under a lock, w
 lies there; and one whose locks go round, under the models that look at earlier stores. Nor does the memory grow with one whose
 fetches count what they bring, of 16 processors that share 112 pages. What is told has its labels as long as it is at hand, and so has the race if more than a window comes behind it.
 With --locksets the memory doesn't grow either, and accesses of a word that were let go of are told by number and processor.
+`explain --trace` refuses a trace of more events than it has at hand.
 The last line is `N passed, M failed`.
 """
 import re
@@ -80,6 +81,21 @@ STORING = (("--model", "happens-before"), ("--model", "lazy-release"), ("--model
 for words in STORING:
     status, said, wrong = while_open(LIE, *words)
     count(f"a lie is told while the pipe is open, {words}", status == 6 and "unfaithful 1" in said, status, said, wrong)
+
+
+def too_large():
+    """The lines of a trace of an event more than is told."""
+    yield b"cluster 1 1 1 0\n"
+    for place in range((1 << 21) + 1):
+        yield b"event %d 0 store 0 1\n" % place
+
+
+told = subprocess.run([PROGRAM, "explain", "--trace"], input=b"".join(too_large()), capture_output=True)
+count(
+    "a trace of too many events isn't told",
+    (told.returncode, told.stdout, told.stderr) == (4, b"", b"lrc: trace too large to hold\n  at most 2097152 events; check takes more\n"),
+    told.returncode, told.stdout[:300], told.stderr,
+)
 
 
 def long_trace(events, locks=64):

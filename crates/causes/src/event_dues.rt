@@ -178,9 +178,10 @@ fn all_dues(alloc: Global, gaps: &mut Gaps, events: &[Event]) -> Result<Vec<Vec<
 /// takes, which records its processor's copies lack after it that they did not lack before, by pages and then by writers; and
 /// nothing of any other. A page with such records is stale.
 ///
-/// The only error is running out of memory. It takes time in the order of the events, and for each event that takes that
-/// of the pages times the processors of which it brings news, times the logarithm of the events.
+/// It has at most 16 processors. The only error is running out of memory. It takes time in the order of the events, and for each
+/// event that takes that of the pages times the processors of which it brings news, times the logarithm of the events.
 pub fn dues(alloc: Global, history: &History<'_>) -> Result<Vec<Vec<Due>>, AllocError>
+    requires { history.now.sizes.processors ≤ most_processors }
     ensures long { IfOk result (λ v. vec_len v ≡ length history.now.events) }
     ensures dues { IfOk result (λ v. AreAllDues (judged_sizes_of history.now.sizes) history.now.events v.items) }
 {

@@ -1,5 +1,6 @@
 //! Why the events of a history went as they did, all together.
-ghost use Rattle.std.specs.Prelude.{IfOk};
+ghost use Rattle.std.specs.Prelude.{◌≤◌, IfOk};
+ghost use Rattle.base.specs.Prelude.{most_processors};
 ghost use Rattle.judge.specs.Prelude.{judged_sizes_of};
 ghost use Rattle.causes.specs.Prelude.{IsExplanation};
 
@@ -30,9 +31,10 @@ pub struct Explanation {
     pub waits: Vec<Wait>,
 }
 
-/// What `judge::sources::latest`, `origins`, `loads`, `race`, `incoming` and `waits` tell of the history. The only error is running
-/// out of memory.
+/// What `judge::sources::latest`, `origins`, `loads`, `race`, `incoming` and `waits` tell of the history, which has at most 16
+/// processors. The only error is running out of memory.
 pub fn explain(alloc: Global, history: &History<'_>) -> Result<Explanation, AllocError>
+    requires { history.now.sizes.processors ≤ most_processors }
     ensures { IfOk result (IsExplanation (judged_sizes_of history.now.sizes) history.now.events) }
 {
     let race = race(alloc, history)?;

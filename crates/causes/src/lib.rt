@@ -10,7 +10,8 @@
 //! tells of, `IsOrigin` of specs/Origins from which store the word of a copy comes, `IsEventState` of specs/EventStates what the
 //! protocol's state at an event is, `IsFinalWait` of specs/FinalWaits what each thing
 //! that a processor waits for means; all in journal's words of happens-before, latest stores, races, gaps of copies and who
-//! holds a lock. A history is a `judge::History`; it need not be one that a cluster can make.
+//! holds a lock. A history is a `judge::History`; it need not be one that a cluster can make. What copies have and lack is told of
+//! one with at most 16 processors (`origins`, `dues`, `event_states`, `written_words`, `explain`), all else of any.
 //!
 //! **What is proved.** `loads` names for each load a latest store of its past whose value it answers; or that its past
 //! has no store and it answers 0; or that it may not answer what it does. `race` is the first race, with the last event

@@ -169,9 +169,10 @@ pub(crate) fn no_origins(alloc: Global, count: usize) -> Result<Vec<Option<WordO
 /// A copy has a word from its processor's own store, or from a fetch. A fetch applies the intervals of its gap in the order
 /// in which they were closed, so of a word it has the gap's store whose interval was closed last, the last of them in it.
 ///
-/// The only error is running out of memory. It takes time in the order of the events, and for each fetch that of the page's
-/// words times the processors times the logarithm of the events.
+/// It has at most 16 processors. The only error is running out of memory. It takes time in the order of the events, and for each
+/// fetch that of the page's words times the processors times the logarithm of the events.
 pub fn origins(alloc: Global, history: &History<'_>) -> Result<Vec<Option<WordOrigin>>, AllocError>
+    requires { history.now.sizes.processors ≤ most_processors }
     ensures long { IfOk result (λ v. vec_len v ≡ length history.now.events) }
     ensures origins { IfOk result (λ v. AreOrigins (judged_sizes_of history.now.sizes) history.now.events v.items) }
 {

@@ -1,6 +1,5 @@
 //! The first race of a history, and what keeps its two accesses apart.
 ghost use Rattle.std.specs.Prelude.{◌<◌, ◌≤◌, IfOk, MatchOption, length};
-ghost use Rattle.base.specs.Prelude.{most_processors};
 ghost use Rattle.journal.specs.declared.event.Event.{Event};
 ghost use Rattle.journal.specs.Prelude.{EventAddressesInRange, EventProcessorsInRange};
 ghost use Rattle.journal.specs.Prelude.{RaceFree};

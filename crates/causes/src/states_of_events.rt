@@ -1,6 +1,7 @@
 //! The protocol's state at the events of a history: timestamps, intervals with their records, write notices, and which copies
 //! are stale or dirty.
 ghost use Rattle.std.specs.Prelude.{◌≡◌, ℕ, ◌+◌, ◌<◌, ◌≤◌, [], IfOk, OnOk, false, length, take, true, vec_len};
+ghost use Rattle.base.specs.Prelude.{most_processors};
 ghost use Rattle.journal.specs.declared.event.Event.{Event};
 ghost use Rattle.journal.specs.Events.{EventAt, event_interval_at};
 ghost use Rattle.journal.specs.Prelude.{event_closes};
@@ -146,8 +147,8 @@ fn all_event_states(
     Ok(rows)
 }
 
-/// Of each event of the history the protocol's state, if `asked` has true for it; else None. The only error is running out of
-/// memory.
+/// Of each event of the history, which has at most 16 processors, the protocol's state, if `asked` has true for it; else None. The
+/// only error is running out of memory.
 ///
 /// It takes time in the order of the events, and for each event whose state is asked for that of the pages times the
 /// processors times the logarithm of the events; for a closing event besides that of the words of the pages that it has
@@ -157,7 +158,8 @@ pub fn event_states(
     history: &History<'_>,
     asked: &[bool],
 ) -> Result<Vec<Option<EventState>>, AllocError>
-    requires { length asked.now ≡ length history.now.events }
+    requires few_processors { history.now.sizes.processors ≤ most_processors }
+    requires asked { length asked.now ≡ length history.now.events }
     ensures long { IfOk result (λ v. vec_len v ≡ length history.now.events) }
     ensures states { IfOk result (λ v. AreEventStates (judged_sizes_of history.now.sizes) history.now.events asked.now v.items) }
 {

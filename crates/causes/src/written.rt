@@ -143,11 +143,12 @@ fn all_written(
 ///
 /// So a copy's word after the first N events is that of the last of them which writes it, or 0 where none does.
 ///
-/// The only error is running out of memory. It takes time as `origins` does.
+/// It has at most 16 processors. The only error is running out of memory. It takes time as `origins` does.
 pub fn written_words(
     alloc: Global,
     history: &History<'_>,
 ) -> Result<Vec<Vec<WrittenWord>>, AllocError>
+    requires { history.now.sizes.processors ≤ most_processors }
     ensures long { IfOk result (λ v. vec_len v ≡ length history.now.events) }
     ensures written { IfOk result (λ v. AreAllEventWrites (judged_sizes_of history.now.sizes) history.now.events v.items) }
 {

@@ -13,7 +13,7 @@ use Rattle.journal.specs.Sizes.{Sizes}
 use Rattle.journal.proofs.Order.EventPlacesAndCounts.{event_place_same, event_place_inside}
 use Rattle.judge.specs.SizedHistory.{IsHistoryInSizes, IsHistoryOfSizes}
 use Rattle.judge.specs.Miscounted.{IsEventInSizes}
-use Rattle.judge.specs.JudgedSizes.{AreJudgedSizes}
+use Rattle.judge.specs.JudgedSizes.{AreStreamedSizes}
 
 module _ (s : Sizes) (n : ℕ) (xs : List Event) (opening : IsOpening n xs) (j : List Event) where
   -- an arrival of so many processors is within the sizes of as many
@@ -48,7 +48,7 @@ module _ (s : Sizes) (n : ℕ) (xs : List Event) (opening : IsOpening n xs) (j :
   ]
 
 -- a history of a journal is within the sizes just where the journal is
-pub sized_journal_if_within : (s : Sizes) (log : Log) (h : List Event) → IsJournalHistory log h → AreJudgedSizes s
+pub sized_journal_if_within : (s : Sizes) (log : Log) (h : List Event) → IsJournalHistory log h → AreStreamedSizes s
     → IsHistoryInSizes s h → IsHistoryOfSizes s log
 sized_journal_if_within s log h x judged within =
     let all = subst (IsHistoryInSizes s) x.whole within in

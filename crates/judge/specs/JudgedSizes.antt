@@ -28,7 +28,7 @@ judged_sizes_most_locks = 2 ^ 16
 abbrev pub judged_sizes_most_flags : ℕ
 judged_sizes_most_flags = 2 ^ 16
 
--- processors of a history that is judged as it comes
+-- processors of a history that is judged
 abbrev pub most_judged_processors : ℕ
 most_judged_processors = 64
 
@@ -36,7 +36,7 @@ most_judged_processors = 64
 abbrev pub most_judged_events : ℕ
 most_judged_events = 2 ^ 31 - 1
 
--- sizes of a history that is judged as it comes: up to 64 processors, 2^20 addresses, 2^16 locks and 2^16 flags
+-- sizes of a history that is judged: up to 64 processors, 2^20 addresses, 2^16 locks and 2^16 flags
 pub record AreStreamedSizes (s : Sizes) : Type 0 where
   pub processors : s.processors ≤ most_judged_processors
   pub pages : s.pages ≤ judged_sizes_most_addresses
@@ -45,7 +45,7 @@ pub record AreStreamedSizes (s : Sizes) : Type 0 where
   pub locks : s.locks ≤ judged_sizes_most_locks
   pub flags : s.flags ≤ judged_sizes_most_flags
 
--- sizes of a history that is judged in any way: these, with up to 16 processors
+-- sizes of a history whose pages are told, too: these, with up to 16 processors
 pub record AreJudgedSizes (s : Sizes) : Type 0 where
   pub processors : s.processors ≤ most_processors
   pub streamed : AreStreamedSizes s

@@ -8,7 +8,7 @@ use Rattle.journal.specs.Log.{Log}
 use Rattle.journal.specs.Sizes.{Sizes}
 use Rattle.judge.specs.declared.sizes.Sizes.{Sizes as Given}
 use Rattle.judge.specs.Miscounted.{IsEventInSizes}
-use Rattle.judge.specs.JudgedSizes.{AreJudgedSizes, judged_sizes_of}
+use Rattle.judge.specs.JudgedSizes.{AreStreamedSizes, judged_sizes_of}
 
 -- events of a history: as many as a journal holds, and the arrivals in front that stand for what was cut off
 abbrev pub most_in_sized_history : ℕ
@@ -31,7 +31,7 @@ whole_sized_history sizes events = record { sizes = sizes; cut = 0; opening = 0;
 
 -- the sizes are judged, the events within them, and few
 pub record IsSizedHistory (h : SizedHistory) : Type 0 where
-  pub judged : AreJudgedSizes (judged_sizes_of h.sizes)
+  pub judged : AreStreamedSizes (judged_sizes_of h.sizes)
   pub opening : h.opening ≤ length h.events
   pub few_opening : h.opening ≤ most_processors
   pub few : length h.events ≤ h.opening + most_held
@@ -39,7 +39,7 @@ pub record IsSizedHistory (h : SizedHistory) : Type 0 where
 
 -- the journal's events are within these sizes, and so are the processors of which an arrival stands for what was cut off
 pub record IsHistoryOfSizes (s : Sizes) (log : Log) : Type 0 where
-  pub judged : AreJudgedSizes s
+  pub judged : AreStreamedSizes s
   pub processors : journal_history_arrivals log ≤ s.processors
   pub within : IsHistoryInSizes s log.events
 

@@ -1,10 +1,10 @@
 //! Histories whose numbers are within their sizes.
 ghost use Rattle.std.specs.Prelude.{◌≡◌, ◌↔◌, ◌≤◌, ◌*◌, IfOk, IfSome, IsSome, IsTrue, MatchOption, drop, length};
-ghost use Rattle.base.specs.Prelude.{most_held, most_processors};
+ghost use Rattle.base.specs.Prelude.{most_held};
 ghost use Rattle.journal.specs.Sizes.{addresses};
 ghost use Rattle.journal.specs.Prelude.{EventAddressesInRange, IsFirstRace, EventProcessorsInRange, RaceFree};
-ghost use Rattle.judge.specs.Prelude.{AreJudgedSizes, IsHistoryInSizes, IsSizedHistoryOfJournal, IsHistoryOfSizes, IsSizedHistory};
-ghost use Rattle.judge.specs.Prelude.{most_in_sized_history, judged_sizes_of, whole_sized_history};
+ghost use Rattle.judge.specs.Prelude.{AreStreamedSizes, IsHistoryInSizes, IsSizedHistoryOfJournal, IsHistoryOfSizes, IsSizedHistory};
+ghost use Rattle.judge.specs.Prelude.{most_in_sized_history, most_judged_processors, judged_sizes_of, whole_sized_history};
 
 use crate::nearest_races::NearestRaces;
 use crate::sizes::Sizes;
@@ -44,7 +44,7 @@ impl<'a> Model for History<'a> {
 
 /// Whether the numbers of each event are within the sizes, which are judged.
 fn is_history_within(sizes: Sizes, events: &[Event]) -> bool
-    requires { AreJudgedSizes (judged_sizes_of sizes) }
+    requires { AreStreamedSizes (judged_sizes_of sizes) }
     ensures { IsTrue result ↔ IsHistoryInSizes (judged_sizes_of sizes) events.now }
 {
     events.iter().all(|event| sizes.have_event(*event))
@@ -57,7 +57,7 @@ impl<'a> History<'a> {
         ensures fits { IsSome result ↔ IsSizedHistory (whole_sized_history sizes events.now) }
         ensures value { IfSome result (λ h. h ≡ whole_sized_history sizes events.now) }
     {
-        if !sizes.are_judged() || events.len() > MOST_HELD || !is_history_within(sizes, events) {
+        if !sizes.are_streamed() || events.len() > MOST_HELD || !is_history_within(sizes, events) {
             return None;
         }
         Some(History {
@@ -75,7 +75,7 @@ impl<'a> History<'a> {
         ensures value { IfSome result (IsSizedHistoryOfJournal sizes journal.now) }
     {
         let events = journal.history();
-        if !sizes.are_judged() || !is_history_within(sizes, events) {
+        if !sizes.are_streamed() || !is_history_within(sizes, events) {
             return None;
         }
         Some(History {
@@ -89,7 +89,7 @@ impl<'a> History<'a> {
     /// Its sizes.
     pub fn sizes(&self) -> Sizes
         ensures value { result ≡ self.now.sizes }
-        ensures judged { AreJudgedSizes (judged_sizes_of result) }
+        ensures judged { AreStreamedSizes (judged_sizes_of result) }
     {
         self.sizes
     }
@@ -120,7 +120,7 @@ impl<'a> History<'a> {
     pub fn events(&self) -> &'a [Event]
         ensures value { result.now ≡ self.now.events }
         ensures few { length result.now ≤ most_in_sized_history }
-        ensures few_processors { self.now.sizes.processors ≤ most_processors }
+        ensures few_processors { self.now.sizes.processors ≤ most_judged_processors }
         ensures within { IsHistoryInSizes (judged_sizes_of self.now.sizes) result.now }
         ensures processors { EventProcessorsInRange self.now.sizes.processors result.now }
         ensures addresses { EventAddressesInRange (addresses (judged_sizes_of self.now.sizes)) result.now }
@@ -132,7 +132,7 @@ impl<'a> History<'a> {
     pub fn left(&self) -> &'a [Event]
         ensures value { result.now ≡ drop self.now.opening self.now.events }
         ensures few { length result.now ≤ most_held }
-        ensures few_processors { self.now.sizes.processors ≤ most_processors }
+        ensures few_processors { self.now.sizes.processors ≤ most_judged_processors }
         ensures processors { EventProcessorsInRange self.now.sizes.processors result.now }
     {
         let events = self.events;

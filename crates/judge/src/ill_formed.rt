@@ -1,7 +1,7 @@
 //! The first event of a history that no cluster could make.
 ghost use Rattle.std.specs.Prelude.{◌≤◌, IfOk, MatchOption, length};
 ghost use Rattle.base.specs.Prelude.{most_held};
-ghost use Rattle.judge.specs.Prelude.{AreJudgedSizes, IsFirstWhyIllFormed, WellFormedOrLax, judged_sizes_of};
+ghost use Rattle.judge.specs.Prelude.{AreStreamedSizes, IsFirstWhyIllFormed, WellFormedOrLax, judged_sizes_of};
 
 use crate::frontier::Frontier;
 use crate::sizes::Sizes;
@@ -29,7 +29,7 @@ pub fn first_ill_formed(
     events: &[Event],
     lax: bool,
 ) -> Result<Option<IllFormed>, AllocError>
-    requires sizes { AreJudgedSizes (judged_sizes_of sizes) }
+    requires sizes { AreStreamedSizes (judged_sizes_of sizes) }
     requires few { length events.now ≤ most_held }
     ensures { IfOk result (λ o. MatchOption o (WellFormedOrLax lax (judged_sizes_of sizes) events.now)
         (IsFirstWhyIllFormed lax (judged_sizes_of sizes) events.now)) }

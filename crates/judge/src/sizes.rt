@@ -15,14 +15,14 @@ pub const MOST_JUDGED_LOCKS: usize = 1 << 16;
 /// The most flags of a history that is judged.
 pub const MOST_JUDGED_FLAGS: usize = 1 << 16;
 
-/// The most processors of a history that is judged as it comes.
+/// The most processors of a history that is judged.
 pub const MOST_JUDGED_PROCESSORS: usize = 64;
 
 /// The most events of a history that is judged as it comes.
 pub const MOST_JUDGED_EVENTS: usize = (1 << 31) - 1;
 
-/// The sizes of the cluster whose history is judged: at most 16 processors, or `MOST_JUDGED_PROCESSORS` if it is judged as it
-/// comes, `MOST_ADDRESSES` addresses, `MOST_JUDGED_LOCKS` locks and `MOST_JUDGED_FLAGS` flags.
+/// The sizes of the cluster whose history is judged: at most `MOST_JUDGED_PROCESSORS` processors, or 16 if what its copies of
+/// pages lack is told, `MOST_ADDRESSES` addresses, `MOST_JUDGED_LOCKS` locks and `MOST_JUDGED_FLAGS` flags.
 #[derive(Clone, Copy, Debug, PartialEq, Eq)]
 pub struct Sizes {
     /// How many processors it has.
@@ -38,7 +38,7 @@ pub struct Sizes {
 }
 
 impl Sizes {
-    /// Whether a history of these sizes can be judged as it comes: whether they are no larger than that.
+    /// Whether a history of these sizes can be judged: whether they are no larger than that.
     pub fn are_streamed(&self) -> bool
         ensures { IsTrue result ↔ AreStreamedSizes (judged_sizes_of self.now) }
     {
@@ -50,7 +50,8 @@ impl Sizes {
             && self.flags <= MOST_JUDGED_FLAGS
     }
 
-    /// Whether a history of these sizes can be judged in any way: whether they are no larger than that, with 16 processors.
+    /// Whether it can be told of a history of these sizes what its copies of pages lack: whether they are no larger than that,
+    /// with 16 processors.
     pub fn are_judged(&self) -> bool
         ensures { IsTrue result ↔ AreJudgedSizes (judged_sizes_of self.now) }
     {

@@ -6,7 +6,7 @@ ghost use Rattle.lrc_check.specs.Prelude.{IsFewForHeldTrace, IsHeldTrace};
 ghost use Rattle.lrc_check.specs.Traces.Prelude.{trace_sizes_of};
 
 use crate::traces::trace::{Trace, TraceSizes};
-use base::{MOST_HELD, MOST_PROCESSORS};
+use base::MOST_HELD;
 use journal::Event;
 use judge::{History, Sizes};
 
@@ -23,12 +23,11 @@ pub(crate) fn trace_history_sizes(sizes: TraceSizes) -> Sizes
     }
 }
 
-/// Whether the trace can be told with all its events at hand: whether it has no more than `MOST_PROCESSORS` processors and
-/// `MOST_HELD` events.
+/// Whether the trace can be told with all its events at hand: whether it has no more than `MOST_HELD` of them.
 pub fn can_trace_be_held(trace: &Trace) -> bool
-    ensures { IsTrue result ↔ IsFewForHeldTrace (trace_sizes_of trace.now.sizes) trace.now.events.items }
+    ensures { IsTrue result ↔ IsFewForHeldTrace trace.now.events.items }
 {
-    trace.sizes.processors <= MOST_PROCESSORS && trace.events.len() <= MOST_HELD
+    trace.events.len() <= MOST_HELD
 }
 
 /// The history of a trace of these sizes and events.

@@ -4,11 +4,12 @@ use Rattle.std.proofs.Common.{◌≡◌, ℕ, ◌-◌, ◌<◌, ◌≤◌, List,
 use Rattle.std.specs.Prelude.{All}
 use Rattle.std.specs.Global.{Vec}
 use Rattle.std.proofs.lemmas.Option.{slice_get-get_or}
-use Rattle.base.specs.Limits.{most_held, most_processors}
+use Rattle.base.specs.Limits.{most_held}
 use Rattle.base.specs.InOrderOnce.{Has}
 use Rattle.journal.specs.declared.event.Event.{Event}
 use Rattle.journal.specs.EventsInRange.{EventProcessorsInRange}
 use Rattle.journal.proofs.Order.EventPlacesAndCounts.{event_place_inside}
+use Rattle.judge.specs.JudgedSizes.{most_judged_processors}
 use Rattle.judge.specs.SizedHistory.{SizedHistory}
 use Rattle.lrc_picture.specs.Arrows.{AreArrowPlaces}
 use Rattle.lrc_picture.specs.PictureLayout.{HasPictureLayout}
@@ -35,7 +36,7 @@ AreDrawnHistoryPlacesBelow n rows = (k : ℕ) (places : Vec ℕ) → slice_get r
 
 -- the events that are left can be drawn
 pub drawn_history_of_left : {n : ℕ} {left : List Event} {rows : List (Vec ℕ)} (h : SizedHistory) → left ≡ drop h.opening h.events
-    → n ≡ h.sizes.processors → length left ≤ most_held → h.sizes.processors ≤ most_processors
+    → n ≡ h.sizes.processors → length left ≤ most_held → h.sizes.processors ≤ most_judged_processors
     → EventProcessorsInRange h.sizes.processors left → AreArrowPlaces (length h.events - h.opening) rows → HasPictureLayout n left rows
 drawn_history_of_left {n} {left} {rows} h is same few few_processors processors places = record {
   few = few;

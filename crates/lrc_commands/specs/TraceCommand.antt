@@ -74,7 +74,7 @@ pub record IsTraceCommandOnHeld (source : Option (List ℕ)) : Type 0 where
   pub events : List Event
   pub trace : IsLawfulTrace sizes events
   pub text_is : HasTraceCommandText source sizes events
-  pub few : IsFewForHeldTrace sizes events
+  pub few : IsFewForHeldTrace events
 
 -- what the source had begins, without labels, with the text of this trace
 abbrev pub BeginsWithTraceCommandText : Option (List ℕ) → Sizes → List Event → Type 0

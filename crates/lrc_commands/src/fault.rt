@@ -11,7 +11,7 @@ ghost use Rattle.lrc_commands.specs.declared.fault.CommandFault.TheVariants as s
 ghost use Rattle.lrc_program.specs.declared.fault.ProgramFault.TheVariants as program;
 ghost use Rattle.lrc_commands.specs.Prelude.{IsCommandExitStatusBeforeAnswer, IsCommandExitStatusOfInput, IsCommandExitStatusOf, command_exit_status_of};
 
-use base::{MOST_HELD, MOST_PROCESSORS};
+use base::MOST_HELD;
 use conformance::{RunFault, ScheduleFault};
 use lrc_check::CheckFault;
 use lrc_check::traces::fault::TraceFault;
@@ -38,7 +38,7 @@ pub enum CommandFault {
     Trace(usize, TraceFault),
     /// There are more bytes than any trace has.
     Long,
-    /// The trace has more processors or events than one that is told with all its events at hand.
+    /// The trace has more events than one that is told with all its events at hand.
     Large,
     /// The word at this address is asked for, and the script doesn't show it.
     Unshown(usize),
@@ -56,7 +56,7 @@ impl CommandFault {
             CommandFault::Trace(line, fault) => format!(in alloc; "lrc: line {line}: {fault}\n"),
             CommandFault::Long => String::from_str(alloc, "lrc: trace too long\n"),
             CommandFault::Large => format!(in alloc;
-                "lrc: trace too large to hold\n  at most {MOST_PROCESSORS} processors and {MOST_HELD} events; check takes more\n"
+                "lrc: trace too large to hold\n  at most {MOST_HELD} events; check takes more\n"
             ),
             CommandFault::Unshown(address) => format!(in alloc;
                 "lrc: until: address {address} isn't shown\n  add {address} to the last line of the script, show ADDRESS ..\n"

@@ -50,8 +50,7 @@ fn tell_command_prints<W: Write>(
     Ok(())
 }
 
-/// Reads a trace, judges it and tells it, or draws it: whether it lies. One with more processors or events than are held isn't
-/// told.
+/// Reads a trace, judges it and tells it, or draws it: whether it lies. One with more events than are held isn't told.
 fn tell_command_on_source<S: Read, W: Write>(
     alloc: Global,
     options: &TellOptions,
@@ -94,7 +93,7 @@ pub fn run_tell_command<S: Read, W: Write, E: Write>(
     // The source had a trace, and it is not.
     ensures unfaithful { result ≡ 6
         → IsTraceCommandOnUnfaithful (trace_command_model options.now.model) options.now.lax (S.remaining source.old) }
-    // What is told is a trace of no more processors and events than are held.
+    // What is told is a trace of no more events than are held.
     ensures held { (result ≡ 0) ⊎ (result ≡ 6) → IsTraceCommandOnHeld (S.remaining source.old) }
     // What is refused as a trace is none.
     ensures refused { result ≡ 2 → IsTraceCommandOnNone (S.remaining source.old) }

@@ -1,5 +1,6 @@
 //! What is looked up of a history before it is told.
-ghost use Rattle.std.specs.Prelude.{◌≡◌, IfOk, MatchOption, length, vec_len};
+ghost use Rattle.std.specs.Prelude.{◌≡◌, ◌≤◌, IfOk, IsTrue, MatchOption, length, vec_len};
+ghost use Rattle.base.specs.Prelude.{most_processors};
 ghost use Rattle.journal.specs.Prelude.{IsFirstRace, RaceFree};
 ghost use Rattle.causes.specs.Prelude.{IsRaceApart};
 
@@ -7,6 +8,7 @@ use crate::earlier::{Earlier, earlier_stores_before};
 use crate::journey::journey_to_each_load;
 use crate::rivals::{Rival, rivals_of};
 use crate::strays::{Stray, strays_of};
+use base::MOST_PROCESSORS;
 use causes::{
     Due, EventState, RaceApart, Source, Ways, WordOrigin, dues, event_states, incoming_news,
     origins, race_apart, sources_of_loads,
@@ -123,11 +125,20 @@ fn state_findings_of(
     alloc: Global,
     history: &History<'_>,
     asked: &[bool],
-) -> Result<Vec<Option<EventState>>, AllocError> {
+) -> Result<Vec<Option<EventState>>, AllocError>
+    requires { history.now.sizes.processors ≤ most_processors }
+{
     if asked.len() != history.events().len() {
         return Ok(Vec::new(alloc));
     }
     event_states(alloc, history, asked)
+}
+
+/// Whether the pages of the history are told, if that is asked: what copies of pages lack is told of at most 16 processors.
+fn do_findings_have_pages(history: &History<'_>, pages: bool) -> bool
+    ensures { IsTrue result → history.now.sizes.processors ≤ most_processors }
+{
+    pages && history.sizes().processors <= MOST_PROCESSORS
 }
 
 /// What is found of the history by its pages; nothing where these aren't told. The only error is running out of memory.
@@ -137,6 +148,7 @@ fn page_findings(
     pages: bool,
     asked: &[bool],
 ) -> Result<FoundByPages, AllocError>
+    requires { IsTrue pages → history.now.sizes.processors ≤ most_processors }
     ensures { IfOk result (λ f. vec_len f.origins ≡ length history.now.events) }
 {
     if !pages {
@@ -156,14 +168,15 @@ fn page_findings(
     })
 }
 
-/// What is found of the history, by its pages too if these are told, and then the protocol's state at those events for which
-/// `asked` has true; it is empty where no state is asked for. The only error is running out of memory.
+/// What is found of the history, by its pages too if these are told and it has at most 16 processors, and then the protocol's state
+/// at those events for which `asked` has true; it is empty where no state is asked for. The only error is running out of memory.
 pub fn findings_of(
     alloc: Global,
     history: &History<'_>,
     pages: bool,
     asked: &[bool],
 ) -> Result<Findings, AllocError> {
+    let pages = do_findings_have_pages(history, pages);
     let FoundByPages {
         origins,
         dues,

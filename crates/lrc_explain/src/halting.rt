@@ -2,22 +2,22 @@
 
 use crate::held_now::HeldNow;
 use crate::marked_processors::MarkedProcessors;
-use journal::{Event, Kind, MOST_PROCESSORS};
-use judge::History;
+use journal::{Event, Kind};
+use judge::{History, MOST_JUDGED_PROCESSORS};
 use lrc_prose::text::ProseText;
 
 /// A run that can't go on: what is held at its end, and the last event of each processor.
 #[derive(Clone, Copy)]
 pub struct Halted<'a> {
     pub held: &'a HeldNow,
-    pub last: &'a [Option<Kind>; MOST_PROCESSORS],
+    pub last: &'a [Option<Kind>; MOST_JUDGED_PROCESSORS],
     /// Whether something was cut off.
     pub is_cut: bool,
 }
 
 /// The last event of each processor.
-pub fn last_of_halted(events: &[Event]) -> [Option<Kind>; MOST_PROCESSORS] {
-    let mut last = [None; MOST_PROCESSORS];
+pub fn last_of_halted(events: &[Event]) -> [Option<Kind>; MOST_JUDGED_PROCESSORS] {
+    let mut last = [None; MOST_JUDGED_PROCESSORS];
     for event in events {
         if let Some(kind) = last.get_mut(event.processor) {
             *kind = Some(event.kind);

@@ -4,33 +4,32 @@ use Rattle.std.proofs.lemmas.Bool.{cases_eq}
 use Rattle.std.proofs.lemmas.List.{length-replicate, length-set}
 use Rattle.std.proofs.lemmas.Option.{none-some, same_Some, slice_get_within}
 use Rattle.base.specs.InOrderOnce.{Has}
-use Rattle.base.specs.Limits.{most_processors}
 use Rattle.base.proofs.SlicesAndCounts.{slice_push_cases, slice_get-append_left, slice_get-last}
 use Rattle.base.proofs.SliceSets.{slice_get-replicate_found, slice_get-set_other, slice_get-set_same}
 use Rattle.lrc_script.specs.LineReading.{line_read_number}
-use Rattle.lrc_options.specs.Ranges.{AreProcessorsWritten}
+use Rattle.lrc_options.specs.Ranges.{AreProcessorsWritten, most_trace_processors}
 
 -- no words mark nobody
-pub written_processors_none : AreProcessorsWritten [] (replicate most_processors false)
-written_processors_none = record {
-  long = length-replicate most_processors false;
+pub written_processors_none : (n : ℕ) → AreProcessorsWritten n [] (replicate most_trace_processors false)
+written_processors_none n = record {
+  long = length-replicate most_trace_processors false;
   each = λ word h. absurd (none-some word h.1);
   marked = λ p. (
-    λ at. absurd (true≢false (sym (slice_get-replicate_found most_processors false true p at))),
+    λ at. absurd (true≢false (sym (slice_get-replicate_found most_trace_processors false true p at))),
     λ x. absurd (none-some x.0 x.1.1),
   );
 }
 
 -- a word more
-pub written_processors_next : (words : List (List ℕ)) (marks : List Bool) (word : List ℕ) (p : ℕ) → line_read_number word ≡ Some p
-    → p < most_processors → AreProcessorsWritten words marks
-    → AreProcessorsWritten (words ++ word ∷ []) (slice_set marks p true)
-written_processors_next words marks word p read low are = record {
+pub written_processors_next : (n : ℕ) (words : List (List ℕ)) (marks : List Bool) (word : List ℕ) (p : ℕ)
+    → n ≤ most_trace_processors → line_read_number word ≡ Some p → p < n → AreProcessorsWritten n words marks
+    → AreProcessorsWritten n (words ++ word ∷ []) (slice_set marks p true)
+written_processors_next n words marks word p few read low are = record {
   long = length-set marks p true ∙ are.long;
   each = λ other h. elim (slice_push_cases words word h.0 other h.1) [
     | inl old ↦ are.each other (h.0, old.1)
     | inr now ↦
-        subst (λ (w : List ℕ). (q : ℕ) × (line_read_number w ≡ Some q) × (q < most_processors)) now.1 (p, read, low)
+        subst (λ (w : List ℕ). (q : ℕ) × (line_read_number w ≡ Some q) × (q < n)) now.1 (p, read, low)
   ];
   marked = λ q. (there q, back q);
 }
@@ -66,9 +65,9 @@ written_processors_next words marks word p read low are = record {
     ]
 
 -- where a word names no processor, nothing is marked for all of them
-pub written_processors_not : (words : List (List ℕ)) (marks : List Bool) (word : List ℕ) → Has words word
-    → ((p : ℕ) → line_read_number word ≡ Some p → most_processors ≤ p) → ¬ AreProcessorsWritten words marks
-written_processors_not words marks word here past are =
+pub written_processors_not : (n : ℕ) (words : List (List ℕ)) (marks : List Bool) (word : List ℕ) → Has words word
+    → ((p : ℕ) → line_read_number word ≡ Some p → n ≤ p) → ¬ AreProcessorsWritten n words marks
+written_processors_not n words marks word here past are =
     let x = are.each word here in
     let le = past x.0 x.1 in
     let lt = x.2 in

@@ -17,7 +17,7 @@ use Rattle.base.specs.Limits.{most_processors}
 use Rattle.lrc_script.specs.LineReading.{parts_of_read_line}
 use Rattle.lrc_options.specs.Clashes.{do_options_clash_together, is_option_in_words}
 use Rattle.lrc_options.specs.FinalWords.{AreFinalWordsWritten}
-use Rattle.lrc_options.specs.Ranges.{AreProcessorsWritten, IsOptionRangeWritten}
+use Rattle.lrc_options.specs.Ranges.{AreProcessorsWritten, IsOptionRangeWritten, most_trace_processors}
 use Rattle.lrc_options.specs.declared.ranges.EventRange.{EventRange}
 use Rattle.lrc_options.specs.declared.options.Asked.{Asked}
 use Rattle.lrc_options.specs.declared.options.Asked.TheVariants.{Explain, Explore, Sample, Script, Tell, Trace}
@@ -315,10 +315,14 @@ abbrev pub AreEventsByOptionRule : Option Text → EventRange → Type 0
 AreEventsByOptionRule None x = (x.first ≡ 0) × (x.end ≡ None)
 AreEventsByOptionRule (Some t) x = IsOptionRangeWritten t x
 
--- the processors that are given, or all
-abbrev pub AreProcessorsByOptionRule : Option Text → List Bool → Type 0
-AreProcessorsByOptionRule None marks = marks ≡ replicate most_processors true
-AreProcessorsByOptionRule (Some t) marks = AreProcessorsWritten (parts_of_read_line 44 t) marks
+-- so many processors may be given: those of a trace, or of a script's cluster
+abbrev pub option_rule_most_processors : List Row → ℕ
+option_rule_most_processors rows = cond (is_option_in_words (codes "trace") rows) most_trace_processors most_processors
+
+-- the processors that are given, numbers below n, or all
+abbrev pub AreProcessorsByOptionRule : ℕ → Option Text → List Bool → Type 0
+AreProcessorsByOptionRule n None marks = marks ≡ replicate most_trace_processors true
+AreProcessorsByOptionRule n (Some t) marks = AreProcessorsWritten n (parts_of_read_line 44 t) marks
 
 -- what the rows of `explain` say that is shown of a history, and how
 pub record AreOptionsByRulesOfShowing (rows : List Row) (v : ShowOptions) : Type 0 where
@@ -326,7 +330,7 @@ pub record AreOptionsByRulesOfShowing (rows : List Row) (v : ShowOptions) : Type
   pub page : IsFlagByOptionRule (one_of (codes "html") rows) v.page
   pub state : IsFlagByOptionRule (one_of (codes "state") rows) v.state
   pub events : AreEventsByOptionRule (first_of (codes "events") rows) v.events
-  pub processors : AreProcessorsByOptionRule (first_of (codes "processors") rows) v.processors
+  pub processors : AreProcessorsByOptionRule (option_rule_most_processors rows) (first_of (codes "processors") rows) v.processors
 
 -- the options that the rows of `explain` give
 pub record AreOptionsByRulesOfExplain (rows : List Row) (o : ExplainOptions) : Type 0 where
@@ -384,7 +388,7 @@ pub record IsOptionConflict (parsers : OptionParsers) (words : List Text) (e : E
 -- what is given for the events, for the processors or for the words can't be read
 abbrev pub IsOptionUnread : List Row → Type 0
 IsOptionUnread rows = ((x : EventRange) → ¬ AreEventsByOptionRule (first_of (codes "events") rows) x)
-    ⊎ (((marks : List Bool) → ¬ AreProcessorsByOptionRule (first_of (codes "processors") rows) marks)
+    ⊎ (((marks : List Bool) → ¬ AreProcessorsByOptionRule (option_rule_most_processors rows) (first_of (codes "processors") rows) marks)
     ⊎ ((words : List (ℕ × ℕ)) → ¬ AreUntilWordsByOptionRule (first_of (codes "until") rows) words))
 
 -- the words give such a text, and the fault says so

@@ -1,7 +1,6 @@
 -- What the texts of `--events` and `--processors` give.
 use Rattle.std.specs.Prelude.{ℕ, ◌≡◌, ◌⊎◌, ◌+◌, ◌<◌, ◌↔◌, List, [], ◌∷◌, Bool, true, Option, Some, None, IfSome, length, slice_get}
 use Rattle.base.specs.InOrderOnce.{Has}
-use Rattle.base.specs.Limits.{most_processors}
 use Rattle.lrc_script.specs.LineReading.{line_read_number, parts_of_read_line}
 use Rattle.lrc_options.specs.declared.ranges.EventRange.{EventRange}
 
@@ -22,8 +21,12 @@ pub record IsOptionRangeWritten (text : List ℕ) (x : EventRange) : Type 0 wher
   pub end_is : IsOptionRangeEnd to x.end
   pub some : IfSome x.end (λ n. x.first < n)
 
--- each of these words is the number of a processor, and these processors are marked
-pub record AreProcessorsWritten (words : List (List ℕ)) (marks : List Bool) : Type 0 where
-  pub long : length marks ≡ most_processors
-  pub each : (word : List ℕ) → Has words word → (p : ℕ) × (line_read_number word ≡ Some p) × (p < most_processors)
+-- processors of a trace that is told
+abbrev pub most_trace_processors : ℕ
+most_trace_processors = 64
+
+-- each of these words is a number below n, and the processors of these numbers are marked
+pub record AreProcessorsWritten (n : ℕ) (words : List (List ℕ)) (marks : List Bool) : Type 0 where
+  pub long : length marks ≡ most_trace_processors
+  pub each : (word : List ℕ) → Has words word → (p : ℕ) × (line_read_number word ≡ Some p) × (p < n)
   pub marked : (p : ℕ) → (slice_get marks p ≡ Some true) ↔ ((word : List ℕ) × Has words word × (line_read_number word ≡ Some p))

@@ -9,7 +9,7 @@ ghost use Rattle.lrc_options.specs.OptionRules.{AreEventsByOptionRule, AreOption
 ghost use Rattle.lrc_options.specs.OptionRules.{AreOptionsByRulesOfShowing, AreOptionsByRulesOfTell, IsExplanationAskedByOptionRules, IsShowingUnreadByOptionRules};
 ghost use Rattle.lrc_options.specs.OptionRules.{AreOptionsByRulesOfTrace, option_rule_default_most, option_rule_detail_given, option_rule_locksets_given, option_rule_model_given, option_rule_named_detail, option_rule_named_locksets, option_rule_named_model, option_rule_ticket};
 ghost use Rattle.lrc_options.specs.Clashes.{do_options_clash_together};
-ghost use Rattle.lrc_options.specs.OptionRules.{AreOptionsGivenByRules, AreOptionsRefusedByRules, IsOptionUnanswered, option_rule_most_tries, option_rule_most_seed, option_rule_default_tries, option_rule_default_seeds};
+ghost use Rattle.lrc_options.specs.OptionRules.{AreOptionsGivenByRules, AreOptionsRefusedByRules, IsOptionUnanswered, option_rule_most_processors, option_rule_most_tries, option_rule_most_seed, option_rule_default_tries, option_rule_default_seeds};
 
 use crate::clap_commands::{
     DETAILS, LOCKS, LOCKSET_WORDS, MODELS, MOST_SEED, MOST_TRIES, clap_lrc_command,
@@ -19,8 +19,8 @@ use crate::final_words::final_words;
 use crate::misuse::{misuse_by_exclusion, misuse_by_unread_value, with_misuse_tip};
 use crate::options::{
     Asked, Commands, DEFAULT_MOST, DEFAULT_SEEDS, DEFAULT_TRIES, ExplainOptions, ExploreOptions,
-    Options, OutcomeDetail, SampleOptions, ShowOptions, TellOptions, TraceLocksets, TraceModel,
-    TraceOptions,
+    MOST_TRACE_PROCESSORS, Options, OutcomeDetail, SampleOptions, ShowOptions, TellOptions,
+    TraceLocksets, TraceModel, TraceOptions,
 };
 use crate::ranges::{ALL_EVENTS, EventRange, option_range_of_events, processors};
 use base::MOST_PROCESSORS;
@@ -136,15 +136,37 @@ fn command_line_events(matches: &ArgMatches<'_>) -> Option<EventRange>
     }
 }
 
+/// How many processors may be given: as many as a trace has, or as a script's cluster.
+fn command_line_most_processors(matches: &ArgMatches<'_>) -> usize
+    ensures { result ≡ option_rule_most_processors (rows_of (found_of matches.now)) }
+{
+    if is_in_words(matches, "trace") {
+        MOST_TRACE_PROCESSORS
+    } else {
+        MOST_PROCESSORS
+    }
+}
+
 /// The processors given for `--processors`, or all; None where what is given are none.
-fn command_line_processors(matches: &ArgMatches<'_>) -> Option<[bool; MOST_PROCESSORS]>
+fn command_line_processors(matches: &ArgMatches<'_>) -> Option<[bool; MOST_TRACE_PROCESSORS]>
     ensures { MatchOption result
-        ((marks : List Bool) → ¬ AreProcessorsByOptionRule (first_of (codes "processors") (rows_of (found_of matches.now))) marks)
-        (AreProcessorsByOptionRule (first_of (codes "processors") (rows_of (found_of matches.now)))) }
+        ((marks : List Bool) → ¬ AreProcessorsByOptionRule (option_rule_most_processors (rows_of (found_of matches.now)))
+        (first_of (codes "processors") (rows_of (found_of matches.now))) marks)
+        (AreProcessorsByOptionRule (option_rule_most_processors (rows_of (found_of matches.now)))
+        (first_of (codes "processors") (rows_of (found_of matches.now)))) }
 {
     match matches.get_str("processors") {
-        Some(text) => processors(text),
-        None => Some([true; MOST_PROCESSORS]),
+        Some(text) => processors(text, command_line_most_processors(matches)),
+        None => Some([true; MOST_TRACE_PROCESSORS]),
+    }
+}
+
+/// What is wanted of `--processors`, in words.
+fn command_line_processors_wanted(matches: &ArgMatches<'_>) -> &'static str {
+    if is_in_words(matches, "trace") {
+        "numbers from 0 to 63, as 2 or 0,2"
+    } else {
+        "numbers from 0 to 15, as 2 or 0,2"
     }
 }
 
@@ -436,7 +458,7 @@ fn command_line_show_options(
         return Err(misuse_by_unread_value(alloc, name, matches, "events", "A..B", want)?);
     };
     let Some(processors) = command_line_processors(matches) else {
-        let want = "numbers from 0 to 15, as 2 or 0,2";
+        let want = command_line_processors_wanted(matches);
         return Err(misuse_by_unread_value(alloc, name, matches, "processors", "P,..", want)?);
     };
     Ok(ShowOptions {

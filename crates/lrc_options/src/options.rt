@@ -1,7 +1,9 @@
 //! What the program is to do.
 
 use crate::ranges::EventRange;
-use base::MOST_PROCESSORS;
+
+/// The most processors that a trace may have which is told.
+pub const MOST_TRACE_PROCESSORS: usize = 64;
 
 /// Which commands the program has.
 #[derive(Clone, Copy)]
@@ -41,7 +43,7 @@ pub struct ShowOptions {
     /// Which events are told, by their numbers.
     pub events: EventRange,
     /// Of each processor, whether its events are told.
-    pub processors: [bool; MOST_PROCESSORS],
+    pub processors: [bool; MOST_TRACE_PROCESSORS],
 }
 
 /// Which run of a script is to be explained, and how.

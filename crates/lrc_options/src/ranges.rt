@@ -1,11 +1,10 @@
 //! Which events are told, and of which processors: what the texts of `--events` and `--processors` give.
 ghost use Rattle.std.specs.Prelude.{ℕ, ◌≡◌, ◌≢◌, ◌<◌, ◌≤◌, ◌↔◌, [], ◌∷◌, Bool, IfSome, IsTrue, List, MatchOption, Option};
-ghost use Rattle.base.specs.Prelude.{most_processors};
 ghost use Rattle.lrc_script.specs.Prelude.{line_read_number, parts_of_read_line};
 ghost use Rattle.lrc_options.specs.declared.ranges.EventRange.{EventRange};
-ghost use Rattle.lrc_options.specs.Ranges.{AreProcessorsWritten, IsOptionRangeEnd, IsOptionRangeStart, IsOptionRangeWritten};
+ghost use Rattle.lrc_options.specs.Ranges.{AreProcessorsWritten, IsOptionRangeEnd, IsOptionRangeStart, IsOptionRangeWritten, most_trace_processors};
 
-use base::MOST_PROCESSORS;
+use crate::options::MOST_TRACE_PROCESSORS;
 use lrc_script::line::{number, split_script_line_at};
 
 /// Events by their numbers, which follow each other.
@@ -83,29 +82,31 @@ pub(crate) fn option_range_of_events(text: &str) -> Option<EventRange>
     Some(EventRange { first, end })
 }
 
-/// The processor that is written so, if there may be one of that number.
-fn processor(text: &[u8]) -> Option<usize>
-    ensures { MatchOption result ((p : ℕ) → line_read_number text.now ≡ Some p → most_processors ≤ p)
-        (λ p. (line_read_number text.now ≡ Some p) × (p < most_processors)) }
+/// The processor that is written so, if it is one of the first, so many of them.
+fn processor(text: &[u8], limit: usize) -> Option<usize>
+    ensures { MatchOption result ((p : ℕ) → line_read_number text.now ≡ Some p → limit ≤ p)
+        (λ p. (line_read_number text.now ≡ Some p) × (p < limit)) }
 {
     let processor = number(text)? as usize;
-    if processor < MOST_PROCESSORS {
+    if processor < limit {
         Some(processor)
     } else {
         None
     }
 }
 
-/// Of each processor whether the text names it: numbers with commas between. None where one of them is no processor's.
-pub(crate) fn processors(text: &str) -> Option<[bool; MOST_PROCESSORS]>
-    ensures { MatchOption result ((marks : List Bool) → ¬ AreProcessorsWritten (parts_of_read_line 44 text.now) marks)
-        (AreProcessorsWritten (parts_of_read_line 44 text.now)) }
+/// Of each processor whether the text names it: numbers below the limit with commas between. None where one of them is no such
+/// number.
+pub(crate) fn processors(text: &str, limit: usize) -> Option<[bool; MOST_TRACE_PROCESSORS]>
+    requires { limit ≤ most_trace_processors }
+    ensures { MatchOption result ((marks : List Bool) → ¬ AreProcessorsWritten limit (parts_of_read_line 44 text.now) marks)
+        (AreProcessorsWritten limit (parts_of_read_line 44 text.now)) }
 {
-    let mut marks = [false; MOST_PROCESSORS];
+    let mut marks = [false; MOST_TRACE_PROCESSORS];
     let mut rest = Some(text.as_bytes());
     while let Some(bytes) = rest {
         let (item, after) = split_script_line_at(bytes, b',');
-        marks[processor(item)?] = true;
+        marks[processor(item, limit)?] = true;
         rest = after;
     }
     Some(marks)

@@ -4,7 +4,7 @@ use Rattle.std.specs.Prelude.{All, true}
 use Rattle.std.specs.Global.{Vec}
 use Rattle.std.proofs.lemmas.Option.{same_Some, slice_get-get_or, slice_get_within}
 use Rattle.base.specs.InOrderOnce.{Has}
-use Rattle.base.specs.Limits.{most_held, most_processors}
+use Rattle.base.specs.Limits.{most_held}
 use Rattle.base.proofs.SlicesAndCounts.{slice_push_cases}
 use Rattle.causes.specs.declared.part.Part.{Part}
 use Rattle.causes.specs.FinalWaits.{AreThoseInFinalWait}
@@ -12,6 +12,7 @@ use Rattle.journal.specs.declared.event.Event.{Event}
 use Rattle.journal.specs.Events.{EventAt}
 use Rattle.journal.specs.EventsInRange.{EventProcessorsInRange}
 use Rattle.journal.proofs.Order.EventPlacesAndCounts.{event_place_same}
+use Rattle.judge.specs.JudgedSizes.{most_judged_processors}
 use Rattle.lrc_picture.specs.Arrows.{AreArrowPlaces}
 use Rattle.lrc_picture.specs.Cutout.{AreCutoutEvents, AreCutoutLanes, AreCutoutPlaces, IsCutoutEventOnLane}
 use Rattle.lrc_picture.specs.PictureLayout.{HasPictureLayout}
@@ -49,7 +50,7 @@ drawn_cutout_next {lanes = lanes} {j = j} places drawn row {k = k} {new = new} l
 
 -- so it can be drawn
 pub drawn_cutout_has_layout : (n lanes_count : ℕ) {j : List Event} {lanes places : List ℕ} {drawn : List Event}
-    → {incoming : List (Vec ℕ)} → lanes_count ≡ length lanes → lanes_count ≤ n → n ≤ most_processors
+    → {incoming : List (Vec ℕ)} → lanes_count ≡ length lanes → lanes_count ≤ n → n ≤ most_judged_processors
     → length places ≤ length j → length j ≤ most_held → AreCutoutEvents lanes j places drawn
     → AreArrowPlaces (length places) incoming → HasPictureLayout lanes_count drawn incoming
 drawn_cutout_has_layout n lanes_count {lanes = lanes} {places = places} {drawn = drawn} {incoming = incoming} lanes_long lanes_few few_processors short few are rows = record {

@@ -1,5 +1,5 @@
 -- What the events of a run change.
-use Rattle.std.specs.Prelude.{◌≡◌, List, length, vec_len}
+use Rattle.std.specs.Prelude.{◌≡◌, List, [], length, vec_len}
 use Rattle.causes.specs.Dues.{AreAllDues}
 use Rattle.causes.specs.EventWrites.{AreAllEventWrites}
 use Rattle.journal.specs.declared.event.Event.{Event}
@@ -15,3 +15,9 @@ pub record AreRunChanges (s : Sizes) (j : List Event) (x : RunChanges) : Type 0 
   pub written : AreAllEventWrites s j x.written.items
   pub dues_long : vec_len x.dues ≡ length j
   pub dues : AreAllDues s j x.dues.items
+
+-- neither timestamps nor copies are told of any event
+pub record AreChangesWithoutCopies (x : RunChanges) : Type 0 where
+  pub times : x.times.items ≡ []
+  pub written : x.written.items ≡ []
+  pub dues : x.dues.items ≡ []

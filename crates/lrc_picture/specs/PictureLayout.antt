@@ -1,10 +1,11 @@
 -- The layout of a picture.
 use Rattle.std.specs.Prelude.{ℕ, ◌≡◌, ◌≢◌, ◌+◌, ◌*◌, ◌<◌, ◌≤◌, List, length}
 use Rattle.std.specs.Global.{Vec}
-use Rattle.base.specs.Limits.{most_held, most_processors}
+use Rattle.base.specs.Limits.{most_held}
 use Rattle.journal.specs.declared.event.Event.{Event}
 use Rattle.journal.specs.Events.{EventAt}
 use Rattle.journal.specs.EventsInRange.{EventProcessorsInRange}
+use Rattle.judge.specs.JudgedSizes.{most_judged_processors}
 use Rattle.lrc_picture.specs.declared.picture_grid.PictureGrid.{PictureGrid}
 use Rattle.lrc_picture.specs.declared.picture_layout.DiagramLayout.{DiagramLayout}
 use Rattle.lrc_picture.specs.Arrows.{AreArrowPlaces}
@@ -14,7 +15,7 @@ use Rattle.lrc_picture.specs.Marks.{ArePictureMarks}
 -- these events of n processors can be drawn, with these places that lead to each
 pub record HasPictureLayout (n : ℕ) (j : List Event) (incoming : List (Vec ℕ)) : Type 0 where
   pub few : length j ≤ most_held
-  pub few_processors : n ≤ most_processors
+  pub few_processors : n ≤ most_judged_processors
   pub processors : EventProcessorsInRange n j
   pub places : AreArrowPlaces (length j) incoming
 

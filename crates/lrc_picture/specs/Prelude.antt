@@ -6,5 +6,5 @@ pub use Rattle.lrc_picture.specs.Bars.{bar_for}
 pub use Rattle.lrc_picture.specs.PictureLayout.{HasPictureLayout, IsPictureLayoutGrid, IsPictureLayoutOf}
 pub use Rattle.lrc_picture.specs.Cutout.{AreCutoutEvents, AreCutoutLanes, AreCutoutPlaces, AreCutoutRowsOf, IsCutout}
 pub use Rattle.lrc_picture.specs.Timestamps.{ArePictureTimestampsAfter}
-pub use Rattle.lrc_picture.specs.Changes.{AreRunChanges}
+pub use Rattle.lrc_picture.specs.Changes.{AreChangesWithoutCopies, AreRunChanges}
 pub use Rattle.lrc_picture.specs.Laws.{PictureSpacingLaw, PictureInsideLaw}

@@ -1,13 +1,15 @@
 //! What each event of a run changes: timestamps, copies and their words, locks, flags, and who waits for what.
-ghost use Rattle.std.specs.Prelude.{IfOk};
+ghost use Rattle.std.specs.Prelude.{◌≡◌, ◌<◌, ◌≤◌, ◌↔◌, IfOk, IsTrue};
+ghost use Rattle.base.specs.Prelude.{most_processors};
 ghost use Rattle.judge.specs.Prelude.{judged_sizes_of};
-ghost use Rattle.lrc_picture.specs.Prelude.{AreRunChanges};
+ghost use Rattle.lrc_picture.specs.Prelude.{AreChangesWithoutCopies, AreRunChanges};
 
 use crate::run_front::run_front_changes_of;
 use crate::times::picture_times;
+use base::MOST_PROCESSORS;
 use causes::{Due, WrittenWord, dues, written_words};
 use journal::{Awaited, Clock};
-use judge::History;
+use judge::{History, Sizes};
 use std::alloc::{AllocError, Global};
 
 /// Whether what a processor waits for is on its way.
@@ -56,24 +58,60 @@ pub enum StateChange {
 /// What each event of a run changes.
 #[derive(Drop)]
 pub struct RunChanges {
-    /// Its processor's vector timestamp after it.
+    /// Its processor's vector timestamp after it; empty if timestamps and copies aren't told.
     pub times: Vec<Clock>,
-    /// The words that it writes in its processor's copies.
+    /// The words that it writes in its processor's copies; empty if these aren't told.
     pub written: Vec<Vec<WrittenWord>>,
-    /// The records that it tells of. By one that takes, its processor's copies of their pages go stale.
+    /// The records that it tells of; empty if copies aren't told. By one that takes, its processor's copies of their pages go
+    /// stale.
     pub dues: Vec<Vec<Due>>,
     /// What it changes besides.
     pub others: Vec<Vec<StateChange>>,
 }
 
-/// What each event of the history changes. Where something was cut off, they begin with an arrival of each processor, which stands
-/// for it; then it isn't known at first which copies are valid, and who holds which lock. The only error is running out of
-/// memory.
+/// Whether timestamps and copies are told of a run of these sizes: if it has at most 16 processors.
+pub(crate) fn do_changes_tell_copies(sizes: Sizes) -> bool
+    ensures { IsTrue result ↔ (sizes.processors ≤ most_processors) }
+{
+    sizes.processors <= MOST_PROCESSORS
+}
+
+/// The sizes of what is told of a run of these sizes: without pages if its copies aren't told.
+pub(crate) fn sizes_in_changes(sizes: Sizes) -> Sizes {
+    if do_changes_tell_copies(sizes) {
+        sizes
+    } else {
+        Sizes { pages: 0, ..sizes }
+    }
+}
+
+/// What each event of the history changes besides timestamps and copies.
+fn changes_without_copies(alloc: Global, history: &History<'_>) -> Result<RunChanges, AllocError>
+    ensures { IfOk result AreChangesWithoutCopies }
+{
+    let dues = Vec::new(alloc);
+    let others = run_front_changes_of(alloc, history, &dues)?;
+    Ok(RunChanges {
+        times: Vec::new(alloc),
+        written: Vec::new(alloc),
+        dues,
+        others,
+    })
+}
+
+/// What each event of the history changes; of more than 16 processors no timestamps and copies are told. Where something was cut
+/// off, they begin with an arrival of each processor, which stands for it; then it isn't known at first which copies are valid,
+/// and who holds which lock. The only error is running out of memory.
 ///
 /// It takes time and memory as `causes::written_words` and `causes::dues` do.
 pub fn changes(alloc: Global, history: &History<'_>) -> Result<RunChanges, AllocError>
-    ensures { IfOk result (AreRunChanges (judged_sizes_of history.now.sizes) history.now.events) }
+    ensures few { IfOk result (λ x. history.now.sizes.processors ≤ most_processors
+        → AreRunChanges (judged_sizes_of history.now.sizes) history.now.events x) }
+    ensures many { IfOk result (λ x. most_processors < history.now.sizes.processors → AreChangesWithoutCopies x) }
 {
+    if !do_changes_tell_copies(history.sizes()) {
+        return changes_without_copies(alloc, history);
+    }
     let times = picture_times(alloc, history)?;
     let written = written_words(alloc, history)?;
     let dues = dues(alloc, history)?;

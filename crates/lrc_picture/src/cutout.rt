@@ -1,11 +1,11 @@
 //! What of a run is drawn: the events of a part, on the lanes of its processors.
 ghost use Rattle.std.specs.Prelude.{ℕ, ◌≡◌, ◌+◌, ◌<◌, ◌≤◌, ◌↔◌, All, IfOk, IfSome, List, OnOk, Some, length, slice_get, vec_len};
 ghost use Rattle.base.specs.InOrderOnce.{Has};
-ghost use Rattle.base.specs.Prelude.{most_processors};
 ghost use Rattle.causes.specs.declared.part.Part.{Part};
 ghost use Rattle.causes.specs.Prelude.{IsInPart};
 ghost use Rattle.journal.specs.declared.event.Event.{Event};
 ghost use Rattle.journal.specs.Events.{EventAt};
+ghost use Rattle.judge.specs.Prelude.{most_judged_processors};
 ghost use Rattle.lrc_picture.specs.Prelude.{AreCutoutEvents, AreCutoutLanes, AreCutoutRowsOf, AreArrowPlaces, AreCutoutPlaces, HasPictureLayout, IsCutout, IsPictureLayoutOf};
 
 use crate::picture_layout::{DiagramLayout, picture_layout_of};
@@ -49,7 +49,7 @@ pub fn cutout_part_from(part: &Part, first: usize) -> Part
 
 /// The part's processors among so many. The only error is running out of memory.
 fn cutout_lanes_of(alloc: Global, part: &Part, processors: usize) -> Result<Vec<usize>, AllocError>
-    requires { processors ≤ most_processors }
+    requires { processors ≤ most_judged_processors }
     ensures lanes { IfOk result (λ v. AreCutoutLanes part.now processors v.items) }
     ensures few { IfOk result (λ v. vec_len v ≤ processors) }
 {

@@ -14,7 +14,10 @@ const UNKNOWN: &str = "?";
 /// The memory before a page's first event.
 #[derive(Clone, Copy)]
 pub struct StartMemory<'a> {
+    /// Its sizes; without pages if copies aren't told.
     pub sizes: Sizes,
+    /// Whether timestamps are told.
+    pub has_times: bool,
     /// Its words.
     pub words: &'a [u32],
     /// Whether events were cut off before, so that some of its state isn't known.
@@ -59,17 +62,27 @@ fn put_panel_zeros(text: &mut Svg, processors: usize) {
     }
 }
 
-/// Puts the processors that are drawn: their timestamps, and for what they wait.
-fn put_panel_processors(text: &mut Svg, sizes: Sizes, cutout: &Cutout) {
+/// Puts the cell of the processor's timestamp, of so many processors.
+fn put_panel_time(text: &mut Svg, processor: usize, processors: usize) {
+    text.put_number("<td class=\"text\" id=\"t", processor);
+    text.put("\">");
+    put_panel_zeros(text, processors);
+    text.put("</td>");
+}
+
+/// Puts the processors that are drawn: their timestamps, if these are told, and for what they wait.
+fn put_panel_processors(text: &mut Svg, start: StartMemory<'_>, cutout: &Cutout) {
     begin_panel_table(text, "processors");
-    text.put("<tr><th></th><th class=\"text\">timestamp</th>");
+    text.put("<tr><th></th>");
+    if start.has_times {
+        text.put("<th class=\"text\">timestamp</th>");
+    }
     text.put("<th class=\"text\">waits, or may take</th></tr>\n");
     for processor in &cutout.lanes {
         begin_panel_row(text, "p", *processor);
-        text.put_number("<td class=\"text\" id=\"t", *processor);
-        text.put("\">");
-        put_panel_zeros(text, sizes.processors);
-        text.put("</td>");
+        if start.has_times {
+            put_panel_time(text, *processor, start.sizes.processors);
+        }
         put_panel_cell(text, "s", *processor, "");
         text.put("</tr>\n");
     }
@@ -184,6 +197,7 @@ fn put_panel_pages(
         sizes,
         words,
         is_cut,
+        ..
     } = start;
     for (page, is_touched) in pages_touched_in_panel(alloc, sizes, events)?
         .iter()
@@ -205,7 +219,7 @@ pub fn put_panel(
     cutout: &Cutout,
     events: &[Event],
 ) -> Result<(), AllocError> {
-    put_panel_processors(text, start.sizes, cutout);
+    put_panel_processors(text, start, cutout);
     put_panel_locks(text, start);
     put_panel_flags(text, start);
     put_panel_pages(text, alloc, start, cutout, events)

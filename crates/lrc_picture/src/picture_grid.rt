@@ -1,6 +1,6 @@
 //! Where the lanes and rows of a picture lie, in pixels.
 ghost use Rattle.std.specs.Prelude.{◌≡◌, ◌≢◌, ◌≤◌, ◌^◌};
-ghost use Rattle.base.specs.Prelude.{most_processors};
+ghost use Rattle.judge.specs.Prelude.{most_judged_processors};
 
 /// A point of the picture, in pixels from its left upper corner.
 #[derive(Clone, Copy, Debug, PartialEq, Eq)]
@@ -24,7 +24,7 @@ pub struct PictureGrid {
     /// How wide the column of labels is that stands right of all lanes, in pixels; 0 where each label stands right of its
     /// mark.
     pub side: usize,
-    pub ghost lanes_few: { lanes ≤ most_processors },
+    pub ghost lanes_few: { lanes ≤ most_judged_processors },
     pub ghost rows_few: { rows ≤ 2 ^ 22 },
     pub ghost step_small: { step ≤ 2 ^ 12 },
     pub ghost side_small: { side ≤ 2 ^ 12 },

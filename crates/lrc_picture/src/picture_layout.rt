@@ -1,6 +1,7 @@
 //! The layout of a picture: what stands where.
 ghost use Rattle.std.specs.Prelude.{◌<◌, ◌≤◌, All, IfOk, length};
-ghost use Rattle.base.specs.Prelude.{most_held, most_processors};
+ghost use Rattle.base.specs.Prelude.{most_held};
+ghost use Rattle.judge.specs.Prelude.{most_judged_processors};
 ghost use Rattle.lrc_picture.specs.Prelude.{HasPictureLayout, IsPictureLayoutGrid, IsPictureLayoutOf};
 
 use crate::arrows::{Arrow, arrows};
@@ -48,7 +49,7 @@ fn picture_layout_grid(
     events: &[Event],
 ) -> Result<PictureGrid, AllocError>
     requires few { length events.now ≤ most_held }
-    requires few_processors { processors ≤ most_processors }
+    requires few_processors { processors ≤ most_judged_processors }
     ensures { IfOk result (IsPictureLayoutGrid processors events.now) }
 {
     let label = widest_picture_label(alloc, events)?;

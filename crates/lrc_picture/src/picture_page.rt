@@ -3,7 +3,7 @@ ghost use Rattle.std.specs.Prelude.{◌≡◌, Err};
 ghost use Rattle.lrc_picture.specs.Prelude.{HasPictureLayout};
 
 use crate::canvas::put_picture_on_canvas;
-use crate::changes::RunChanges;
+use crate::changes::{RunChanges, do_changes_tell_copies, sizes_in_changes};
 use crate::cutout::{Cutout, cutout_of, cutout_part_from};
 use crate::headline::put_headline;
 use crate::page_looks::{PAGE_LOOKS, PAGE_SCRIPT};
@@ -31,8 +31,10 @@ pub struct PicturePageState<'a> {
 impl<'a> PicturePageState<'a> {
     /// The memory before the first event.
     fn start(&self) -> StartMemory<'a> {
+        let sizes = self.history.sizes();
         StartMemory {
-            sizes: self.history.sizes(),
+            sizes: sizes_in_changes(sizes),
+            has_times: do_changes_tell_copies(sizes),
             words: self.words,
             is_cut: self.history.cut_events() > 0,
         }

@@ -1,7 +1,7 @@
 //! What a run's front has left standing, and what each event changes of that: locks, flags, who waits for what, which words are
 //! dirty, and which copies are known.
 
-use crate::changes::{Standing, StateChange};
+use crate::changes::{Standing, StateChange, sizes_in_changes};
 use causes::Due;
 use journal::{Awaited, Event, Kind};
 use judge::{History, Sizes};
@@ -360,16 +360,27 @@ fn run_front_changes_at(
     Ok(changes)
 }
 
-/// What each event of the history changes besides. The only error is running out of memory.
+/// The records of the event at this place; none if copies aren't told.
+fn run_front_records_at(dues: &[Vec<Due>], place: usize) -> &[Due] {
+    match dues.get(place) {
+        Some(records) => records.as_slice(),
+        None => &[],
+    }
+}
+
+/// What each event of the history changes besides, which tells of these records; of none if copies aren't told. The only error is
+/// running out of memory.
 pub fn run_front_changes_of(
     alloc: Global,
     history: &History<'_>,
     dues: &[Vec<Due>],
 ) -> Result<Vec<Vec<StateChange>>, AllocError> {
     let events = history.events();
-    let mut front = RunFront::new(alloc, history.sizes(), history.cut_events() > 0)?;
+    let sizes = sizes_in_changes(history.sizes());
+    let mut front = RunFront::new(alloc, sizes, history.cut_events() > 0)?;
     let mut others = Vec::with_capacity(alloc, events.len())?;
-    for (event, records) in events.iter().zip(dues.iter()) {
+    for (place, event) in events.iter().enumerate() {
+        let records = run_front_records_at(dues, place);
         others.push(run_front_changes_at(&mut front, *event, records)?)?;
     }
     Ok(others)

@@ -37,7 +37,7 @@ pub struct PictureStory<'a> {
     pub subject: Subject,
     /// The name of the file, where there is one; of a path only what stands behind its last `/` is shown.
     pub name: Option<&'a str>,
-    /// How many processors there are, at most `MOST_PROCESSORS`.
+    /// How many processors there are, at most `judge::MOST_JUDGED_PROCESSORS`.
     pub processors: usize,
     /// The events in order.
     pub events: &'a [Event],

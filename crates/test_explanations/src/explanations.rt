@@ -15,6 +15,7 @@ ghost use Rattle.judge.specs.Prelude.{whole_sized_history};
 mod answers;
 mod edges;
 mod loads;
+mod many;
 mod news;
 mod pictures;
 mod records;

@@ -90,11 +90,15 @@ fn wrong_replies(rt: HostRuntime) -> Result<(), Fail> {
     is_refused(&rt, (2, 2), &[(0, Kind::Load(0, 7)), events[0]], Some(0))
 }
 
-/// Whether each load of the history may answer its value and no other one below 10, by sources that take it an event at
-/// a time.
+/// Whether the history has at most 16 processors, and each of its loads may answer its value and no other one below 10, by
+/// sources that take it an event at a time.
 fn only_these(alloc: Global, history: &History<'_>) -> Result<bool, AllocError> {
     let events = history.events();
-    let mut sources = ReadableSources::new(alloc, history.sizes().processors, history.addresses())?;
+    let processors = history.sizes().processors;
+    if processors > MOST_PROCESSORS {
+        return Ok(false);
+    }
+    let mut sources = ReadableSources::new(alloc, processors, history.addresses())?;
     for place in 0..events.len() {
         if !answers_only(&sources, &events[..place], events[place]) {
             return Ok(false);

@@ -2,7 +2,7 @@
 
 use super::{Row, events_of, history_of};
 use causes::{FirstRace, Source, explain};
-use journal::Kind;
+use journal::{Kind, MOST_PROCESSORS};
 use judge::Sizes;
 use std::process::Abort;
 use std::test::Fail;
@@ -33,6 +33,7 @@ fn tells<R: Abort + AllocGlobal>(
         flags: 4,
     };
     let history = history_of(sizes, &events)?;
+    assert!(rt; processors <= MOST_PROCESSORS);
     let told = match explain(rt.alloc(), &history) {
         Ok(told) => told,
         Err(_) => explain(rt.alloc(), &history)?,

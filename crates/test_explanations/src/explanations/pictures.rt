@@ -1,12 +1,14 @@
 //! Pictures of histories made by hand: what is in their files, and how often.
 ghost use Rattle.std.specs.Prelude.{◌≡◌, ◌<◌, ◌≤◌, All, IsTrue, length};
-ghost use Rattle.base.specs.Prelude.{most_held, most_processors};
+ghost use Rattle.base.specs.Prelude.{most_held};
 ghost use Rattle.journal.specs.Prelude.{EventProcessorsInRange};
+ghost use Rattle.judge.specs.Prelude.{most_judged_processors};
 ghost use Rattle.lrc_picture.specs.Prelude.{AreArrowPlaces};
 
 use super::{Row, events_of};
 use causes::Part;
-use journal::{Event, Kind, MOST_HELD, MOST_PROCESSORS};
+use journal::{Event, Kind, MOST_HELD};
+use judge::MOST_JUDGED_PROCESSORS;
 use lrc_picture::picture::render;
 use lrc_picture::story::{Details, PictureStory, Subject};
 use std::alloc::{AllocError, Global};
@@ -172,7 +174,7 @@ fn picture<R: Abort + AllocGlobal>(rt: &R, case: &Case<'_>) -> Result<Vec<u8>, F
             holders: &lists.holders,
         },
     };
-    assert!(rt; story.events.len() <= MOST_HELD && story.processors <= MOST_PROCESSORS);
+    assert!(rt; story.events.len() <= MOST_HELD && story.processors <= MOST_JUDGED_PROCESSORS);
     assert!(rt; are_by(story.processors, story.events));
     assert!(rt; are_places(story.events.len(), story.incoming));
     let part = Part::whole();
@@ -221,15 +223,17 @@ fn check<R: Abort + AllocGlobal>(rt: &R, case: &Case<'_>) -> Result<(), Fail> {
     Ok(())
 }
 
-/// No events, one processor's, and a row for sixteen.
+/// No events, one processor's, and a row for sixteen, and for sixty-four.
 #[test]
 fn alone(rt: HostRuntime) -> Result<(), Fail> {
     let one = [(0, Kind::Store(0, 7)), (0, Kind::Load(0, 7))];
     let far = [(15, Kind::Store(4, 4_294_967_295))];
-    let rows: [(usize, &[Row], &[Option<usize>]); 3] = [
+    let farthest = [(63, Kind::Store(4, 4_294_967_295))];
+    let rows: [(usize, &[Row], &[Option<usize>]); 4] = [
         (2, &[], &[]),
         (1, &one, &[None, Some(0)]),
         (16, &far, &[]),
+        (64, &farthest, &[]),
     ];
     for (processors, events, reads) in rows {
         let case = Case {

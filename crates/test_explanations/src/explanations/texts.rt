@@ -186,9 +186,9 @@ fn ranges(rt: HostRuntime) -> Result<(), Fail> {
     let journal = journal_in(&run);
     let wants = [
         (sizes_of(2, 1, 2, 1), true),
-        (sizes_of(16, 1 << 19, 2, 1 << 16), true),
+        (sizes_of(64, 1 << 19, 2, 1 << 16), true),
         (sizes_of(1, 1, 2, 1), false),
-        (sizes_of(17, 1, 2, 1), false),
+        (sizes_of(65, 1, 2, 1), false),
         (sizes_of(2, (1 << 19) + 1, 2, 1), false),
         (sizes_of(2, 1, (1 << 20) + 1, 1), false),
         (sizes_of(2, 1, 2, 0), false),

@@ -24,10 +24,10 @@ all_written-requires-clause-looked c = record {
   stores = c.in_ok-of.ensures.rows;
   processors = λ k e at.
       (let low = (c.events-events.ensures.processors k e at) in
-      let few = c.events-events.ensures.few_processors in
+      let few = c.requires in
       omega arith);
   few =
-      (let addresses = c.sizes-sizes.ensures.judged.streamed.addresses in
+      (let addresses = c.sizes-sizes.ensures.judged.addresses in
       let same = c.in_ok-of.ensures.addresses in
       omega arith);
 }

@@ -4,7 +4,7 @@ use Rattle.journal.specs.declared.event.Event.{Event}
 use Rattle.journal.specs.Races.{RaceFree}
 use Rattle.journal.specs.Sizes.{Sizes}
 use Rattle.judge.specs.SizedHistory.{IsHistoryInSizes, SizedHistory}
-use Rattle.judge.specs.JudgedSizes.{AreJudgedSizes, AreJudgedSizesSmall}
+use Rattle.judge.specs.JudgedSizes.{AreJudgedSizesSmall, AreStreamedSizes}
 use Rattle.causes.specs.declared.racing.FirstRace.{FirstRace}
 use Rattle.causes.specs.Heard.{IsHeardAtRace}
 use Rattle.lrc_script.specs.Lawful.{IsLawful}
@@ -36,7 +36,7 @@ unwrap-history-requires c =
     let g = c.args.events.now in
     let same = sym c.racing_history_sizes.ensures in
     c.new.ensures.fits.1 (record {
-      judged = subst AreJudgedSizes same (sizes_judged_small (plan_sizes s) (lawful_small s c.requires.lawful));
+      judged = subst AreStreamedSizes same (sizes_judged_small (plan_sizes s) (lawful_small s c.requires.lawful)).streamed;
       opening = omega arith;
       few_opening = omega arith;
       few = (let few = history_length_few s g c.requires.lawful c.requires.begins in omega arith);

@@ -6,7 +6,7 @@ use Rattle.lrc_options.proofs.WrittenProcessors.{written_processors_next, writte
 use Rattle.lrc_options.proofs.ranges.processors.Goals as goal
 
 pub loop-rest-init : goal.loop-rest-init
-loop-rest-init c = ([], written_processors_none, refl)
+loop-rest-init c = ([], written_processors_none c.args.limit, refl)
 
 -- what is left is the word that is read next, and what is left behind it
 left_next : (l rest : Option (Bor (List ℕ))) (bytes : Bor (List ℕ)) (word : List ℕ) → l ≡ Some bytes
@@ -21,7 +21,7 @@ loop-rest-preserved c =
     let before = c.loop-rest.invariant.0 in
     let next = left_next c.loop-rest.rest c.split_script_line_at.result.1 c.in-Some.bytes word c.in-Some.is c.split_script_line_at.ensures.parts in (
       before ++ word ∷ [],
-      written_processors_next before c.loop-rest.marks word c.in_ok-marks.field-0 c.in_ok-marks.ensures.0 c.in_ok-marks.ensures.1
+      written_processors_next c.args.limit before c.loop-rest.marks word c.in_ok-marks.field-0 c.requires c.in_ok-marks.ensures.0 c.in_ok-marks.ensures.1
           c.loop-rest.invariant.1,
       append_assoc before (word ∷ []) left ∙ ap (λ l. before ++ l) (sym next) ∙ c.loop-rest.invariant.2,
     )
@@ -35,6 +35,6 @@ returns-in_err-marks c =
     let whole : before ++ word ∷ left ≡ parts_of_read_line 44 c.args.text.now =
     ap (λ l. before ++ l) (sym next) ∙ c.loop-rest.invariant.2 ∙ ap (parts_of_read_line 44) c.as_bytes.ensures.value in
     rw c.from_residual.ensures (λ marks written.
-    written_processors_not (parts_of_read_line 44 c.args.text.now) marks word
+    written_processors_not c.args.limit (parts_of_read_line 44 c.args.text.now) marks word
     (subst (λ (words : List (List ℕ)). Has words word) whole ((joined_list_has-append before (word ∷ left) word).1 (inr (0, refl))))
     c.in_err-marks.ensures written)

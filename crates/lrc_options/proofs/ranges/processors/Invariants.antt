@@ -6,7 +6,7 @@ use Rattle.lrc_options.proofs.ranges.processors.Given as goal
 -- what was read before has these marks, and what is still read stands behind it
 abbrev pub invariant-loop-rest : goal.invariant-loop-rest
 invariant-loop-rest l =
-    (before : List (List ℕ)) × AreProcessorsWritten before l.marks
+    (before : List (List ℕ)) × AreProcessorsWritten l.limit before l.marks
     × (before ++ parts_behind_in_read_line 44 l.rest ≡ parts_behind_in_read_line 44 l.initial.rest)
 
 -- how many bytes are left, and one if some part is

@@ -21,7 +21,7 @@ of-requires c =
     let e = slice_index_or events place (event 0 (Load 0 0)) in
     let at = slice_get-get_or events place (event 0 (Load 0 0)) c.loop-place-test.true in
     let low = c.events-events.ensures.processors place e at in
-    let few = c.events-events.ensures.few_processors in
+    let few = c.requires in
     let long = c.in_ok-note.ensures.clocks.long in
     omega arith
 
@@ -35,7 +35,7 @@ loop-place-preserved c =
     let at = slice_get-get_or events place (event 0 (Load 0 0)) c.loop-place-test.true in
     let long : length times.items ≡ place = omega (arith, times.ok.0, old.long) in
     let low = c.events-events.ensures.processors place e at in
-    let few = c.events-events.ensures.few_processors in
+    let few = c.requires in
     let clocks = c.in_ok-note.ensures.clocks in
     let time : IsTimeOf (take (place + 1) events) e.processor (slice_index c.of.result.now) =
     drawn_timestamps_same (take (place + 1) events) (InPast (take (place + 1) events) e.processor)
