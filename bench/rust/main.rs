@@ -4,7 +4,8 @@
 //! `plain WORK TIMES [THREADS|FILE]` and `plain WORK EVENTS TIMES` take the words of `bench`.
 //! `plain whole FILE [--journal]` does what `lrc step FILE [--journal]` does, and prints the same.
 //! `plain check FILE` judges a trace as `lrc check FILE --lax` does, and prints the same if it is faithful and has no race.
-//! `plain explore FILE [MOST]` searches all schedules, and prints the verdict and how many states and outcomes there are.
+//! `plain explore FILE [MOST [all]]` searches all schedules as `lrc explore` does, by the words alone or with all replies, and prints the
+//! verdict and how many states and outcomes there are.
 //! It uses std alone, events of 16 bytes (of 32 with `--cfg wide`), and one Mutex round what the processors share, which look for what they wait for
 //! again and again. `run_in_order` has a lock in the Mutex's place that lets threads in by the order of drawing, and whose
 //! waiters sleep, as the product's do. `run_asleep` has that lock, and its processors sleep until they are told.
@@ -39,7 +40,11 @@ fn main() {
         "parse" => println!("{}", script::parses(words.get(3).map_or("", String::as_str), times)),
         "step" | "run" | "run_in_order" | "run_asleep" => println!("{}", run::runs(work, words.get(3).map_or("", String::as_str), times)),
         "check" => check::check(words.get(2).map_or("", String::as_str)),
-        "explore" => explore::explore(words.get(2).map_or("", String::as_str), words.get(3).and_then(|most| most.parse().ok()).unwrap_or(1_000_000)),
+        "explore" => explore::explore(
+            words.get(2).map_or("", String::as_str),
+            words.get(3).and_then(|most| most.parse().ok()).unwrap_or(1_000_000),
+            words.get(4).is_some_and(|detail| detail == "all"),
+        ),
         "whole" => run::whole(words.get(2).map_or("", String::as_str), words.len() > 3),
         "build" | "append" | "first_race" | "replay" | "traffic" | "copy" => journal::measure(work, times, many),
         _ => {

@@ -3,8 +3,8 @@
 named.
 
 A lie is told while the pipe is still open, and so is a race that is to end the judging; nothing behind either is read. Of a lie
-and a bad line the one that comes first is told, however the text is cut into pieces. A long trace is judged in memory that
-doesn't grow with it: 16 processors that share 4,096 words, each under a lock, with labels; so is one that races at its end, or
+and a bad line the one that comes first is told, however the text is cut into pieces. A long trace, and one of ten million
+events, is judged in memory that doesn't grow with it: 16 processors that share 4,096 words, each under a lock, with labels; so is one that races at its end, or
 lies there; and one whose locks go round, under the models that look at earlier stores. Nor does the memory grow with one whose
 fetches count what they bring, of 16 processors that share 112 pages. What is told has its labels as long as it is at hand, and so has the race if more than a window comes behind it.
 With --locksets the memory doesn't grow either, and accesses of a word that were let go of are told by number and processor.
@@ -19,6 +19,7 @@ from pathlib import Path
 
 PROGRAM = sys.argv[1] if len(sys.argv) > 1 else str(Path(__file__).resolve().parents[2] / "crates/lrc/out/lrc")
 LONG = 1_500_000  # events; 2^19 are kept at hand, and those of one piece
+LONGEST = 10_000_000
 MEMORY = 64 << 20
 STORED = 96 << 20  # where stores are kept that a load may still answer
 passed = failed = 0
@@ -140,6 +141,8 @@ LINES = list(long_trace(LONG))
 EVENTS = len(LINES) - 1
 status, said, wrong = long_judged(LINES)
 count("a long trace is faithful", (status, said) == (0, f"events {EVENTS}\nmodel race-free\nfaithful\nverdict race-free\ntraffic {EVENTS // 5 * 2} 0 0\n"), status, said[:300], wrong)
+status, said, wrong = long_judged(long_trace(LONGEST))
+count(f"a trace of {LONGEST} events is faithful", status == 0 and said.startswith(f"events {LONGEST}\nmodel race-free\nfaithful\n"), status, said[:300], wrong)
 status, said, wrong = long_judged(LINES + [f"event {EVENTS} 3 load 0 77  end\n".encode()])
 count("a long trace races at its end", status == 0 and "verdict racy" in said and f"event {EVENTS} 3 load 0 77  end" in said, status, said[:300], wrong)
 asked = [f"event {EVENTS} 1 ask 0\n", f"event {EVENTS + 1} 1 acquire 0\n", f"event {EVENTS + 2} 1 load 0 77  end\n"]

@@ -19,6 +19,7 @@ use Rattle.explore.specs.declared.wait_code.ProcessorNumber.{ProcessorNumber}
 use Rattle.explore.specs.FoundStates.{AreFoundStates, AreFoundStatesKept, IsFoundStateOrigin, FoundStateAdded, IsFoundState, KeepsFoundStates, FoundStateWasPushed, FoundStateWasThere, found_states}
 use Rattle.explore.specs.Origins.{AreOriginsInOrder, StateOrigin, state_origins}
 use Rattle.explore.specs.KeptStates.{AreStatePartsOnce, IsKeptStateWithin, IsStateKept, opened_state}
+use Rattle.explore.specs.CallTables.{IsCallTableOf}
 use Rattle.explore.specs.FollowedStates.{IsFollowedState, MayBeFollowedState}
 use Rattle.explore.specs.FreeRun.{AreFreeInRun, IsFoundByFreeRun}
 use Rattle.explore.specs.Machines.{MachinesInSameState, MachineKnows}
@@ -64,6 +65,7 @@ module _ (s : Plan) (x y : FoundStates) (m : FlatState) (o : StateOrigin) (pushe
       → IsFoundStateOrigin s (found_states x) (length (found_states x)) m o → AreFoundStates s y
   added_state_pushed_found kept old g knows tells from = record {
     kept = kept;
+    calls = subst (IsCallTableOf s) (sym pushed.calls) old.calls;
     long = (
         let before = old.long in
         let states = ap (λ (ms : List FlatState). length ms) pushed.states in
@@ -117,6 +119,7 @@ module _ (s : Plan) (x y : FoundStates) (m : FlatState) (was : FoundStateWasTher
   pub added_state_there_found : AreFoundStatesKept y → AreFoundStates s x → AreFoundStates s y
   added_state_there_found kept old = record {
     kept = kept;
+    calls = subst (IsCallTableOf s) (sym was.calls) old.calls;
     long = (
         let before = old.long in
         let states = ap (λ (ms : List FlatState). length ms) was.states in
@@ -241,6 +244,12 @@ module _ (x : FoundStates) (parts : StateParts) (m : FlatState) (k : KeptState) 
   added_state_opens y parts_are first =
       ap (λ z. map (opened_state z y.first) y.states.keys) parts_are ∙ ap (λ f. map (opened_state parts f) y.states.keys) first
 
+  added_state_calls : (y : FoundStates) → y.parts ≡ parts → y.parts.calls ≡ x.parts.calls
+  added_state_calls y parts_are = ap (λ (z : StateParts). z.calls) parts_are ∙ is.keeps.calls
+
+  added_state_calls_known : (y : FoundStates) → y.parts ≡ parts → (s : Plan) × IsCallTableOf s y.parts.calls
+  added_state_calls_known y parts_are = (old.calls.0, subst (IsCallTableOf old.calls.0) (sym (added_state_calls y parts_are)) old.calls.1)
+
   -- and is there already
   pub added_state_was_there : (y : FoundStates) → y.parts ≡ parts → y.first ≡ x.first → y.states.keys ≡ x.states.keys
       → y.origins ≡ x.origins → (place : ℕ) (h : KeptState) → slice_get x.states.keys place ≡ Some h → h ≡ k
@@ -249,6 +258,7 @@ module _ (x : FoundStates) (parts : StateParts) (m : FlatState) (k : KeptState) 
       let within = old.within place h at in
       record {
         kept = record {
+          calls = added_state_calls_known y parts_are;
           within = λ i a here.
               subst (λ z. IsKeptStateWithin z a) (sym parts_are)
               (kept_state_stays_within x.parts parts a is.keeps (old.within i a (ap (λ ks. slice_get ks i) (sym keys) ∙ here)));
@@ -257,6 +267,7 @@ module _ (x : FoundStates) (parts : StateParts) (m : FlatState) (k : KeptState) 
         };
         added = inl (record {
           first = first;
+          calls = added_state_calls y parts_are;
           states = added_state_opens y parts_are first ∙ ap (map (opened_state parts x.first)) keys ∙ kept_states_open_same x.parts parts x.first x.states.keys is.keeps old.within;
           origins = ap state_origins origins;
           place = place;
@@ -273,6 +284,7 @@ module _ (x : FoundStates) (parts : StateParts) (m : FlatState) (k : KeptState) 
       → (o : StateOrigin) → state_origins y.origins ≡ state_origins x.origins ++ o ∷ [] → AreOriginsInOrder y.origins → FoundStateAdded x y m o
   added_state_was_put y parts_are first keys o origins in_order = record {
     kept = record {
+      calls = added_state_calls_known y parts_are;
       within = λ i a here. elim (slice_push_cases x.states.keys k i a (ap (λ ks. slice_get ks i) (sym keys) ∙ here)) [
         | inl before ↦ subst (λ z. IsKeptStateWithin z a) (sym parts_are) (kept_state_stays_within x.parts parts a is.keeps (old.within i a before.1))
         | inr now ↦ subst (λ z. IsKeptStateWithin z a) (sym parts_are) (subst (IsKeptStateWithin parts) now.1 is.within)
@@ -284,6 +296,7 @@ module _ (x : FoundStates) (parts : StateParts) (m : FlatState) (k : KeptState) 
       state = opened_state parts x.first k;
       pushed = record {
         first = first;
+        calls = added_state_calls y parts_are;
         states =
             added_state_opens y parts_are first ∙ ap (map (opened_state parts x.first)) keys ∙ map-append (opened_state parts x.first) x.states.keys (k ∷ [])
             ∙ ap (λ ms. ms ++ opened_state parts x.first k ∷ []) (kept_states_open_same x.parts parts x.first x.states.keys is.keeps old.within);
@@ -304,14 +317,15 @@ added_state_only a (suc place) b at = absurd (none-some b at)
 
 -- the first state alone
 pub added_state_first : (s : Plan) (y : FoundStates) (k : KeptState) → AreFoundStatesKept y → y.states.keys ≡ k ∷ [] → state_origins y.origins ≡ []
-    → MachinesInSameState y.first (opened_state y.parts y.first k) → MachineKnows s [] y.first → AreFoundStates s y
-added_state_first s y k kept keys origins like knows =
+    → MachinesInSameState y.first (opened_state y.parts y.first k) → MachineKnows s [] y.first → IsCallTableOf s y.parts.calls → AreFoundStates s y
+added_state_first s y k kept keys origins like knows calls =
     let states = ap (map (opened_state y.parts y.first)) keys in
     let only = λ (place : ℕ) (f : FlatState) (at : slice_get (found_states y) place ≡ Some f).
     added_state_only (opened_state y.parts y.first k) place f (ap (λ ms. slice_get ms place) (sym states) ∙ at) in
     let opened = like_machine_knows s [] y.first (opened_state y.parts y.first k) like knows in
     record {
       kept = kept;
+      calls = calls;
       long = ap (λ (ms : List FlatState). length ms) states ∙ ap (λ (os : List StateOrigin). length os + 1) (sym origins);
       known = λ place f at. ([], subst (MachineKnows s []) (only place f at) opened);
       come = λ place f o at from_at. absurd (none-some o (sym (ap (λ os. slice_get os place) origins) ∙ from_at));

@@ -1,15 +1,18 @@
 -- One free event of several, the asks for one lock, or all of them.
-use Rattle.std.proofs.Common.{ℕ, zero, suc, ◌≡◌, ◌+◌, ◌<◌, ◌≤◌, inl, inr, Bool, List, [], length, replicate, Option, Some, refl, sym, ap, subst, ◌∙◌, get_or-set_other, get_or-set_same, arith}
+use Rattle.std.proofs.Common.{ℕ, zero, suc, ◌≡◌, ◌≢◌, ◌+◌, ◌<◌, ◌≤◌, inl, inr, Bool, List, [], length, replicate, Option, Some, refl, sym, ap, subst, ◌∙◌, get_or-set_other, get_or-set_same, arith}
 use Rattle.std.specs.Prelude.{None, slice_get, slice_index_or, slice_set}
-use Rattle.std.proofs.lemmas.Bool.{cases_eq, eq-eqb, ne_eqb}
+use Rattle.std.proofs.lemmas.Bool.{cases_eq}
 use Rattle.std.specs.Global.{Vec}
 use Rattle.std.proofs.lemmas.Option.{none-some, same_Some}
+use Rattle.journal.specs.declared.event.Event.{Event}
 use Rattle.journal.specs.declared.event.Kind.{Kind}
-use Rattle.journal.specs.declared.event.Kind.TheVariants.{Ask}
+use Rattle.journal.specs.declared.event.Kind.TheVariants.{Ask, Set}
 use Rattle.lrc_script.specs.Plan.{Plan}
 use Rattle.explore.specs.declared.prefixes.script_call.ScriptCall.{ScriptCall}
 use Rattle.explore.specs.declared.prefixes.script_call.ScriptCall.TheVariants.{Call}
-use Rattle.explore.specs.FreeChoice.{AreFreeChoiceAskEnds, AreFreeChoiceAsksSmall, AreFreeChoiceAmongNexts, IsFreeChoiceAskAt, IsFreeChoiceAskSmall, IsFreeChoice, IsFreeForChoice, IsFreeForChoiceByWords, free_choice_ask_end_after}
+use Rattle.explore.specs.declared.text_facts.NumberedCalls.{NumberedCalls}
+use Rattle.explore.specs.declared.text_facts.NumberedCalls.TheVariants.{Asks, Sets}
+use Rattle.explore.specs.FreeChoice.{AreFreeChoiceEnds, AreFreeChoiceNumbersSmall, AreFreeChoiceAmongNexts, IsFreeChoiceNumberSmall, IsFreeChoice, IsFreeForChoice, IsFreeForChoiceByWords, free_choice_numbered_call}
 use Rattle.explore.specs.TextGuards.{AreGuardedByText}
 use Rattle.explore.specs.Machines.{AreLawfulMachineSteps, IsProperMachineStep}
 use Rattle.explore.proofs.MachineSteps.{machine_step_row_proper, machine_step_row}
@@ -18,10 +21,10 @@ use Rattle.explore.proofs.MachineSteps.{machine_step_row_proper, machine_step_ro
 pub choosing_free_where_guarded : (rows : List (Vec ScriptCall)) (words : List Bool) (k : Kind) → AreGuardedByText rows words → IsFreeForChoiceByWords words k → IsFreeForChoice rows k
 choosing_free_where_guarded rows words k are free = record { no_ask = free.no_ask; guarded = λ w at. are w (free.guarded w at) }
 
-pub choosing_free_one : (rows : List (Vec ScriptCall)) (words : List Bool) (done : List ℕ) (nexts chosen : List (Option Kind)) (p : ℕ)
+pub choosing_free_one : (rows : List (Vec ScriptCall)) (words : List Bool) (g : List Event) (nexts chosen : List (Option Kind)) (p : ℕ)
     (k : Kind) → AreGuardedByText rows words → IsFreeForChoiceByWords words k → slice_index_or nexts p None ≡ Some k
-    → slice_index_or chosen p None ≡ Some k → IsFreeChoice rows done nexts chosen
-choosing_free_one rows words done nexts chosen p k are free at here =
+    → slice_index_or chosen p None ≡ Some k → IsFreeChoice rows g nexts chosen
+choosing_free_one rows words g nexts chosen p k are free at here =
     inr (inl (record { processor = p; kind = k; at = at; chosen_at = here; free = choosing_free_where_guarded rows words k are free }))
 
 pub choosing_free_one_among_nexts : (nexts chosen : List (Option Kind)) (p : ℕ) (k : Kind) → slice_index_or nexts p None ≡ Some k
@@ -63,57 +66,70 @@ choosing_free_among_nexts_set nexts asks p o within old new q k at = elim (cases
   | inr isnt ↦ old q k (sym (get_or-set_other asks p q o None isnt) ∙ at)
 ]
 
--- the step's own ask
-choosing_free_own_ask_end : (l count end : ℕ) → free_choice_ask_end_after l count end (Call (Ask l)) ≡ count
-choosing_free_own_ask_end l count end = rw (eq-eqb l l refl) refl
-
--- what lies before an end, and before the step, lies before the new one
-choosing_free_before_ask_end : (i l count end : ℕ) (step : ScriptCall) → i < end → i < count → i < free_choice_ask_end_after l count end step
-choosing_free_before_ask_end i l count end (Call (Ask m)) one two = elim (cases_eq m l) [
-  | inl is ↦ rw (eq-eqb m l is) two
-  | inr isnt ↦ rw (ne_eqb m l isnt) one
-]
-choosing_free_before_ask_end i l count end _ one two = one
-
--- one more step of a row
-pub choosing_free_ask_ends_next : (row : List ScriptCall) (n : ℕ) (step : ScriptCall) (old new : List ℕ) → slice_get row n ≡ Some step
-    → ((l : ℕ) → slice_index_or new l 0 ≡ free_choice_ask_end_after l (n + 1) (slice_index_or old l 0) step)
-    → ((i l : ℕ) → i < n → IsFreeChoiceAskAt row i l → i < slice_index_or old l 0) → (i l : ℕ) → i < n + 1 → IsFreeChoiceAskAt row i l
-    → i < slice_index_or new l 0
-choosing_free_ask_ends_next row n step old new at is was i l lt asks = elim (cases_eq i n) [
+-- the place of a step that makes no call of these numbers
+pub choosing_free_ends_idle : (calls : NumberedCalls) (row : List ScriptCall) (n : ℕ) (step : ScriptCall) (ends : List ℕ) → slice_get row n ≡ Some step
+    → ((m : ℕ) → step ≢ Call (free_choice_numbered_call calls m))
+    → ((i m : ℕ) → i < n → slice_get row i ≡ Some (Call (free_choice_numbered_call calls m)) → i < slice_index_or ends m 0) → (i m : ℕ) → i < n + 1
+    → slice_get row i ≡ Some (Call (free_choice_numbered_call calls m)) → i < slice_index_or ends m 0
+choosing_free_ends_idle calls row n step ends at none was i m lt here = elim (cases_eq i n) [
   | inl same ↦
-      (let mine : step ≡ Call (Ask l) = same_Some step (Call (Ask l)) (sym at ∙ ap (slice_get row) (sym same) ∙ asks) in
-      let end : slice_index_or new l 0 ≡ n + 1 =
-      is l ∙ ap (free_choice_ask_end_after l (n + 1) (slice_index_or old l 0)) mine ∙ choosing_free_own_ask_end l (n + 1) (slice_index_or old l 0) in
-      omega (arith, end, same))
-  | inr other ↦
-      subst (λ e. i < e) (sym (is l))
-      (choosing_free_before_ask_end i l (n + 1) (slice_index_or old l 0) step (was i l (omega arith) asks) lt)
+      absurd (none m (same_Some step (Call (free_choice_numbered_call calls m)) (sym at ∙ ap (slice_get row) (sym same) ∙ here)))
+  | inr other ↦ was i m (omega arith) here
 ]
+
+-- the place of one that makes the call of number k
+pub choosing_free_ends_next : (calls : NumberedCalls) (row : List ScriptCall) (n k : ℕ) (ends : List ℕ) → k < length ends
+    → slice_get row n ≡ Some (Call (free_choice_numbered_call calls k))
+    → ((i m : ℕ) → i < n → slice_get row i ≡ Some (Call (free_choice_numbered_call calls m)) → i < slice_index_or ends m 0) → (i m : ℕ) → i < n + 1
+    → slice_get row i ≡ Some (Call (free_choice_numbered_call calls m)) → i < slice_index_or (slice_set ends k (n + 1)) m 0
+choosing_free_ends_next calls row n k ends within at was i m lt here = elim (cases_eq m k) [
+  | inl is ↦
+      (let now : slice_index_or (slice_set ends k (n + 1)) m 0 ≡ n + 1 =
+      ap (λ r. slice_index_or (slice_set ends k (n + 1)) r 0) is ∙ get_or-set_same ends k (n + 1) 0 within in
+      omega (arith, now, lt))
+  | inr isnt ↦
+      subst (λ e. i < e) (sym (get_or-set_other ends k m (n + 1) 0 isnt)) (elim (cases_eq i n) [
+        | inl same ↦
+            absurd (isnt (choosing_free_number_once calls m k (same_Some (Call (free_choice_numbered_call calls m)) (Call (free_choice_numbered_call calls k))
+            (sym here ∙ ap (slice_get row) same ∙ at))))
+        | inr other ↦ was i m (omega arith) here
+      ])
+]
+  where
+    choosing_free_number_once : (calls : NumberedCalls) (m k : ℕ) → Call (free_choice_numbered_call calls m) ≡ Call (free_choice_numbered_call calls k) → m ≡ k
+    choosing_free_number_once Asks m k is = cc is
+    choosing_free_number_once Sets m k is = cc is
+
+-- the number of a step that names a small one
+pub choosing_free_number_small : (calls : NumberedCalls) (n : ℕ) (step : ScriptCall) → step ≡ Call (free_choice_numbered_call calls n)
+    → IsFreeChoiceNumberSmall step → n < 32
+choosing_free_number_small Asks n step is small = subst IsFreeChoiceNumberSmall is small
+choosing_free_number_small Sets n step is small = subst IsFreeChoiceNumberSmall is small
 
 -- one more row
-pub choosing_free_ask_ends_of_rows : {row : Vec ScriptCall} (rows : List (Vec ScriptCall)) (n : ℕ) (ends : List (List ℕ)) (own : List ℕ)
-    → slice_get rows n ≡ Some row → n < length ends → AreFreeChoiceAskEnds row.items own
-    → ((p : ℕ) (r : Vec ScriptCall) → p < n → slice_get rows p ≡ Some r → AreFreeChoiceAskEnds r.items (slice_index_or ends p []))
+pub choosing_free_ends_of_rows : (calls : NumberedCalls) {row : Vec ScriptCall} (rows : List (Vec ScriptCall)) (n : ℕ) (ends : List (List ℕ))
+    (own : List ℕ) → slice_get rows n ≡ Some row → n < length ends → AreFreeChoiceEnds calls row.items own
+    → ((p : ℕ) (r : Vec ScriptCall) → p < n → slice_get rows p ≡ Some r → AreFreeChoiceEnds calls r.items (slice_index_or ends p []))
     → (p : ℕ) (r : Vec ScriptCall) → p < n + 1 → slice_get rows p ≡ Some r
-    → AreFreeChoiceAskEnds r.items (slice_index_or (slice_set ends n own) p [])
-choosing_free_ask_ends_of_rows {row} rows n ends own at within mine was p r lt there = elim (cases_eq p n) [
+    → AreFreeChoiceEnds calls r.items (slice_index_or (slice_set ends n own) p [])
+choosing_free_ends_of_rows calls {row} rows n ends own at within mine was p r lt there = elim (cases_eq p n) [
   | inl same ↦
       (let one = same_Some row r (sym at ∙ ap (slice_get rows) (sym same) ∙ there) in
       let put : slice_index_or (slice_set ends n own) p [] ≡ own =
       ap (λ q. slice_index_or (slice_set ends n own) q []) same ∙ get_or-set_same ends n own [] within in
-      subst (AreFreeChoiceAskEnds r.items) (sym put) (subst (λ (x : Vec ScriptCall). AreFreeChoiceAskEnds x.items own) one mine))
+      subst (AreFreeChoiceEnds calls r.items) (sym put) (subst (λ (x : Vec ScriptCall). AreFreeChoiceEnds calls x.items own) one mine))
   | inr other ↦
-      subst (AreFreeChoiceAskEnds r.items) (sym (get_or-set_other ends n p own [] other)) (was p r (omega arith) there)
+      subst (AreFreeChoiceEnds calls r.items) (sym (get_or-set_other ends n p own [] other)) (was p r (omega arith) there)
 ]
 
--- the locks of a lawful script are small
-choosing_free_small_ask : (s : Plan) (step : ScriptCall) → s.locks ≤ 32 → IsProperMachineStep s step → IsFreeChoiceAskSmall step
-choosing_free_small_ask s (Call (Ask l)) most proper = (let range = proper.0 in omega (arith, range))
-choosing_free_small_ask s _ most proper = tt
+-- the locks and flags of a lawful script are small
+choosing_free_small_number : (s : Plan) (step : ScriptCall) → s.locks ≤ 32 → s.flags ≤ 32 → IsProperMachineStep s step → IsFreeChoiceNumberSmall step
+choosing_free_small_number s (Call (Ask l)) locks flags proper = (let range = proper.0 in omega (arith, range))
+choosing_free_small_number s (Call (Set f)) locks flags proper = (let range = proper.0 in omega (arith, range))
+choosing_free_small_number s _ locks flags proper = tt
 
-pub choosing_free_asks_small : (s : Plan) (rows : List (Vec ScriptCall)) → AreLawfulMachineSteps s rows → (p : ℕ) (row : Vec ScriptCall)
-    → slice_get rows p ≡ Some row → AreFreeChoiceAsksSmall row.items
-choosing_free_asks_small s rows steps p row at i step there =
-    choosing_free_small_ask s step steps.lawful.but_uneven.sizes.locks
+pub choosing_free_numbers_small : (s : Plan) (rows : List (Vec ScriptCall)) → AreLawfulMachineSteps s rows → (p : ℕ) (row : Vec ScriptCall)
+    → slice_get rows p ≡ Some row → AreFreeChoiceNumbersSmall row.items
+choosing_free_numbers_small s rows steps p row at i step there =
+    choosing_free_small_number s step steps.lawful.but_uneven.sizes.locks steps.lawful.but_uneven.sizes.flags
     (machine_step_row_proper s p row i step steps.lawful (machine_step_row s rows p row steps.are at) there)

@@ -22,7 +22,7 @@ use Rattle.explore.specs.WaitCodes.{wait_code_nobody}
 use Rattle.explore.proofs.ToldReplies.{told_replies_same_rows}
 
 -- lists that read the same are the same
-determined_read : {A : Type 0} (d : A) (xs ys : List A) → length xs ≡ length ys
+pub determined_read : {A : Type 0} (d : A) (xs ys : List A) → length xs ≡ length ys
     → ((p : ℕ) → p < length xs → slice_index_or xs p d ≡ slice_index_or ys p d) → xs ≡ ys
 determined_read d [] [] long same = refl
 determined_read d [] (y ∷ ys) long same = absurd cc
@@ -33,12 +33,12 @@ determined_read d (x ∷ xs) (y ∷ ys) long same =
     ap₂ (λ z zs. z ∷ zs) first (determined_read d xs ys rest (λ p lt. same (suc p) (omega arith)))
 
 -- options that are the same value wherever one is some
-determined_option : {A : Type 0} (a b : Option A) → ((x : A) → (a ≡ Some x) ↔ (b ≡ Some x)) → a ≡ b
+pub determined_option : {A : Type 0} (a b : Option A) → ((x : A) → (a ≡ Some x) ↔ (b ≡ Some x)) → a ≡ b
 determined_option None None same = refl
 determined_option None (Some y) same = absurd (none-some y ((same y).1 refl))
 determined_option (Some x) b same = sym ((same x).0 refl)
 
-determined_bool : (a b : Bool) → IsTrue a ↔ IsTrue b → a ≡ b
+pub determined_bool : (a b : Bool) → IsTrue a ↔ IsTrue b → a ≡ b
 determined_bool true b same = sym (same.0 refl)
 determined_bool false true same = absurd (false≢true (same.1 refl))
 determined_bool false false same = refl

@@ -1,8 +1,7 @@
 -- Parts of states that `==` finds equal are the same.
-use Rattle.std.proofs.Common.{ℕ, ◌≡◌, Bool, true, false, ◌&&◌, ◌||◌, ◌⊎◌, inl, inr, List, [], ◌∷◌, ◌++◌, Option, Some, map, refl, sym, ap, ap₂, subst, ◌∙◌}
-use Rattle.std.specs.Prelude.{None, nat_eq, not, if◌then◌else◌}
+use Rattle.std.proofs.Common.{ℕ, ◌≡◌, Bool, true, false, ◌&&◌, ◌||◌, ◌⊎◌, inl, inr, List, [], ◌∷◌, ◌++◌, map, refl, sym, ap, ap₂, subst, ◌∙◌}
+use Rattle.std.specs.Prelude.{nat_eq, not, if◌then◌else◌}
 use Rattle.std.specs.Global.{Vec}
-use Rattle.std.specs.Option.{option_eq}
 use Rattle.std.specs.Cmp.Lexicographic.{pointwise, same_text}
 use Rattle.std.specs.List.{list_any}
 use Rattle.std.proofs.lemmas.Bool.{and_from, and_parts, eqb-true, false≢true}
@@ -10,16 +9,13 @@ use Rattle.std.proofs.lemmas.Cmp.{nat_list_eq_equiv}
 use Rattle.std.proofs.lemmas.List.{map-append}
 use Rattle.base.specs.InOrderOnce.{Has}
 use Rattle.base.proofs.JoinedLists.{joined_list_has-cons, joined_list_has-nil}
-use mathlib.Core.Bool.{beq}
-use Rattle.explore.specs.declared.wait_code.WaitCode.{WaitCode}
-use Rattle.explore.specs.declared.wait_code.LockHolder.{LockHolder}
 use Rattle.explore.specs.declared.kept_state.KeptState.{KeptState}
-use Rattle.explore.specs.declared.kept_state.StateValues.{StateValues}
-use Rattle.explore.specs.declared.waiting.WaitingAsks.{WaitingAsks}
-use Rattle.explore.specs.declared.waiting.WaitingGrants.{WaitingGrants}
+use Rattle.explore.specs.declared.kept_state.StateAsks.{StateAsks}
+use Rattle.explore.specs.declared.kept_state.StateMemory.{StateMemory}
+use Rattle.explore.specs.declared.kept_state.StateReplies.{StateReplies}
 use Rattle.explore.specs.declared.explored.ScriptOutcome.{ScriptOutcome}
 use Rattle.explore.specs.Explored.{explored_outcome}
-use Rattle.explore.specs.KeptStates.{AreLikeStateAsks, AreLikeStateGrants, AreLikeStateValues}
+use Rattle.explore.specs.KeptStates.{AreLikeStateAsks, AreLikeStateMemories, AreLikeStateReplies}
 use Rattle.explore.specs.Machines.{machine_rows}
 
 -- lists whose items are found equal are the same
@@ -32,93 +28,51 @@ equal_items f E same (x ∷ xs) (y ∷ ys) h =
     let both = and_parts (E x y) (pointwise E xs ys) h in
     ap₂ (λ z zs. z ∷ zs) (same x y both.0) (equal_items f E same xs ys both.1)
 
-equal_lists : {A : Type 0} (E : A → A → Bool) → ((a b : A) → E a b ≡ true → b ≡ a) → (xs ys : List A)
-    → pointwise E xs ys ≡ true → ys ≡ xs
-equal_lists E same [] [] h = refl
-equal_lists E same [] (y ∷ ys) h = absurd (false≢true h)
-equal_lists E same (x ∷ xs) [] h = absurd (false≢true h)
-equal_lists E same (x ∷ xs) (y ∷ ys) h =
-    let both = and_parts (E x y) (pointwise E xs ys) h in
-    ap₂ (λ z zs. z ∷ zs) (same x y both.0) (equal_lists E same xs ys both.1)
-
-equal_options : {A : Type 0} (E : A → A → Bool) → ((a b : A) → E a b ≡ true → b ≡ a) → (a b : Option A)
-    → option_eq E a b ≡ true → b ≡ a
-equal_options E same None None h = refl
-equal_options E same None (Some b) h = absurd (false≢true h)
-equal_options E same (Some a) None h = absurd (false≢true h)
-equal_options E same (Some a) (Some b) h = ap Some (same a b h)
-
 equal_numbers : (xs ys : List ℕ) → pointwise nat_eq xs ys ≡ true → ys ≡ xs
 equal_numbers xs ys h = sym (same_text xs ys (sym h))
 
-equal_bools : (a b : Bool) → beq a b ≡ true → b ≡ a
-equal_bools true true h = refl
-equal_bools true false h = absurd (false≢true h)
-equal_bools false true h = absurd (false≢true h)
-equal_bools false false h = refl
+-- what `==` tests of memories
+abbrev pub state_memory_equal : StateMemory → StateMemory → Bool
+state_memory_equal v w = pointwise nat_eq v.words.items w.words.items
 
--- what `==` tests of values
-abbrev pub state_values_equal : StateValues → StateValues → Bool
-state_values_equal v w =
-    pointwise (λ (a b : Vec ℕ). pointwise nat_eq a.items b.items) v.replies.items w.replies.items && pointwise nat_eq v.memory.items w.memory.items
+pub equal_state_memory_like : (v w : StateMemory) → state_memory_equal v w ≡ true → AreLikeStateMemories v w
+equal_state_memory_like v w = equal_numbers v.words.items w.words.items
 
-pub equal_state_values_like : (v w : StateValues) → state_values_equal v w ≡ true → AreLikeStateValues v w
-equal_state_values_like v w h =
-    let rows : Vec ℕ → Vec ℕ → Bool = λ a b. pointwise nat_eq a.items b.items in
-    let a = and_parts (pointwise rows v.replies.items w.replies.items) _ h in
-    record {
-      replies = equal_items (λ (a : Vec ℕ). a.items) rows (λ a b. equal_numbers a.items b.items) v.replies.items w.replies.items a.0;
-      memory = equal_numbers v.memory.items w.memory.items a.1;
-    }
+-- and of replies
+abbrev pub state_replies_equal : StateReplies → StateReplies → Bool
+state_replies_equal v w = pointwise (λ (a b : Vec ℕ). pointwise nat_eq a.items b.items) v.replies.items w.replies.items
 
--- and of waits, and of what has come
-module _ (E : WaitCode → WaitCode → Bool) where
-  abbrev pub state_asks_equal : WaitingAsks → WaitingAsks → Bool
-  state_asks_equal v w = pointwise (option_eq E) v.waits w.waits && pointwise nat_eq v.asked.items w.asked.items
+pub equal_state_replies_like : (v w : StateReplies) → state_replies_equal v w ≡ true → AreLikeStateReplies v w
+equal_state_replies_like v w =
+    equal_items (λ (a : Vec ℕ). a.items) (λ (a b : Vec ℕ). pointwise nat_eq a.items b.items) (λ a b. equal_numbers a.items b.items) v.replies.items
+    w.replies.items
 
-  pub equal_state_asks_like : ((a b : WaitCode) → E a b ≡ true → b ≡ a) → (v w : WaitingAsks) → state_asks_equal v w ≡ true → AreLikeStateAsks v w
-  equal_state_asks_like same v w h =
-      let a = and_parts (pointwise (option_eq E) v.waits w.waits) _ h in
-      record {
-        waits = equal_lists (option_eq E) (equal_options E same) v.waits w.waits a.0;
-        asked = equal_numbers v.asked.items w.asked.items a.1;
-      }
+-- and of asks
+abbrev pub state_asks_equal : StateAsks → StateAsks → Bool
+state_asks_equal v w = pointwise nat_eq v.asked.items w.asked.items
 
-module _ (F : LockHolder → LockHolder → Bool) where
-  abbrev pub state_grants_equal : WaitingGrants → WaitingGrants → Bool
-  state_grants_equal v w =
-      pointwise nat_eq v.arrivals w.arrivals && (pointwise F v.holders w.holders && pointwise beq v.flags w.flags)
-
-  pub equal_state_grants_like : ((a b : LockHolder) → F a b ≡ true → b ≡ a) → (v w : WaitingGrants) → state_grants_equal v w ≡ true
-      → AreLikeStateGrants v w
-  equal_state_grants_like same v w h =
-      let a = and_parts (pointwise nat_eq v.arrivals w.arrivals) _ h in
-      let b = and_parts (pointwise F v.holders w.holders) _ a.1 in
-      record {
-        arrivals = equal_numbers v.arrivals w.arrivals a.0;
-        holders = equal_lists F same v.holders w.holders b.0;
-        flags = equal_lists beq equal_bools v.flags w.flags b.1;
-      }
+pub equal_state_asks_like : (v w : StateAsks) → state_asks_equal v w ≡ true → AreLikeStateAsks v w
+equal_state_asks_like v w = equal_numbers v.asked.items w.asked.items
 
 -- and of states as they are kept
 abbrev pub kept_state_equal : KeptState → KeptState → Bool
 kept_state_equal a b =
-    pointwise nat_eq a.done b.done && (nat_eq a.values b.values && (nat_eq a.asks b.asks && nat_eq a.grants b.grants))
+    pointwise nat_eq a.done b.done && (nat_eq a.memory b.memory && (nat_eq a.replies b.replies && nat_eq a.asks b.asks))
 
 pub equal_kept_state_same : (a b : KeptState) → kept_state_equal a b ≡ true → b ≡ a
 equal_kept_state_same a b h =
     let p = and_parts (pointwise nat_eq a.done b.done) _ h in
-    let q = and_parts (nat_eq a.values b.values) _ p.1 in
-    let r = and_parts (nat_eq a.asks b.asks) _ q.1 in
+    let q = and_parts (nat_eq a.memory b.memory) _ p.1 in
+    let r = and_parts (nat_eq a.replies b.replies) _ q.1 in
     let done = equal_numbers a.done b.done p.0 in
-    let values = sym (eqb-true a.values b.values q.0) in
-    let asks = sym (eqb-true a.asks b.asks r.0) in
-    let grants = sym (eqb-true a.grants b.grants r.1) in
-    ap (λ n. made n b.values b.asks b.grants) done ∙ ap (λ n. made a.done n b.asks b.grants) values
-    ∙ ap (λ n. made a.done a.values n b.grants) asks ∙ ap (made a.done a.values a.asks) grants
+    let memory = sym (eqb-true a.memory b.memory q.0) in
+    let replies = sym (eqb-true a.replies b.replies r.0) in
+    let asks = sym (eqb-true a.asks b.asks r.1) in
+    ap (λ n. made n b.memory b.replies b.asks) done ∙ ap (λ n. made a.done n b.replies b.asks) memory
+    ∙ ap (λ n. made a.done a.memory n b.asks) replies ∙ ap (made a.done a.memory a.replies) asks
   where
     made : List ℕ → ℕ → ℕ → ℕ → KeptState
-    made done values asks grants = record { done = done; values = values; asks = asks; grants = grants }
+    made done memory replies asks = record { done = done; memory = memory; replies = replies; asks = asks }
 
 -- what `insert` leaves, where it says that the key is no new one
 pub equal_keys_kept : {A : Type 0} (is_there is_new : Bool) (old more new : List A) → is_new ≡ false → is_new ≡ not is_there

@@ -11,12 +11,14 @@ pub mod LikeMachines
 pub mod MachineSteps
 pub mod MadeEvents
 pub mod Clones
+pub mod call_tables
 pub mod Equals
 pub mod FreeRuns
 pub mod AddedStates
 pub mod FollowedAll
 pub mod FirstRaces
 pub mod ChoosingFree
+pub mod Persistence
 pub mod SearchedStates
 pub mod ShownRuns
 pub mod UntilSearched

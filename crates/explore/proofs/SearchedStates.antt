@@ -1,7 +1,7 @@
 -- What a search knows, state by state.
 -- What was noted of the first states stays so as states are pushed on. One more state is either followed, where its next
 -- events are found, or ends: then it is whole and shows an outcome, or it hangs.
-use Rattle.std.proofs.Common.{ℕ, ◌≡◌, ◌≢◌, ◌+◌, ◌<◌, ◌≤◌, ◌↔◌, ◌⊎◌, inl, inr, Bool, false, List, [], ◌∷◌, ◌++◌, Option, Some, length, map, slice_get, slice_index, slice_index_or, refl, sym, ap, subst, ◌∙◌, length-append, arith}
+use Rattle.std.proofs.Common.{ℕ, ◌≡◌, ◌≢◌, ◌+◌, ◌<◌, ◌≤◌, ◌↔◌, ◌⊎◌, inl, inr, Bool, false, List, [], ◌∷◌, ◌++◌, Option, Some, length, map, slice_get, slice_index_or, refl, sym, ap, subst, ◌∙◌, length-append, arith}
 use Rattle.std.specs.Prelude.{None, MatchOption, unwrap_or}
 use Rattle.std.specs.Global.{Vec}
 use Rattle.std.proofs.lemmas.Bool.{cases_eq, cases_lt, false≢true}
@@ -38,12 +38,12 @@ use Rattle.explore.specs.Nexts.{AreNexts, AreNextInConflict}
 use Rattle.explore.specs.declared.outcome_telling.Detail.{Detail}
 use Rattle.explore.specs.OutcomeTelling.{AreOutcomeTellingReplies, outcome_telling_of_script, outcome_telling_kept, outcome_telling_replies, outcome_telling_steps}
 use Rattle.explore.proofs.ToldReplies.{told_reply_kept_whole, told_replies_rows_like, told_replies_same_rows}
-use Rattle.explore.specs.FlatSearch.{FlatSearchFollowsAsks, AreFlatSearchOutcomes, AreFlatSearchPlaces, FlatSearchHasHang, IsAmongFlatSearched, FlatSearchFollowsFree, FlatSearchFollowsWhole, IsFlatSearchReduced, AreFlatSearchNotes, IsFlatSearchHangingOpen, IsFlatSearchVerdictOpen, IsFlatSearchQuiet, FlatSearchedUpTo, IsNotedInFlatSearch, IsShownAtFlatSearchPlace, IsShownByFlatSearch, HasMoreToFlatSearch, MayNoteInFlatSearch, FlatSearchHasNoHang}
+use Rattle.explore.specs.FlatSearch.{AreFlatSearchOutcomes, AreFlatSearchPlaces, FlatSearchFollows, FlatSearchHasHang, IsAmongFlatSearched, IsAskFollowed, IsFlatSearchReduced, AreFlatSearchNotes, IsFlatSearchHangingOpen, IsFlatSearchVerdictOpen, IsFlatSearchQuiet, FlatSearchedUpTo, IsNotedInFlatSearch, IsShownAtFlatSearchPlace, IsShownByFlatSearch, HasMoreToFlatSearch, MayNoteInFlatSearch, FlatSearchHasNoHang}
 use Rattle.explore.proofs.AddedStates.{added_state_found_soon_kept}
 use Rattle.explore.proofs.MachineSteps.{machine_step_some_at}
 use Rattle.explore.proofs.reduced.Ends.{ReducedEndsInConflict, ReducedEndsShowing, reduced_ends_conflict_lasts, reduced_ends_whole, reduced_ends_hang_lasts, reduced_ends_shows_last}
-use Rattle.explore.proofs.reduced.Later.{later_ask}
-use Rattle.explore.proofs.reduced.Reaching.{ReachingFollowsAsks, IsReached, IsReachingLasting, ReducedReachingFollowsAll, ReducedReachingFollowsOne, reached}
+use Rattle.explore.proofs.reduced.Chosen.{chosen_follows}
+use Rattle.explore.proofs.reduced.Reaching.{IsReached, IsReachingLasting, reached}
 use Rattle.explore.proofs.reduced.Soon.{soon_followed, soon_now, soon_reached}
 
 -- the state that has done nothing was found
@@ -59,6 +59,29 @@ pub searched_state_was_at : (old new : List FlatState) (place : ℕ) (m : FlatSt
 searched_state_was_at old new place m keeps lt at =
     let f = machine_step_some_at old place lt in
     subst (λ z. slice_get old place ≡ Some z) (same_Some f.0 m (sym (keeps place f.0 f.1) ∙ at)) f.1
+
+-- what is followed is followed still where more is found
+module _ (s : Plan) (rows : List (Vec ScriptCall)) (V W : List Event → Type 0) (g : List Event) (more : (h : List Event) → V h → W h) where
+  searched_states_ask_more : (passed : Event → Bool) (p l : ℕ) → IsAskFollowed s V passed g p l → IsAskFollowed s W passed g p l
+  searched_states_ask_more passed p l ask = record { next = ask.next; found = more (did g p (Ask l)) ask.found; rivals = ask.rivals }
+
+  searched_states_follows_more : FlatSearchFollows s rows V g → FlatSearchFollows s rows W g
+  searched_states_follows_more (inl whole) = inl (λ p k next. more (did g p k) (whole p k next))
+  searched_states_follows_more (inr (inl one)) = inr (inl (record {
+    processor = one.processor;
+    kind = one.kind;
+    free = one.free;
+    next = one.next;
+    found = more (did g one.processor one.kind) one.found;
+  }))
+  searched_states_follows_more (inr (inr asks)) = inr (inr (record {
+    passed = asks.passed;
+    processor = asks.processor;
+    lock = asks.lock;
+    some = searched_states_ask_more asks.passed asks.processor asks.lock asks.some;
+    first = λ es p k over next opens.
+        let ask = asks.first es p k over next opens in (ask.0, ask.1, searched_states_ask_more asks.passed p ask.0 ask.2);
+  }))
 
 module _ (s : Plan) (old new : List FlatState) (n : ℕ) (keeps : KeepsFoundStates old new) (within : n ≤ length old) where
   searched_states_shown_kept : (replies : List (List ℕ)) → IsShownByFlatSearch s old n replies ↔ IsShownByFlatSearch s new n replies
@@ -132,25 +155,10 @@ module _ (s : Plan) (old new : List FlatState) (n : ℕ) (keeps : KeepsFoundStat
       }
 
   searched_states_reduced_kept : (rows : List (Vec ScriptCall)) → IsFlatSearchReduced s rows old n → IsFlatSearchReduced s rows new n
-  searched_states_reduced_kept rows reduced place m lt at = elim (reduced place m lt (searched_state_was_at old new place m keeps (omega arith) at)) [
-    | inl whole ↦ inl (λ g p k knows next. added_state_found_soon_kept s rows old new (did g p k) keeps (whole g p k knows next))
-    | inr some ↦ inr (elim some [
-      | inl one ↦ inl (record {
-        processor = one.processor;
-        kind = one.kind;
-        free = one.free;
-        next = one.next;
-        known = λ g knows. added_state_found_soon_kept s rows old new (did g one.processor one.kind) keeps (one.known g knows);
-      })
-      | inr asks ↦ inr (record {
-        lock = asks.lock;
-        processor = asks.processor;
-        next = asks.next;
-        known = λ g p knows next. added_state_found_soon_kept s rows old new (did g p (Ask asks.lock)) keeps (asks.known g p knows next);
-        others = asks.others;
-      })
-    ])
-  ]
+  searched_states_reduced_kept rows reduced place m g lt at knows =
+      searched_states_follows_more s rows (IsFoundByFreeRun s rows old) (IsFoundByFreeRun s rows new) g
+      (λ h found. added_state_found_soon_kept s rows old new h keeps found)
+      (reduced place m g lt (searched_state_was_at old new place m keeps (omega arith) at) knows)
 
   searched_states_quiet_kept : IsFlatSearchQuiet s old n → IsFlatSearchQuiet s new n
   searched_states_quiet_kept quiet place m g p q a b lt at knows = quiet place m g p q a b lt (searched_state_was_at old new place m keeps (omega arith) at) knows
@@ -161,7 +169,7 @@ pub searched_states_start : (s : Plan) (x : Search) (rows : List (Vec ScriptCall
 searched_states_start s x rows found outcomes shown_at hang = record {
   found = found;
   within = omega arith;
-  closed = λ place m lt. absurd (omega arith);
+  closed = λ place m g lt. absurd (omega arith);
   quiet = λ place m g p q a b lt. absurd (omega arith);
   noted = record {
     shown = subst (λ ks. AreFlatSearchOutcomes s (found_states x.found) 0 (map explored_outcome ks)) (sym outcomes) (record {
@@ -451,22 +459,24 @@ module _ (s : Plan) (x : Search) (steps : List (Vec ScriptCall)) (n : ℕ) (f : 
   }
 
 -- a state more was looked at
-pub searched_states_next : {s : Plan} {x : Search} {steps : List (Vec ScriptCall)} {n : ℕ} (z : Search) (done : List ℕ)
-    (nexts chosen : List (Option Kind)) → HasMoreToFlatSearch s x steps n → ((m : FlatState) → slice_get (found_states x.found) n ≡ Some m → m.done ≡ done)
+pub searched_states_next : {s : Plan} {x : Search} {steps : List (Vec ScriptCall)} {n : ℕ} (z : Search)
+    (nexts chosen : List (Option Kind)) → HasMoreToFlatSearch s x steps n
     → ((m : FlatState) → slice_get (found_states x.found) n ≡ Some m → AreNexts s m nexts)
-    → ((p q : ℕ) (a b : Kind) → ¬ AreNextInConflict nexts p q a b) → IsFreeChoice steps done nexts chosen
+    → ((p q : ℕ) (a b : Kind) → ¬ AreNextInConflict nexts p q a b)
+    → ((m : FlatState) (g : List Event) → slice_get (found_states x.found) n ≡ Some m → MachineKnows s g m → IsFreeChoice steps g nexts chosen)
     → AreFollowedStates s steps x.found z.found n chosen (length chosen) → AreFlatSearchNotes s z (n + 1) → FlatSearchedUpTo s z steps (n + 1)
-searched_states_next {s} {x} {steps} {n} z done nexts chosen may has_done are none choice followed noted =
+searched_states_next {s} {x} {steps} {n} z nexts chosen may are none choice followed noted =
     let old = found_states x.found in
     let new = found_states z.found in
     let f = machine_step_some_at old n may.more in
     record {
       found = followed.found;
       within = (let lt = slice_get_within new n f.0 (followed.keeps n f.0 f.1) in omega arith);
-      closed = λ place m lt at. elim (cases_eq place n) [
-        | inl is ↦ now m (searched_state_was_at old new n m followed.keeps may.more (subst (λ i. slice_get new i ≡ Some m) is at))
+      closed = λ place m g lt at knows. elim (cases_eq place n) [
+        | inl is ↦
+            now m g (searched_state_was_at old new n m followed.keeps may.more (subst (λ i. slice_get new i ≡ Some m) is at)) knows
         | inr isnt ↦
-            searched_states_reduced_kept s old new n followed.keeps may.searched.within steps may.searched.closed place m (omega arith) at
+            searched_states_reduced_kept s old new n followed.keeps may.searched.within steps may.searched.closed place m g (omega arith) at knows
       ];
       quiet = λ place m g p q a b lt at knows first second apart conflict. elim (cases_eq place n) [
         | inl is ↦
@@ -488,65 +498,19 @@ searched_states_next {s} {x} {steps} {n} z done nexts chosen may has_done are no
       | inr over ↦ absurd (none-some k (sym (get_or_past chosen p None over) ∙ told))
     ]
 
-    now : (m : FlatState) → slice_get (found_states x.found) n ≡ Some m
-        → FlatSearchFollowsWhole s steps (found_states z.found) m
-        ⊎ (FlatSearchFollowsFree s steps (found_states z.found) m ⊎ FlatSearchFollowsAsks s steps (found_states z.found) m)
-    now m here = elim choice [
-      | inl all ↦ inl (λ g p k knows next.
-          known m g p k here knows (ap (λ os. slice_index_or os p None) all ∙ (are m here g knows p k).1 next))
-      | inr some ↦ inr (elim some [
-        | inl one ↦ inl (record {
-          processor = one.processor;
-          kind = one.kind;
-          free = one.free;
-          next = λ g knows. (are m here g knows one.processor one.kind).0 one.at;
-          known = λ g knows. known m g one.processor one.kind here knows one.chosen_at;
-        })
-        | inr asks ↦ inr (record {
-          lock = asks.lock;
-          processor = asks.processor;
-          next = λ g knows. (are m here g knows asks.processor (Ask asks.lock)).0 asks.asks;
-          known = λ g p knows next.
-              known m g p (Ask asks.lock) here knows (asks.all p ((are m here g knows p (Ask asks.lock)).1 next));
-          others = λ g more p knows later.
-              let ask = later_ask s steps may.lawful g more p asks.lock later in
-              let before = knows.done p ask.small in
-              let le = ask.behind in
-              (are m here g knows p (Ask asks.lock)).0
-              (asks.others p ask.place ask.row ask.at (subst (λ ds. slice_index ds p ≤ ask.place) (has_done m here) (omega arith))
-              ask.asks);
-        })
-      ])
-    ]
+    now : (m : FlatState) (g : List Event) → slice_get (found_states x.found) n ≡ Some m → MachineKnows s g m
+        → FlatSearchFollows s steps (IsFoundByFreeRun s steps (found_states z.found)) g
+    now m g here knows =
+        chosen_follows s steps may.lawful g nexts chosen (IsFoundByFreeRun s steps (found_states z.found)) (are m here g knows)
+        m.waiting knows.waiting (λ p k told. known m g p k here knows told) (choice m g here knows)
 
 -- where all states are looked at, no kind of end is missed
 module _ (s : Plan) (x : Search) (steps : List (Vec ScriptCall)) (lawful : AreLawfulMachineSteps s steps)
     (searched : FlatSearchedUpTo s x steps (length (found_states x.found))) where
   searched_state_followed : (h : List Event) → IsFoundState s (found_states x.found) h
-      → ReducedReachingFollowsAll s (IsFoundByFreeRun s steps (found_states x.found)) h
-      ⊎ (ReducedReachingFollowsOne s steps (IsFoundByFreeRun s steps (found_states x.found)) h
-      ⊎ ReachingFollowsAsks s (IsFoundByFreeRun s steps (found_states x.found)) h)
+      → FlatSearchFollows s steps (IsFoundByFreeRun s steps (found_states x.found)) h
   searched_state_followed h known =
-      let within = slice_get_within (found_states x.found) known.place known.state known.at in
-      elim (searched.closed known.place known.state within known.at) [
-        | inl whole ↦ inl (λ p k next. whole h p k known.knows next)
-        | inr some ↦ inr (elim some [
-          | inl one ↦ inl (record {
-            processor = one.processor;
-            kind = one.kind;
-            free = one.free;
-            next = one.next h known.knows;
-            found = one.known h known.knows;
-          })
-          | inr asks ↦ inr (record {
-            lock = asks.lock;
-            processor = asks.processor;
-            next = asks.next h known.knows;
-            found = λ p next. asks.known h p known.knows next;
-            others = λ more p later. asks.others h more p known.knows later;
-          })
-        ])
-      ]
+      searched.closed known.place known.state h (slice_get_within (found_states x.found) known.place known.state known.at) known.at known.knows
 
   -- a state that was found has what lasts, if some prefix has it
   pub searched_states_reach_lasting : (T : List Event → Type 0) → IsReachingLasting s steps T → (g : List Event) → IsFlatBeginning s g → T g

@@ -4,3 +4,5 @@ pub mod Reaching
 pub mod Later
 pub mod Ends
 pub mod Soon
+pub mod Persistent
+pub mod Chosen

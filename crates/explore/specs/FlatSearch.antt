@@ -6,6 +6,7 @@ use Rattle.journal.specs.declared.event.Event.{Event}
 use Rattle.journal.specs.declared.event.Kind.{Kind}
 use Rattle.journal.specs.declared.event.Kind.TheVariants.{Ask}
 use Rattle.journal.specs.DidEvent.{did, event}
+use Rattle.journal.specs.Events.{EventAt}
 use Rattle.journal.specs.Races.{Conflict}
 use Rattle.lrc_script.specs.Plan.{Plan}
 use Rattle.conformance.specs.Follows.{Follows}
@@ -20,40 +21,51 @@ use Rattle.explore.specs.declared.explored.Verdict.{Verdict}
 use Rattle.explore.specs.declared.explored.Verdict.TheVariants as verdict
 use Rattle.explore.specs.Explored.{explored_outcome}
 use Rattle.explore.specs.FreeChoice.{IsFreeForChoice}
-use Rattle.explore.specs.FoundStates.{AreFoundStates, FoundStateMayDo, found_states}
+use Rattle.explore.specs.FoundStates.{AreFoundStates, found_states}
 use Rattle.explore.specs.FreeRun.{IsFoundByFreeRun}
 use Rattle.explore.specs.Machines.{AreLawfulMachineSteps, MachineKnows}
 use Rattle.explore.specs.Nexts.{NextsAreOver}
 use Rattle.explore.specs.Racing.{AreRacing}
 use Rattle.explore.specs.OutcomeTelling.{AreOutcomeTellingReplies}
 
--- all that may come next after the state m is found soon
-abbrev pub FlatSearchFollowsWhole : Plan → List (Vec ScriptCall) → List FlatState → FlatState → Type 0
-FlatSearchFollowsWhole s rows states m = (g : List Event) (p : ℕ) (k : Kind) → MachineKnows s g m → IsFlatBeginning s (did g p k)
-    → IsFoundByFreeRun s rows states (did g p k)
+-- all that may come next after g has V
+abbrev pub FlatSearchFollowsWhole : Plan → (List Event → Type 0) → List Event → Type 0
+FlatSearchFollowsWhole s V g = (p : ℕ) (k : Kind) → IsFlatBeginning s (did g p k) → V (did g p k)
 
 -- or what one free event makes of it
-pub record FlatSearchFollowsFree (s : Plan) (rows : List (Vec ScriptCall)) (states : List FlatState) (m : FlatState) : Type 0 where
+pub record FlatSearchFollowsFree (s : Plan) (rows : List (Vec ScriptCall)) (V : List Event → Type 0) (g : List Event) : Type 0 where
   pub processor : ℕ
   pub kind : Kind
   pub free : IsFreeForChoice rows kind
-  pub next : FoundStateMayDo s m processor kind
-  pub known : (g : List Event) → MachineKnows s g m → IsFoundByFreeRun s rows states (did g processor kind)
+  pub next : IsFlatBeginning s (did g processor kind)
+  pub found : V (did g processor kind)
 
--- or what the asks for one lock make of it, if nobody else will ask for it
-pub record FlatSearchFollowsAsks (s : Plan) (rows : List (Vec ScriptCall)) (states : List FlatState) (m : FlatState) : Type 0 where
-  pub lock : ℕ
+-- events that are passed over
+abbrev pub ArePassedOver : (Event → Bool) → List Event → Type 0
+ArePassedOver passed es = (i : ℕ) (e : Event) → EventAt es i e → IsTrue (passed e)
+
+-- p's ask for the lock is followed: it may come next, what it makes of g has V, and no later ask for the lock is passed over
+pub record IsAskFollowed (s : Plan) (V : List Event → Type 0) (passed : Event → Bool) (g : List Event) (p lock : ℕ) : Type 0 where
+  pub next : IsFlatBeginning s (did g p (Ask lock))
+  pub found : V (did g p (Ask lock))
+  pub rivals : (more : List Event) (q : ℕ) → IsFlatBeginning s (did (g ++ more) q (Ask lock)) → passed (event q (Ask lock)) ≡ false
+
+-- or what some asks make of it: the first event that isn't passed over is one of them
+pub record FlatSearchFollowsAsks (s : Plan) (V : List Event → Type 0) (g : List Event) : Type 0 where
+  pub passed : Event → Bool
   pub processor : ℕ
-  pub next : FoundStateMayDo s m processor (Ask lock)
-  pub known : (g : List Event) (p : ℕ) → MachineKnows s g m → IsFlatBeginning s (did g p (Ask lock))
-      → IsFoundByFreeRun s rows states (did g p (Ask lock))
-  pub others : (g more : List Event) (p : ℕ) → MachineKnows s g m → IsFlatBeginning s (did (g ++ more) p (Ask lock))
-      → IsFlatBeginning s (did g p (Ask lock))
+  pub lock : ℕ
+  pub some : IsAskFollowed s V passed g processor lock
+  pub first : (more : List Event) (p : ℕ) (k : Kind) → ArePassedOver passed more → IsFlatBeginning s (did (g ++ more) p k)
+      → passed (event p k) ≡ false → (l : ℕ) × (k ≡ Ask l) × IsAskFollowed s V passed g p l
 
--- of each of the first n states
+abbrev pub FlatSearchFollows : Plan → List (Vec ScriptCall) → (List Event → Type 0) → List Event → Type 0
+FlatSearchFollows s rows V g = FlatSearchFollowsWhole s V g ⊎ (FlatSearchFollowsFree s rows V g ⊎ FlatSearchFollowsAsks s V g)
+
+-- of each of the first n states what comes next is found soon
 abbrev pub IsFlatSearchReduced : Plan → List (Vec ScriptCall) → List FlatState → ℕ → Type 0
-IsFlatSearchReduced s rows states n = (place : ℕ) (m : FlatState) → place < n → slice_get states place ≡ Some m
-    → FlatSearchFollowsWhole s rows states m ⊎ (FlatSearchFollowsFree s rows states m ⊎ FlatSearchFollowsAsks s rows states m)
+IsFlatSearchReduced s rows states n = (place : ℕ) (m : FlatState) (g : List Event) → place < n → slice_get states place ≡ Some m
+    → MachineKnows s g m → FlatSearchFollows s rows (IsFoundByFreeRun s rows states) g
 
 -- and no two next events conflict
 abbrev pub IsFlatSearchQuiet : Plan → List FlatState → ℕ → Type 0

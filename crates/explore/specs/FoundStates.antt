@@ -11,6 +11,7 @@ use Rattle.explore.specs.declared.kept_state.KeptState.{KeptState}
 use Rattle.explore.specs.declared.wait_code.ProcessorNumber.{ProcessorNumber}
 use Rattle.std.specs.Global.{Vec}
 use Rattle.explore.specs.declared.prefixes.script_call.ScriptCall.{ScriptCall}
+use Rattle.explore.specs.CallTables.{IsCallTableOf}
 use Rattle.explore.specs.KeptStates.{AreStatePartsOnce, IsKeptStateWithin, opened_state}
 use Rattle.explore.specs.Origins.{AreOriginsInOrder, StateOrigin, state_origins}
 use Rattle.explore.specs.Machines.{AreLawfulMachineSteps, MachinesInSameState, MachineKnows}
@@ -21,6 +22,7 @@ found_states x = map (opened_state x.parts x.first) x.states.keys
 
 -- each is kept by parts that are there, each once, and where they come from is in order
 pub record AreFoundStatesKept (x : FoundStates) : Type 0 where
+  pub calls : (s : Plan) × IsCallTableOf s x.parts.calls
   pub within : (place : ℕ) (k : KeptState) → slice_get x.states.keys place ≡ Some k → IsKeptStateWithin x.parts k
   pub once : AreStatePartsOnce x.parts
   pub in_order : AreOriginsInOrder x.origins
@@ -47,6 +49,7 @@ pub record IsFoundStateOrigin (s : Plan) (states : List FlatState) (place : ℕ)
 -- these are states of the script that keep what is told, first the one that has done nothing, with where each other one comes from
 pub record AreFoundStates (s : Plan) (x : FoundStates) : Type 0 where
   pub kept : AreFoundStatesKept x
+  pub calls : IsCallTableOf s x.parts.calls
   pub long : length (found_states x) ≡ length (state_origins x.origins) + 1
   pub known : (place : ℕ) (m : FlatState) → slice_get (found_states x) place ≡ Some m → (g : List Event) × MachineKnows s g m
   pub come : (place : ℕ) (m : FlatState) (o : StateOrigin) → slice_get (found_states x) (place + 1) ≡ Some m
@@ -58,6 +61,7 @@ pub record AreFoundStates (s : Plan) (x : FoundStates) : Type 0 where
 -- the state was there already
 pub record FoundStateWasThere (x y : FoundStates) (m : FlatState) : Type 0 where
   pub first : y.first ≡ x.first
+  pub calls : y.parts.calls ≡ x.parts.calls
   pub states : found_states y ≡ found_states x
   pub origins : state_origins y.origins ≡ state_origins x.origins
   pub place : ℕ
@@ -68,6 +72,7 @@ pub record FoundStateWasThere (x y : FoundStates) (m : FlatState) : Type 0 where
 -- it was put at the end
 pub record FoundStateWasPushed (x y : FoundStates) (m : FlatState) (o : StateOrigin) : Type 0 where
   pub first : y.first ≡ x.first
+  pub calls : y.parts.calls ≡ x.parts.calls
   pub states : found_states y ≡ found_states x ++ m ∷ []
   pub origins : state_origins y.origins ≡ state_origins x.origins ++ o ∷ []
 

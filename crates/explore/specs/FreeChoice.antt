@@ -1,12 +1,20 @@
--- Which events are followed: one that commutes with all that other processors may do, the asks for one lock, or all.
-use Rattle.std.specs.Prelude.{ℕ, ◌≡◌, ◌<◌, ◌≤◌, ◌==◌, ◌⊎◌, Bool, true, false, if◌then◌else◌, IsTrue, Option, Some, None, List, [], slice_get, slice_index, slice_index_or}
+-- Which events are followed: one that commutes with all that other processors may do, the asks of a persistent set, those for
+-- one lock, or all.
+use Rattle.std.specs.Prelude.{ℕ, ◌≡◌, ◌<◌, ◌⊎◌, Bool, true, false, IsTrue, Option, Some, None, List, [], length, slice_get, slice_index, slice_index_or}
 use Rattle.std.specs.Global.{Vec}
+use Rattle.journal.specs.declared.event.Event.{Event}
 use Rattle.journal.specs.declared.event.Kind.{Kind}
-use Rattle.journal.specs.declared.event.Kind.TheVariants.{Ask}
+use Rattle.journal.specs.declared.event.Kind.TheVariants.{Ask, Set}
 use Rattle.journal.specs.Events.{event_address}
+use Rattle.lrc_script.specs.Plan.{Plan}
 use Rattle.explore.specs.declared.prefixes.script_call.ScriptCall.{ScriptCall}
 use Rattle.explore.specs.declared.prefixes.script_call.ScriptCall.TheVariants.{Call}
+use Rattle.explore.specs.declared.text_facts.NumberedCalls.{NumberedCalls}
+use Rattle.explore.specs.declared.text_facts.NumberedCalls.TheVariants.{Asks, Sets}
 use Rattle.explore.specs.declared.text_facts.TextFacts.{TextFacts}
+use Rattle.explore.specs.declared.flat_state.FlatState.{FlatState}
+use Rattle.explore.specs.Machines.{AreLawfulMachineSteps, MachineKnows}
+use Rattle.explore.specs.PersistentSets.{AsksInPersistentSet, IsPersistentMember, IsPersistentSet, IsYetToCall}
 use Rattle.explore.specs.TextGuards.{AreGuardedByText, IsGuardedByText}
 
 abbrev pub is_ask_in_free_choice : Kind → Bool
@@ -23,36 +31,40 @@ pub record IsFreeForChoiceByWords (words : List Bool) (k : Kind) : Type 0 where
   pub no_ask : is_ask_in_free_choice k ≡ false
   pub guarded : (w : ℕ) → event_address k ≡ Some w → IsTrue (slice_index_or words w false)
 
--- the row's step at place i asks for the lock
-abbrev pub IsFreeChoiceAskAt : List ScriptCall → ℕ → ℕ → Type 0
-IsFreeChoiceAskAt row i lock = slice_get row i ≡ Some (Call (Ask lock))
+-- the call of this number
+abbrev pub free_choice_numbered_call : NumberedCalls → ℕ → Kind
+free_choice_numbered_call Asks n = Ask n
+free_choice_numbered_call Sets n = Set n
 
--- of each lock, behind how many of the row's steps none asks for it
-abbrev pub AreFreeChoiceAskEnds : List ScriptCall → List ℕ → Type 0
-AreFreeChoiceAskEnds row ends = (i lock : ℕ) → IsFreeChoiceAskAt row i lock → i < slice_index_or ends lock 0
+-- of each number, behind how many of the row's steps none makes the call
+abbrev pub AreFreeChoiceEnds : NumberedCalls → List ScriptCall → List ℕ → Type 0
+AreFreeChoiceEnds calls row ends = (i n : ℕ) → slice_get row i ≡ Some (Call (free_choice_numbered_call calls n)) → i < slice_index_or ends n 0
 
 -- the same of each row
-abbrev pub AreFreeChoiceAskEndsOfAll : List (Vec ScriptCall) → List (List ℕ) → Type 0
-AreFreeChoiceAskEndsOfAll rows ends = (p : ℕ) (row : Vec ScriptCall) → slice_get rows p ≡ Some row
-    → AreFreeChoiceAskEnds row.items (slice_index_or ends p [])
+abbrev pub AreFreeChoiceEndsOfAll : NumberedCalls → List (Vec ScriptCall) → List (List ℕ) → Type 0
+AreFreeChoiceEndsOfAll calls rows ends = (p : ℕ) (row : Vec ScriptCall) → slice_get rows p ≡ Some row
+    → AreFreeChoiceEnds calls row.items (slice_index_or ends p [])
 
--- the same number of a lock, after one more step, up to which there are so many
-abbrev pub free_choice_ask_end_after : ℕ → ℕ → ℕ → ScriptCall → ℕ
-free_choice_ask_end_after lock count end (Call (Ask l)) = if l == lock then count else end
-free_choice_ask_end_after lock count end _ = end
+-- the step names no lock and no flag but the 32 that there are of each
+abbrev pub IsFreeChoiceNumberSmall : ScriptCall → Type 0
+IsFreeChoiceNumberSmall (Call (Ask l)) = l < 32
+IsFreeChoiceNumberSmall (Call (Set f)) = f < 32
+IsFreeChoiceNumberSmall _ = Unit {0}
 
--- the step asks for no lock but the 32 that there are
-abbrev pub IsFreeChoiceAskSmall : ScriptCall → Type 0
-IsFreeChoiceAskSmall (Call (Ask l)) = l < 32
-IsFreeChoiceAskSmall _ = Unit {0}
-
-abbrev pub AreFreeChoiceAsksSmall : List ScriptCall → Type 0
-AreFreeChoiceAsksSmall row = (i : ℕ) (step : ScriptCall) → slice_get row i ≡ Some step → IsFreeChoiceAskSmall step
+abbrev pub AreFreeChoiceNumbersSmall : List ScriptCall → Type 0
+AreFreeChoiceNumbersSmall row = (i : ℕ) (step : ScriptCall) → slice_get row i ≡ Some step → IsFreeChoiceNumberSmall step
 
 -- what the text shows of events to come
 pub record AreFreeChoiceTextFacts (rows : List (Vec ScriptCall)) (facts : TextFacts) : Type 0 where
   pub guarded : AreGuardedByText rows facts.guarded.items
-  pub asks : AreFreeChoiceAskEndsOfAll rows facts.ask_ends
+  pub asks : AreFreeChoiceEndsOfAll Asks rows facts.ask_ends
+  pub sets : AreFreeChoiceEndsOfAll Sets rows facts.set_ends
+
+-- the machine has done these events of a lawful script, of whose steps these facts are
+pub record IsFreeChoiceGiven (s : Plan) (rows : List (Vec ScriptCall)) (facts : TextFacts) (m : FlatState) (g : List Event) : Type 0 where
+  pub lawful : AreLawfulMachineSteps s rows
+  pub told : AreFreeChoiceTextFacts rows facts
+  pub knows : MachineKnows s g m
 
 -- somebody may ask for the lock next, and so may all that have yet to ask for it, having done so much
 pub record IsFreeChoiceAskedByAll (done : List ℕ) (nexts : List (Option Kind)) (ends : List (List ℕ)) (lock : ℕ) : Type 0 where
@@ -69,18 +81,47 @@ pub record IsFreeChoiceOfOne (rows : List (Vec ScriptCall)) (nexts chosen : List
   pub chosen_at : slice_index_or chosen processor None ≡ Some kind
   pub free : IsFreeForChoice rows kind
 
+-- a persistent set of which a member may ask for a free lock next
+pub record HasPersistentAsks (rows : List (Vec ScriptCall)) (g : List Event) (nexts : List (Option Kind)) (members : List Bool) : Type 0 where
+  pub set : IsPersistentSet rows g nexts members
+  pub processor : ℕ
+  pub lock : ℕ
+  pub asks : AsksInPersistentSet g nexts members processor lock
+
+-- or the asks for free locks by its members
+pub record IsPersistentChoice (rows : List (Vec ScriptCall)) (g : List Event) (nexts chosen : List (Option Kind)) : Type 0 where
+  pub members : List Bool
+  pub has : HasPersistentAsks rows g nexts members
+  pub all : (p l : ℕ) → p < length rows → AsksInPersistentSet g nexts members p l → slice_index_or chosen p None ≡ Some (Ask l)
+
+-- nobody will ever ask for a free lock: all processors are in a persistent set, and none of them may do so next
+pub record IsHopeless (rows : List (Vec ScriptCall)) (g : List Event) (nexts : List (Option Kind)) : Type 0 where
+  pub members : List Bool
+  pub everybody : (p : ℕ) → p < length rows → IsPersistentMember members p
+  pub set : IsPersistentSet rows g nexts members
+  pub none : (p l : ℕ) → p < length rows → ¬ AsksInPersistentSet g nexts members p l
+
+-- or all asks for one lock, if that is so
+pub record AreHopelessAsks (rows : List (Vec ScriptCall)) (g : List Event) (nexts chosen : List (Option Kind)) : Type 0 where
+  pub hopeless : IsHopeless rows g nexts
+  pub processor : ℕ
+  pub lock : ℕ
+  pub asks : slice_index_or nexts processor None ≡ Some (Ask lock)
+  pub all : (p : ℕ) → slice_index_or nexts p None ≡ Some (Ask lock) → slice_index_or chosen p None ≡ Some (Ask lock)
+
 -- or all asks for one lock, if nobody else will ask for it
-pub record AreFreeChoiceAsks (rows : List (Vec ScriptCall)) (done : List ℕ) (nexts chosen : List (Option Kind)) : Type 0 where
+pub record AreFreeChoiceAsks (rows : List (Vec ScriptCall)) (g : List Event) (nexts chosen : List (Option Kind)) : Type 0 where
   pub lock : ℕ
   pub processor : ℕ
   pub asks : slice_index_or nexts processor None ≡ Some (Ask lock)
   pub all : (p : ℕ) → slice_index_or nexts p None ≡ Some (Ask lock) → slice_index_or chosen p None ≡ Some (Ask lock)
-  pub others : (p i : ℕ) (row : Vec ScriptCall) → slice_get rows p ≡ Some row → slice_index done p ≤ i
-      → IsFreeChoiceAskAt row.items i lock → slice_index_or nexts p None ≡ Some (Ask lock)
+  pub others : (p : ℕ) → IsYetToCall rows g p (Ask lock) → slice_index_or nexts p None ≡ Some (Ask lock)
 
--- or all are; the processors have done so much
-abbrev pub IsFreeChoice : List (Vec ScriptCall) → List ℕ → List (Option Kind) → List (Option Kind) → Type 0
-IsFreeChoice rows done nexts chosen = (chosen ≡ nexts) ⊎ (IsFreeChoiceOfOne rows nexts chosen ⊎ AreFreeChoiceAsks rows done nexts chosen)
+-- or all are, after g
+abbrev pub IsFreeChoice : List (Vec ScriptCall) → List Event → List (Option Kind) → List (Option Kind) → Type 0
+IsFreeChoice rows g nexts chosen = (chosen ≡ nexts)
+    ⊎ (IsFreeChoiceOfOne rows nexts chosen ⊎ (IsPersistentChoice rows g nexts chosen
+    ⊎ (AreHopelessAsks rows g nexts chosen ⊎ AreFreeChoiceAsks rows g nexts chosen)))
 
 -- what is chosen is among these
 abbrev pub AreFreeChoiceAmongNexts : List (Option Kind) → List (Option Kind) → Type 0

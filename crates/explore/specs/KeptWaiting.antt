@@ -1,9 +1,11 @@
 -- What is kept of who waits for what, by the events so far.
-use Rattle.std.specs.Prelude.{ℕ, ◌≡◌, ◌↔◌, ◌+◌, ◌<◌, ◌==◌, not, false, IsTrue, Option, Some, None, List, [], ◌∷◌, ◌++◌, filter, length, slice_get, slice_index, slice_index_or}
+use Rattle.std.specs.Prelude.{ℕ, suc, ◌≡◌, ◌↔◌, ◌+◌, ◌<◌, ◌==◌, not, Bool, false, true, IsTrue, Option, Some, None, List, [], ◌∷◌, ◌++◌, filter, length, replicate, slice_get, slice_index, slice_index_or, slice_set}
+use Rattle.std.specs.Global.{Vec}
 use Rattle.base.specs.InOrderOnce.{Has, InOrder}
 use Rattle.journal.specs.declared.event.Event.{Event}
 use Rattle.journal.specs.declared.event.Kind.{Kind}
 use Rattle.journal.specs.declared.event.Kind.TheVariants.{Ask, Acquire}
+use Rattle.explore.specs.declared.wait_code.LockHolder.{LockHolder}
 use Rattle.explore.specs.declared.wait_code.WaitCode.{WaitCode}
 use Rattle.explore.specs.declared.wait_code.WaitCode.TheVariants.{Lock}
 use Rattle.base.specs.Limits.{most_held}
@@ -15,8 +17,6 @@ use Rattle.judge.specs.JudgedSizes.{AreJudgedSizesSmall}
 use Rattle.judge.specs.FrontTells.{FrontTellsFlagSet}
 use Rattle.judge.specs.Why.{WhyWaitsFor}
 use Rattle.explore.specs.declared.waiting.Waiting.{Waiting}
-use Rattle.explore.specs.declared.waiting.WaitingAsks.{WaitingAsks}
-use Rattle.explore.specs.declared.waiting.WaitingGrants.{WaitingGrants}
 use Rattle.explore.specs.WaitCodes.{WaitCodesAreKept, wait_code_arrivals_open, wait_code_holder, wait_code_nobody}
 
 -- of each processor what it waits for, if it waits
@@ -54,10 +54,35 @@ pub record IsLikeKeptWaiting (x y : Waiting) : Type 0 where
   pub flags : y.flags ≡ x.flags
   pub asked : y.asked.items ≡ x.asked.items
 
--- it waits for this, and that has come
-abbrev pub IsWaitingOfParts : WaitingAsks → WaitingGrants → Waiting → Type 0
-IsWaitingOfParts asks grants =
-    IsLikeKeptWaiting (record { waits = asks.waits; arrivals = grants.arrivals; holders = grants.holders; flags = grants.flags; asked = asks.asked })
+-- these ask for a lock, and nothing else is told
+abbrev pub kept_waiting_asked : Vec ℕ → Waiting
+kept_waiting_asked asked = record {
+  waits = replicate 16 None;
+  arrivals = replicate 16 0;
+  holders = replicate 32 wait_code_nobody;
+  flags = replicate 32 false;
+  asked = asked;
+}
+
+-- p holds these locks too
+abbrev pub kept_waiting_holders : ℕ → List LockHolder → List ℕ → List LockHolder
+kept_waiting_holders p holders [] = holders
+kept_waiting_holders p holders (l ∷ locks) = kept_waiting_holders p (slice_set holders l (record { 0 = suc p })) locks
+
+-- these flags are set too
+abbrev pub kept_waiting_flags : List Bool → List ℕ → List Bool
+kept_waiting_flags set [] = set
+kept_waiting_flags set (f ∷ flags) = kept_waiting_flags (slice_set set f true) flags
+
+-- p waits for this, has arrived so often, holds these locks, and has set these flags
+abbrev pub kept_waiting_told : Waiting → ℕ → Option WaitCode → ℕ → List ℕ → List ℕ → Waiting
+kept_waiting_told x p wait arrivals locks flags = record {
+  waits = slice_set x.waits p wait;
+  arrivals = slice_set x.arrivals p arrivals;
+  holders = kept_waiting_holders p x.holders locks;
+  flags = kept_waiting_flags x.flags flags;
+  asked = x.asked;
+}
 
 -- in a cluster of so many processors, p's event of this kind is in range, and this tells some events
 pub record IsKeptWaitingPossible (x : Waiting) (processors p : ℕ) (k : Kind) : Type 0 where

@@ -1,4 +1,5 @@
 pub mod OutcomeTelling
+pub mod PersistentSets
 pub mod FlatOutcomes
 pub mod AllowedRuns
 pub mod AllowedAnswers
@@ -13,6 +14,7 @@ pub mod Explored
 pub mod WaitCodes
 pub mod KeptWaiting
 pub mod Machines
+pub mod CallTables
 pub mod KeptStates
 pub mod TextGuards
 pub mod LockRanks

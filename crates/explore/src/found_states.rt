@@ -5,6 +5,7 @@ ghost use Rattle.journal.specs.declared.event.Event.{Event as AnEvent};
 ghost use Rattle.lrc_script.specs.Prelude.{IsLawful, Plan};
 ghost use Rattle.explore.specs.declared.flat_state.FlatState.{FlatState as AMachine};
 ghost use Rattle.explore.specs.declared.wait_code.ProcessorNumber.{ProcessorNumber as ANumber};
+ghost use Rattle.explore.specs.CallTables.{IsStateOfCalls};
 ghost use Rattle.explore.specs.FoundStates.{AreEventsOfMakers, AreFoundStateMakers, AreFoundStates, AreFoundStatesKept, FoundStateAdded, IsFoundStateAt, found_states};
 ghost use Rattle.journal.specs.declared.event.Kind.{Kind as AKind};
 ghost use Rattle.explore.specs.FollowedStates.{AreFollowedStates, IsFollowedState, IsLastNext, MayBeFollowedState, MayBeFollowedStateByEach};
@@ -14,6 +15,7 @@ ghost use Rattle.explore.specs.Machines.{AreLawfulMachineSteps, MachineKnows, Ma
 ghost use Rattle.explore.specs.declared.outcome_telling.Detail.{Detail as ADetail};
 ghost use Rattle.explore.specs.OutcomeTelling.{outcome_telling_of_script};
 
+use crate::call_table::CallTable;
 use crate::flat_state::FlatState;
 use crate::free_run::{MOST_BEHIND, make_free_run};
 use crate::kept_state::{KeptState, StateParts};
@@ -87,13 +89,18 @@ fn last_next(nexts: &[Option<Kind>]) -> Option<usize>
 }
 
 impl FoundStates {
-    /// The first state alone. The only error is running out of memory.
-    pub fn new(alloc: Global, first: FlatState) -> Result<FoundStates, AllocError>
-        ensures found { IfOk result (λ x. (s : Plan) → MachineKnows s [] first → AreFoundStates s x) }
+    /// The first state alone, of a script whose steps are these. The only error is running out of memory.
+    pub fn new(
+        alloc: Global,
+        first: FlatState,
+        steps: &[Vec<ScriptCall>],
+    ) -> Result<FoundStates, AllocError>
+        requires { (s : Plan) × AreLawfulMachineSteps s steps.now × MachineKnows s [] first }
+        ensures found { IfOk result (λ x. (s : Plan) → AreLawfulMachineSteps s steps.now → MachineKnows s [] first → AreFoundStates s x) }
         ensures telling { IfOk result (λ x. x.first.telling ≡ first.telling) }
         ensures few { IfOk result (λ x. length (found_states x) ≤ 1) }
     {
-        let mut parts = StateParts::new(alloc);
+        let mut parts = StateParts::new(alloc, CallTable::of_steps(alloc, steps)?);
         let kept = parts.keep(first.copy()?)?;
         let mut states = IndexSet::with_hasher(alloc, BuildHasherDefault::new());
         states.insert_full(kept)?;
@@ -132,7 +139,8 @@ impl FoundStates {
         from: usize,
         makers: &[ProcessorNumber],
     ) -> Result<(), AllocError>
-        requires { AreFoundStatesKept self.old }
+        requires kept { AreFoundStatesKept self.old }
+        requires known { IsStateOfCalls self.old.parts.calls state }
         ensures { OnOk result (FoundStateAdded self.old self.new state (record { from = from; makers = makers.now })) }
     {
         let kept = self.parts.keep(state)?;

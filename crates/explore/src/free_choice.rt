@@ -1,16 +1,20 @@
-//! Which of the next events are followed: one that commutes with all that other processors may do, if there is one; else the
-//! asks for one lock, if nobody else will ask for it; else all.
-ghost use Rattle.std.specs.Prelude.{◌≡◌, ◌↔◌, ℕ, ◌<◌, ⊤, IsTrue, List, MatchOption, None, Some, [], false, length};
+//! Which of the next events are followed: one that commutes with all that other processors may do, if there is one; else the asks
+//! of a persistent set; else those for one lock, if nobody else will ask for it; else all.
+ghost use Rattle.std.specs.Prelude.{◌≡◌, ◌↔◌, ℕ, ◌<◌, ◌≤◌, IfSome, ⊤, IsTrue, List, MatchOption, None, Some, [], false, length};
 ghost use Rattle.std.specs.Prelude.{slice_index, slice_index_or};
 ghost use Rattle.std.specs.Global.{Vec as AVec};
 ghost use Rattle.base.specs.Prelude.{most_processors};
 ghost use Rattle.journal.specs.declared.event.Kind.{Kind as AKind};
 ghost use Rattle.journal.specs.declared.event.Kind.TheVariants.{Ask};
 ghost use Rattle.explore.specs.declared.prefixes.script_call.ScriptCall.{ScriptCall as AStep};
-ghost use Rattle.explore.specs.FreeChoice.{AreFreeChoiceTextFacts, AreFreeChoiceAmongNexts, IsFreeChoiceAskedByAll, IsFreeChoice, IsFreeForChoiceByWords};
+ghost use Rattle.journal.specs.declared.event.Event.{Event as AnEvent};
+ghost use Rattle.lrc_script.specs.Prelude.{Plan};
+ghost use Rattle.explore.specs.FreeChoice.{IsFreeChoiceGiven, AreFreeChoiceAmongNexts, IsFreeChoiceAskedByAll, IsFreeChoice, IsFreeForChoiceByWords};
 
 use crate::flat_state::FlatState;
-use crate::text_facts::TextFacts;
+use crate::persistent_set::{asked_lock, free_asks_of, is_hopeless, persistent_set_of_fewest_asks};
+use crate::prefixes::ScriptCall;
+use crate::text_facts::{CallEnds, TextFacts};
 use base::{MOST_LOCKS, MOST_PROCESSORS};
 use journal::Kind;
 
@@ -102,7 +106,7 @@ fn free_choice_asks_now(
 fn free_choice_may_all_ask(
     state: &FlatState,
     nexts: &[Option<Kind>; MOST_PROCESSORS],
-    ends: &[[usize; MOST_LOCKS]; MOST_PROCESSORS],
+    ends: &CallEnds,
     lock: usize,
 ) -> bool
     ensures { IsTrue result → (p : ℕ) → slice_index state.now.done p < slice_index_or (slice_index_or ends.now p []) lock 0
@@ -121,7 +125,7 @@ fn free_choice_may_all_ask(
 fn free_choice_asked_by_all(
     state: &FlatState,
     nexts: &[Option<Kind>; MOST_PROCESSORS],
-    ends: &[[usize; MOST_LOCKS]; MOST_PROCESSORS],
+    ends: &CallEnds,
 ) -> Option<usize>
     ensures { MatchOption result ⊤ (IsFreeChoiceAskedByAll state.now.done nexts.now ends.now) }
 {
@@ -135,31 +139,91 @@ fn free_choice_asked_by_all(
     None
 }
 
-/// Where none of these events is free: the asks for one lock, if all may ask for it that have yet to; else all.
-fn free_choice_asks_or_all(
+/// The first lock that somebody may ask for next.
+fn free_choice_first_asked(nexts: &[Option<Kind>; MOST_PROCESSORS]) -> Option<usize>
+    ensures { IfSome result (λ lock. (p : ℕ) × (slice_index_or nexts.now p None ≡ Some (Ask lock))) }
+{
+    for processor in 0..MOST_PROCESSORS {
+        if let Some(lock) = asked_lock(nexts[processor]) {
+            return Some(lock);
+        }
+    }
+    None
+}
+
+/// The asks for the first lock that is asked for, if nobody will ever ask for a free one; else all.
+fn free_choice_hopeless_or_all(
+    steps: &[Vec<ScriptCall>],
     state: &FlatState,
     nexts: &[Option<Kind>; MOST_PROCESSORS],
     facts: &TextFacts,
 ) -> [Option<Kind>; MOST_PROCESSORS]
-    ensures choice { (rows : List (AVec AStep)) → AreFreeChoiceTextFacts rows facts.now → IsFreeChoice rows state.now.done nexts.now result }
+    requires { length steps.now ≤ most_processors }
+    ensures choice { (s : Plan) (g : List AnEvent) → IsFreeChoiceGiven s steps.now facts.now state.now g
+        → IsFreeChoice steps.now g nexts.now result }
+    ensures among { AreFreeChoiceAmongNexts nexts.now result }
+    ensures long { length result ≡ most_processors }
+{
+    match free_choice_first_asked(nexts) {
+        Some(lock) if is_hopeless(steps, state, nexts, facts) => free_choice_asks_among(
+            nexts, lock,
+        ),
+        _ => *nexts,
+    }
+}
+
+/// Where none of these events is free, and no persistent set can be told: the asks for one lock, if all may ask for it that have yet
+/// to, or if nobody will ever ask for a free one; else all.
+fn free_choice_asks_or_all(
+    steps: &[Vec<ScriptCall>],
+    state: &FlatState,
+    nexts: &[Option<Kind>; MOST_PROCESSORS],
+    facts: &TextFacts,
+) -> [Option<Kind>; MOST_PROCESSORS]
+    requires { length steps.now ≤ most_processors }
+    ensures choice { (s : Plan) (g : List AnEvent) → IsFreeChoiceGiven s steps.now facts.now state.now g
+        → IsFreeChoice steps.now g nexts.now result }
     ensures among { AreFreeChoiceAmongNexts nexts.now result }
     ensures long { length result ≡ most_processors }
 {
     match free_choice_asked_by_all(state, nexts, &facts.ask_ends) {
         Some(lock) => free_choice_asks_among(nexts, lock),
-        None => *nexts,
+        None => free_choice_hopeless_or_all(steps, state, nexts, facts),
     }
 }
 
-/// Which of these events are followed after the state. The first that is free, alone: swaps of events that commute lead to
-/// the same states. If none is, the asks for one lock, if nobody else will ask for it: whatever comes next of them all may as
-/// well come first. Else all. So a search that follows no others misses no race, no hang and no outcome.
-pub fn free_choice(
+/// Where none of these events is free: the asks of a persistent set, if one can be told; else those for one lock, or all.
+fn free_choice_asks(
+    steps: &[Vec<ScriptCall>],
     state: &FlatState,
     nexts: &[Option<Kind>; MOST_PROCESSORS],
     facts: &TextFacts,
 ) -> [Option<Kind>; MOST_PROCESSORS]
-    ensures choice { (rows : List (AVec AStep)) → AreFreeChoiceTextFacts rows facts.now → IsFreeChoice rows state.now.done nexts.now result }
+    requires { length steps.now ≤ most_processors }
+    ensures choice { (s : Plan) (g : List AnEvent) → IsFreeChoiceGiven s steps.now facts.now state.now g
+        → IsFreeChoice steps.now g nexts.now result }
+    ensures among { AreFreeChoiceAmongNexts nexts.now result }
+    ensures long { length result ≡ most_processors }
+{
+    match persistent_set_of_fewest_asks(steps, state, nexts, facts) {
+        Some(members) => free_asks_of(state, nexts, &members, steps.len()),
+        None => free_choice_asks_or_all(steps, state, nexts, facts),
+    }
+}
+
+/// Which of these events are followed after the state. The first that is free, alone: swaps of events that commute lead to
+/// the same states. If none is, the asks of a persistent set, since whatever comes next of them all may as well come first; else
+/// the asks for one lock, if nobody else will ask for it; else all. So a search that follows no others misses no race, no hang and
+/// no outcome.
+pub fn free_choice(
+    steps: &[Vec<ScriptCall>],
+    state: &FlatState,
+    nexts: &[Option<Kind>; MOST_PROCESSORS],
+    facts: &TextFacts,
+) -> [Option<Kind>; MOST_PROCESSORS]
+    requires { length steps.now ≤ most_processors }
+    ensures choice { (s : Plan) (g : List AnEvent) → IsFreeChoiceGiven s steps.now facts.now state.now g
+        → IsFreeChoice steps.now g nexts.now result }
     ensures among { AreFreeChoiceAmongNexts nexts.now result }
     ensures long { length result ≡ most_processors }
 {
@@ -170,5 +234,5 @@ pub fn free_choice(
             }
         }
     }
-    free_choice_asks_or_all(state, nexts, facts)
+    free_choice_asks(steps, state, nexts, facts)
 }

@@ -4,9 +4,11 @@
 //! there is none; these are outcomes of whole runs, each once, and all of them or some, told by a `Detail`
 //! (`IsFlatOutcome`). `IsExploredUntil` says the same of whether a run ends with some words (`EndsWithWords`). An answer is
 //! open only if there are more states than were to be looked at (`state_room_at_most`). Inside, a `FlatState` knows events
-//! (`MachineKnows`), so two machines in the same state go on alike. A search keeps it as a `KeptState`, by the places of its
-//! parts, which stand once for all states (`opened_state`); `FoundStates` has the states, each once, with where it comes from
-//! (`AreFoundStates`); `Search` has looked at the first of them (`FlatSearchedUpTo`).
+//! (`MachineKnows`), so two machines in the same state go on alike. A search keeps it as a `KeptState`, by the calls that were
+//! made and the places of what these don't tell: its words, its replies and its order of asks, which stand once for all
+//! states (`opened_state`). Who waits, who holds a lock and which flags are set is read off a table of the script's steps
+//! (`call_waiting`). `FoundStates` has the states, each once, with where it comes from (`AreFoundStates`); `Search` has looked
+//! at the first of them (`FlatSearchedUpTo`).
 //!
 //! `AreAllowedRunOutcomes` is what is said of what runs may show by the rules of the memory alone, whether the script races
 //! or not: each load answers a latest store of its past (`IsAllowedRunOutcome`). `IsAllowedUntil` says the same of whether
@@ -17,7 +19,7 @@
 //! `IsAllowedUntil` says. `explore` answers what `IsExplored` says, and `explore_until` what `IsExploredUntil` says.
 //! `guarded_words` says of a word only if it is so that no two accesses of it race; `never_gets_stuck_by_text` says that no
 //! schedule hangs only if that is so; `free_choice` leaves out only what may as well come later (`proofs/reduced`).
-//! `Waiting` tells exactly whether an event may follow.
+//! `Waiting` tells exactly whether an event may follow, also where it is put together of what the calls made tell.
 #![tactic(auto)]
 
 mod allowed;
@@ -30,6 +32,7 @@ mod allowed_search;
 mod allowed_showing;
 mod allowed_until_search;
 mod allowed_words;
+mod call_table;
 mod explored;
 mod flat_state;
 mod found_states;
@@ -41,6 +44,7 @@ mod lock_ranks;
 mod neighbours;
 mod origins;
 mod outcome_telling;
+mod persistent_set;
 pub mod prefixes;
 mod progress;
 mod racing_history;

@@ -59,12 +59,22 @@ fn neighbours_conflict(first: Kind, second: Kind) -> bool
     }
 }
 
+/// Whether an event of this kind accesses a word. Only such events conflict.
+fn accesses_a_word(kind: Kind) -> bool
+    ensures { (p q : ℕ) (b : AKind) → Conflict (event p kind) (event q b) → IsTrue result }
+{
+    matches!(kind, Kind::Load(_, _) | Kind::Store(_, _))
+}
+
 /// The first other processor whose next event conflicts with this one.
 fn neighbour_of(nexts: &[Option<Kind>], processor: usize, kind: Kind) -> Option<(usize, Kind)>
     requires { slice_index_or nexts.now processor None ≡ Some kind }
     ensures { MatchOption result ((q : ℕ) (b : AKind) → ¬ AreNextInConflict nexts.now processor q kind b)
         (λ r. AreNextInConflict nexts.now processor r.0 kind r.1) }
 {
+    if !accesses_a_word(kind) {
+        return None;
+    }
     for other in 0..nexts.len() {
         if let Some(next) = nexts[other] {
             if other != processor && neighbours_conflict(kind, next) {

@@ -136,14 +136,19 @@ fn search_outcomes_with_runs(
 
 impl Search {
     /// The first state alone. The only error is running out of memory.
-    pub(crate) fn new(alloc: Global, script: &Script, detail: Detail) -> Result<Search, AllocError>
-        requires { IsLawful (plan_of script.now) }
+    pub(crate) fn new(
+        alloc: Global,
+        script: &Script,
+        steps: &[Vec<ScriptCall>],
+        detail: Detail,
+    ) -> Result<Search, AllocError>
+        requires { AreLawfulMachineSteps (plan_of script.now) steps.now }
         ensures searched { IfOk result (λ x. (rows : List (AVec AStep)) → FlatSearchedUpTo (plan_of script.now) x rows 0) }
         ensures few { IfOk result (λ x. length (found_states x.found) ≤ 1) }
         ensures telling { IfOk result (λ x. x.found.first.telling ≡ outcome_telling_of_script (plan_of script.now) detail) }
     {
         Ok(Search {
-            found: FoundStates::new(alloc, FlatState::new(alloc, script, detail)?)?,
+            found: FoundStates::new(alloc, FlatState::new(alloc, script, detail)?, steps)?,
             outcomes: IndexSet::new(alloc),
             shown_at: Vec::new(alloc),
             hang: None,
@@ -167,7 +172,7 @@ impl Search {
     }
 
     /// Looks at the state at this place: the two events that conflict, if there are such; else what comes next is
-    /// found, by one event that is free, by the asks for one lock, or by all, and what there is to note is noted.
+    /// found, by one event that is free, by asks, or by all, and what there is to note is noted.
     pub(crate) fn look_at(
         &mut self,
         steps: &[Vec<ScriptCall>],
@@ -192,7 +197,7 @@ impl Search {
                 second,
             }));
         }
-        let followed = free_choice(&state, &nexts, facts);
+        let followed = free_choice(steps, &state, &nexts, facts);
         if are_neighbours_over(&nexts) {
             self.note_end(steps, place)?;
         }
@@ -355,7 +360,7 @@ fn search_steps<P: Progress>(
     ensures { IfOk result (IsExplored (plan_of script.now) detail most) }
 {
     let facts = text_facts(alloc, script, steps)?;
-    let mut search = Search::new(alloc, script, detail)?;
+    let mut search = Search::new(alloc, script, steps, detail)?;
     search.answer(alloc, script, steps, &facts, detail, most, progress)
 }
 
@@ -371,9 +376,10 @@ fn search_steps<P: Progress>(
 ///
 /// A state is what each processor has done, with the replies that are told or that its next step adds to, the words, and who
 /// waits for what. So the less is told, the fewer states there are. If some
-/// processor may do next what commutes with all that others may do, that alone is followed (`free_choice`), and if all who
-/// have yet to ask for a lock may do so next, these asks: persistent sets (Godefroid, Partial-order methods for the
-/// verification of concurrent systems, 1996). A state between events that are followed alone is passed over (`make_free_run`).
+/// processor may do next what commutes with all that others may do, that alone is followed (`free_choice`); else the asks for free
+/// locks of some processors who don't go on by what others do until one of them asks: persistent sets (Godefroid, Partial-order
+/// methods for the verification of concurrent systems, 1996). A state between events that are followed alone is passed over
+/// (`make_free_run`).
 /// Two accesses that conflict and may both come next make a race; if no state that was found has such, no run races, on one
 /// flat memory or on the real one.
 pub fn explore<P: Progress>(

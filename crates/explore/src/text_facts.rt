@@ -1,11 +1,12 @@
 //! What a script's text shows of events to come.
-ghost use Rattle.std.specs.Prelude.{◌≡◌, ◌≤◌, ℕ, IfOk, Some, length, slice_get, slice_index_or};
+ghost use Rattle.std.specs.Prelude.{◌≡◌, ◌≤◌, ◌↔◌, ℕ, IfOk, Some, length, slice_get};
 ghost use Rattle.lrc_script.specs.Prelude.{plan_of};
 ghost use Rattle.lrc_script.specs.Lawful.{plan_addresses};
 ghost use Rattle.std.specs.Global.{Vec as AVec};
 ghost use Rattle.base.specs.Prelude.{most_processors};
 ghost use Rattle.explore.specs.declared.prefixes.script_call.ScriptCall.{ScriptCall as AStep};
-ghost use Rattle.explore.specs.FreeChoice.{AreFreeChoiceAskEnds, AreFreeChoiceAskEndsOfAll, AreFreeChoiceAsksSmall, AreFreeChoiceTextFacts, IsFreeChoiceAskSmall, free_choice_ask_end_after};
+ghost use Rattle.explore.specs.declared.prefixes.script_call.ScriptCall.TheVariants.{Call};
+ghost use Rattle.explore.specs.FreeChoice.{AreFreeChoiceEnds, AreFreeChoiceEndsOfAll, AreFreeChoiceNumbersSmall, AreFreeChoiceTextFacts, free_choice_numbered_call};
 ghost use Rattle.explore.specs.Machines.{AreLawfulMachineSteps};
 
 use crate::guarded::guarded_words;
@@ -15,48 +16,68 @@ use journal::Kind;
 use lrc_script::script::Script;
 use std::alloc::{AllocError, Global};
 
+/// Of each processor and number, how many steps there are up to the last that makes a call of that number; 0 if none does. Locks
+/// and flags are numbered alike: there are at most as many of each.
+pub type CallEnds = [[usize; MOST_LOCKS]; MOST_PROCESSORS];
+
 /// What a script's text shows of events to come.
 #[derive(Drop)]
 pub struct TextFacts {
     /// Of each word, whether it is guarded.
     pub guarded: Vec<bool>,
-    /// Of each processor and lock, how many steps there are up to the last that asks for the lock; 0 if none does.
-    pub ask_ends: [[usize; MOST_LOCKS]; MOST_PROCESSORS],
+    /// Where the asks for each lock end.
+    pub ask_ends: CallEnds,
+    /// Where each flag was set for the last time.
+    pub set_ends: CallEnds,
 }
 
-/// Takes note of a step that asks for a lock, if it does: so many steps there are up to this one.
-fn note_text_fact_ask(ends: &mut [usize; MOST_LOCKS], step: ScriptCall, count: usize)
-    requires { IsFreeChoiceAskSmall step }
-    ensures { (lock : ℕ) → slice_index_or ends.new lock 0 ≡ free_choice_ask_end_after lock count (slice_index_or ends.old lock 0) step }
-{
-    if let ScriptCall::Call(Kind::Ask(lock)) = step {
-        ends[lock] = count;
-    }
+/// Calls that have a number.
+#[derive(Clone, Copy)]
+pub enum NumberedCalls {
+    /// Asks, by their locks.
+    Asks,
+    /// Sets, by their flags.
+    Sets,
 }
 
-/// Of each lock, how many of these steps there are up to the last that asks for it.
-fn text_facts_ends_in(row: &[ScriptCall]) -> [usize; MOST_LOCKS]
-    requires { AreFreeChoiceAsksSmall row.now }
-    ensures { AreFreeChoiceAskEnds row.now result }
-{
-    let mut ends = [0; MOST_LOCKS];
-    for place in 0..row.len() {
-        note_text_fact_ask(&mut ends, row[place], place + 1);
+impl NumberedCalls {
+    /// The number of the call that the step makes, if it is one of these.
+    fn number(self, step: ScriptCall) -> Option<usize>
+        ensures { (n : ℕ) → (result ≡ Some n) ↔ (step ≡ Call (free_choice_numbered_call self n)) }
+    {
+        match (self, step) {
+            (NumberedCalls::Asks, ScriptCall::Call(Kind::Ask(lock))) => Some(lock),
+            (NumberedCalls::Sets, ScriptCall::Call(Kind::Set(flag))) => Some(flag),
+            _ => None,
+        }
     }
-    ends
-}
 
-/// The same of each processor.
-fn text_facts_ask_ends(steps: &[Vec<ScriptCall>]) -> [[usize; MOST_LOCKS]; MOST_PROCESSORS]
-    requires few { length steps.now ≤ most_processors }
-    requires small { (p : ℕ) (row : AVec AStep) → slice_get steps.now p ≡ Some row → AreFreeChoiceAsksSmall row.items }
-    ensures { AreFreeChoiceAskEndsOfAll steps.now result }
-{
-    let mut ends = [[0; MOST_LOCKS]; MOST_PROCESSORS];
-    for processor in 0..steps.len() {
-        ends[processor] = text_facts_ends_in(&steps[processor]);
+    /// Of each number, how many of these steps there are up to the last that makes the call.
+    fn ends_in(self, row: &[ScriptCall]) -> [usize; MOST_LOCKS]
+        requires { AreFreeChoiceNumbersSmall row.now }
+        ensures { AreFreeChoiceEnds self row.now result }
+    {
+        let mut ends = [0; MOST_LOCKS];
+        for place in 0..row.len() {
+            if let Some(number) = self.number(row[place]) {
+                ends[number] = place + 1;
+            }
+        }
+        ends
     }
-    ends
+
+    /// The same of each processor.
+    fn ends_of_all(self, steps: &[Vec<ScriptCall>]) -> CallEnds
+        requires few { length steps.now ≤ most_processors }
+        requires small { (p : ℕ) (row : AVec AStep) → slice_get steps.now p ≡ Some row → AreFreeChoiceNumbersSmall row.items }
+        ensures { AreFreeChoiceEndsOfAll self steps.now result }
+    {
+        let mut ends = [[0; MOST_LOCKS]; MOST_PROCESSORS];
+        for processor in 0..steps.len() {
+            ends[processor] = self.ends_in(&steps[processor]);
+        }
+        ends
+    }
 }
 
 /// What the script's text shows. The only error is running out of memory.
@@ -72,6 +93,7 @@ pub fn text_facts(
     let guarded = guarded_words(alloc, script, steps)?;
     Ok(TextFacts {
         guarded,
-        ask_ends: text_facts_ask_ends(steps),
+        ask_ends: NumberedCalls::Asks.ends_of_all(steps),
+        set_ends: NumberedCalls::Sets.ends_of_all(steps),
     })
 }

@@ -151,7 +151,7 @@ fn until_by_steps<P: Progress>(
 {
     let facts = text_facts(alloc, script, steps)?;
     let most = state_room_at_most(script, detail, most);
-    let mut search = Search::new(alloc, script, detail)?;
+    let mut search = Search::new(alloc, script, steps, detail)?;
     let met = look_until(&mut search, steps, &facts, words, most, progress)?;
     let states = search.found.len();
     let showing = until_showing_of(alloc, script, steps, &search, met, states <= most)?;

@@ -1,15 +1,16 @@
 //! Who waits for what, and what has come.
 ghost use Rattle.std.specs.Prelude.{◌≡◌, ◌↔◌, ℕ, ◌+◌, ◌<◌, ◌≤◌, ◌^◌, ◌==◌, ◌&&◌, [], ◌∷◌, ◌++◌, IsTrue};
 ghost use Rattle.std.specs.Prelude.{All, List, IfOk, MatchOption, OnOk, cond, false, length, slice_index, slice_index_or};
-ghost use Rattle.base.specs.Prelude.{Has, most_locks, most_processors};
+ghost use Rattle.base.specs.Prelude.{Has, most_flags, most_locks, most_processors};
 ghost use Rattle.journal.specs.declared.event.Event.{Event as AnEvent};
 ghost use Rattle.journal.specs.declared.event.Kind.{Kind as AKind};
 ghost use Rattle.journal.specs.declared.event.Kind.TheVariants.{Ask, Depart};
 ghost use Rattle.journal.specs.Sizes.{Sizes as TheSizes};
 ghost use Rattle.journal.specs.WellFormed.{WellFormedAllows, WellFormedKindInRange, LastIs, WellFormedGrant, WellFormedNext};
 ghost use Rattle.journal.specs.Prelude.{Holds, event_count, did, event, event_arrives, event_departs, event_takes};
+ghost use Rattle.judge.specs.FrontTells.{FrontTellsFlagSet};
 ghost use Rattle.judge.specs.Prelude.{AreJudgedSizesSmall, WhyWaitsFor, front_tells_holder_after, front_tells_flag_set_after};
-ghost use Rattle.explore.specs.KeptWaiting.{KeptWaitingAskedAfter, IsKeptWaitingForLock, MayFollowKeptWaiting, IsFirstKeptWaiting, IsLikeKeptWaiting, IsWaitingOfParts, IsKeptWaitingPossible, TellsKeptWaiting, kept_waiting_without};
+ghost use Rattle.explore.specs.KeptWaiting.{KeptWaitingAskedAfter, IsKeptWaitingForLock, MayFollowKeptWaiting, IsFirstKeptWaiting, IsLikeKeptWaiting, IsKeptWaitingPossible, TellsKeptWaiting, kept_waiting_asked, kept_waiting_flags, kept_waiting_holders, kept_waiting_told, kept_waiting_without};
 ghost use Rattle.explore.specs.WaitCodes.{wait_code_holder, wait_code_nobody};
 
 use crate::wait_code::{LockHolder, WaitCode, wait_code_end_of};
@@ -30,26 +31,6 @@ pub struct Waiting {
     flags: [bool; MOST_FLAGS],
     /// Who waits for a lock, in the order of their asks.
     asked: Vec<usize>,
-}
-
-/// What the processors wait for.
-#[derive(Drop, PartialEq, Eq, Hash)]
-pub struct WaitingAsks {
-    /// What each processor waits for.
-    waits: [Option<WaitCode>; MOST_PROCESSORS],
-    /// Who waits for a lock, in the order of their asks.
-    asked: Vec<usize>,
-}
-
-/// What has come.
-#[derive(Drop, PartialEq, Eq, Hash)]
-pub struct WaitingGrants {
-    /// How often each processor has arrived at the barrier.
-    arrivals: [u32; MOST_PROCESSORS],
-    /// Who holds each lock.
-    holders: [LockHolder; MOST_LOCKS],
-    /// Which flags are set.
-    flags: [bool; MOST_FLAGS],
 }
 
 /// Whether an event of this kind ends a wait.
@@ -109,8 +90,29 @@ fn set(flags: &mut [bool; MOST_FLAGS], kind: Kind)
     }
 }
 
+/// Takes note that the processor holds these locks.
+fn hold_waiting_locks(holders: &mut [LockHolder; MOST_LOCKS], processor: usize, locks: &[usize])
+    requires processor { processor < most_processors }
+    requires locks { All (λ l. l < most_locks) locks.now }
+    ensures { holders.new ≡ kept_waiting_holders processor holders.old locks.now }
+{
+    for lock in locks {
+        holders[*lock] = LockHolder::of(processor);
+    }
+}
+
+/// Takes note that these flags are set.
+fn set_waiting_flags(set: &mut [bool; MOST_FLAGS], flags: &[usize])
+    requires { All (λ f. f < most_flags) flags.now }
+    ensures { set.new ≡ kept_waiting_flags set.old flags.now }
+{
+    for flag in flags {
+        set[*flag] = true;
+    }
+}
+
 /// Takes the processor out.
-fn leave(asked: &mut Vec<usize>, processor: usize)
+pub(crate) fn leave(asked: &mut Vec<usize>, processor: usize)
     ensures { asked.new.items ≡ kept_waiting_without asked.old.items processor }
 {
     asked.retain(|other| *other != processor);
@@ -174,37 +176,45 @@ impl Waiting {
         })
     }
 
-    /// What this waits for, and what has come.
-    pub fn into_parts(self) -> (WaitingAsks, WaitingGrants)
-        ensures asks { result.0 ≡ record { waits = self.waits; asked = self.asked } }
-        ensures grants { result.1 ≡ record { arrivals = self.arrivals; holders = self.holders; flags = self.flags } }
+    /// Who waits for a lock, in the order of their asks.
+    pub fn into_asked(self) -> Vec<usize>
+        ensures { result ≡ self.asked }
     {
-        let Waiting {
-            waits,
-            arrivals,
-            holders,
-            flags,
-            asked,
-        } = self;
-        let grants = WaitingGrants {
-            arrivals,
-            holders,
-            flags,
-        };
-        (WaitingAsks { waits, asked }, grants)
+        let Waiting { asked, .. } = self;
+        asked
     }
 
-    /// What is waited for so, if that has come. The only error is running out of memory.
-    pub fn of_parts(asks: &WaitingAsks, grants: &WaitingGrants) -> Result<Waiting, AllocError>
-        ensures { IfOk result (IsWaitingOfParts asks.now grants.now) }
+    /// These wait for a lock, in this order; nothing else is told yet.
+    pub fn of_asked(asked: Vec<usize>) -> Waiting
+        ensures { result ≡ kept_waiting_asked asked }
     {
-        Ok(Waiting {
-            waits: asks.waits,
-            arrivals: grants.arrivals,
-            holders: grants.holders,
-            flags: grants.flags,
-            asked: asks.asked.clone()?,
-        })
+        Waiting {
+            waits: [None; MOST_PROCESSORS],
+            arrivals: [0; MOST_PROCESSORS],
+            holders: [LockHolder::nobody(); MOST_LOCKS],
+            flags: [false; MOST_FLAGS],
+            asked,
+        }
+    }
+
+    /// Takes note that the processor waits for this, has arrived so often, holds these locks and has set these flags.
+    pub fn tell(
+        &mut self,
+        processor: usize,
+        wait: Option<WaitCode>,
+        arrivals: u32,
+        locks: &[usize],
+        flags: &[usize],
+    )
+        requires processor { processor < most_processors }
+        requires locks { All (λ l. l < most_locks) locks.now }
+        requires flags { All (λ f. f < most_flags) flags.now }
+        ensures { self.new ≡ kept_waiting_told self.old processor wait arrivals locks.now flags.now }
+    {
+        self.waits[processor] = wait;
+        self.arrivals[processor] = arrivals;
+        hold_waiting_locks(&mut self.holders, processor, locks);
+        set_waiting_flags(&mut self.flags, flags);
     }
 
     /// What the processor waits for.
@@ -214,6 +224,41 @@ impl Waiting {
             → (k : AKind) → (result ≡ Some k) ↔ WhyWaitsFor j processor k }
     {
         wait_code_end_of(self.waits[processor])
+    }
+
+    /// What the processor waits for, in a few bytes.
+    pub fn wait(&self, processor: usize) -> Option<WaitCode>
+        requires { processor < most_processors }
+        ensures { result ≡ slice_index_or self.now.waits processor None }
+    {
+        self.waits[processor]
+    }
+
+    /// Who holds the lock; None if there is no such lock.
+    pub fn holder(&self, lock: usize) -> Option<usize>
+        ensures { (j : List AnEvent) → TellsKeptWaiting j self.now → (q : ℕ) → (result ≡ Some q) ↔ Holds j q lock }
+    {
+        if lock < MOST_LOCKS {
+            self.holders[lock].processor()
+        } else {
+            None
+        }
+    }
+
+    /// Whether the flag is set; not if there is no such flag.
+    pub fn is_set(&self, flag: usize) -> bool
+        ensures { (j : List AnEvent) → TellsKeptWaiting j self.now → IsTrue result ↔ FrontTellsFlagSet j flag }
+    {
+        flag < MOST_FLAGS && self.flags[flag]
+    }
+
+    /// Whether the first of two processors has arrived at the barrier less often than the second one.
+    pub fn is_behind(&self, first: usize, second: usize) -> bool
+        requires first { first < most_processors }
+        requires second { second < most_processors }
+        ensures { IsTrue result ↔ (slice_index self.now.arrivals first < slice_index self.now.arrivals second) }
+    {
+        self.arrivals[first] < self.arrivals[second]
     }
 
     /// Whether the lock, for which the processor waits, is free, and nobody asked for it earlier.

@@ -1,12 +1,12 @@
--- A search that follows one free event if there is one, or the asks for one lock if nobody else will ask for it, and else
+-- A search that follows one free event if there is one, or some asks before which others' events may be passed over, and else
 -- all, misses no kind of end.
 -- Let some prefix have a property that prefixes which are the same share, and that a free event or an ask doesn't end. From a
--- state that was found it is reached by some events. The free event that was followed there, or the first ask for the lock,
--- is one of them, and may as well come first; or none is, and then one may come behind them, so that it may come first again.
+-- state that was found it is reached by some events. The free event that was followed there, or the first event that isn't passed
+-- over, is one of them, and may as well come first; or none is, and then one may come behind them, so that it may come first again.
 -- Either way what is left is reached from the next state, and prefixes are only so long.
-use Rattle.std.proofs.Common.{ℕ, zero, suc, ◌≡◌, ◌≢◌, ◌+◌, ◌≤◌, ◌⊎◌, inl, inr, List, [], ◌∷◌, ◌++◌, length, replicate, slice_get, refl, sym, ap, subst, ◌∙◌, append_assoc, append-nil, length-append, arith}
+use Rattle.std.proofs.Common.{ℕ, zero, suc, ◌≡◌, ◌≢◌, ◌+◌, ◌≤◌, ◌⊎◌, inl, inr, Bool, true, false, IsTrue, List, [], ◌∷◌, ◌++◌, length, replicate, slice_get, refl, sym, ap, subst, ◌∙◌, append_assoc, append-nil, length-append, arith}
 use Rattle.std.specs.Global.{Vec}
-use Rattle.std.proofs.lemmas.Bool.{cases_eq}
+use Rattle.std.proofs.lemmas.Bool.{cases_eq, false≢true}
 use Rattle.std.proofs.lemmas.Option.{none-some, same_Some}
 use Rattle.base.specs.Limits.{most_held}
 use Rattle.journal.specs.declared.event.Event.{Event}
@@ -20,6 +20,7 @@ use Rattle.lrc_script.specs.Lawful.{plan_addresses}
 use Rattle.conformance.specs.Follows.{calls_of}
 use Rattle.explore.specs.declared.prefixes.script_call.ScriptCall.{ScriptCall}
 use Rattle.explore.specs.declared.prefixes.script_call.ScriptCall.TheVariants.{Call, Adds}
+use Rattle.explore.specs.FlatSearch.{ArePassedOver, FlatSearchFollows, FlatSearchFollowsAsks, IsAskFollowed}
 use Rattle.explore.specs.FreeChoice.{IsFreeForChoice}
 use Rattle.journal.proofs.Order.EventPlacesAndCounts.{event_place_longer}
 use Rattle.explore.specs.Machines.{AreLawfulMachineSteps}
@@ -29,7 +30,7 @@ use Rattle.explore.proofs.Lengths.{history_length_few}
 use Rattle.explore.proofs.MachineSteps.{machine_step_some_at}
 use Rattle.explore.proofs.prefixes.Beginnings.{prefix_beginning_front, prefix_beginning_next}
 use Rattle.explore.proofs.reduced.SameBeginnings.{IsSameBeginning, same_beginning_goes_on}
-use Rattle.explore.proofs.reduced.Swapping.{IsCalmInReducedSwap, HasNoReducedSwapRival, reduced_swapped_ask_or_not, reduced_swapped_comes_first, reduced_swapped_no_ask}
+use Rattle.explore.proofs.reduced.Swapping.{IsCalmInReducedSwap, HasNoReducedSwapRival, reduced_swapped_comes_first, reduced_swapped_no_ask}
 
 -- one reply is the memory's
 reduced_reaching_reply_once : (memory : List ℕ) (j k : Kind) → replyless_script_call j ≡ replyless_script_call k → AnswersReplayMemory memory j → AnswersReplayMemory memory k → j ≡ k
@@ -98,63 +99,60 @@ reduced_reaching_first_of (e ∷ w) p = elim (cases_eq e.processor p) [
     further e w xs p isnt away zero f at = subst (λ (x : Event). x.processor ≢ p) (same_Some e f at) isnt
     further e w xs p isnt away (suc m) f at = away m f at
 
--- what was followed of a prefix: all that may come next, or one free event
-pub record ReducedReachingFollowsOne (s : Plan) (rows : List (Vec ScriptCall)) (V : List Event → Type 0) (h : List Event) : Type 0 where
-  pub processor : ℕ
-  pub kind : Kind
-  pub free : IsFreeForChoice rows kind
-  pub next : IsFlatBeginning s (did h processor kind)
-  pub found : V (did h processor kind)
+-- what stands before an event and behind it
+pub record ReachingParted (w : List Event) (f : Event) : Type 0 where
+  pub before : List Event
+  pub after : List Event
+  pub are : w ≡ before ++ f ∷ after
 
--- or the asks for one lock, if nobody else will ask for it
-pub record ReachingFollowsAsks (s : Plan) (V : List Event → Type 0) (h : List Event) : Type 0 where
-  pub lock : ℕ
-  pub processor : ℕ
-  pub next : IsFlatBeginning s (did h processor (Ask lock))
-  pub found : (p : ℕ) → IsFlatBeginning s (did h p (Ask lock)) → V (did h p (Ask lock))
-  pub others : (more : List Event) (p : ℕ) → IsFlatBeginning s (did (h ++ more) p (Ask lock))
-      → IsFlatBeginning s (did h p (Ask lock))
+pub reaching_parted : (w : List Event) (m : ℕ) (f : Event) → EventAt w m f → ReachingParted w f
+reaching_parted [] m f at = absurd (none-some f at)
+reaching_parted (e ∷ w) zero f at = record { before = []; after = w; are = ap (λ x. x ∷ w) (same_Some e f at) }
+reaching_parted (e ∷ w) (suc m) f at =
+    let rest = reaching_parted w m f at in
+    record { before = e ∷ rest.before; after = rest.after; are = ap (λ xs. e ∷ xs) rest.are }
 
-abbrev pub ReducedReachingFollowsAll : Plan → (List Event → Type 0) → List Event → Type 0
-ReducedReachingFollowsAll s V h = (p : ℕ) (k : Kind) → IsFlatBeginning s (did h p k) → V (did h p k)
+reaching_over_or_not : (b : Bool) → IsTrue b ⊎ (b ≡ false)
+reaching_over_or_not true = inl refl
+reaching_over_or_not false = inr refl
 
--- the first ask for the lock among some events, or there is none
-record ReducedReachingFirstAsk (w : List Event) (l : ℕ) : Type 0 where
+-- the first among some events that isn't passed over, or there is none
+record ReachingFirstOpen (passed : Event → Bool) (w : List Event) : Type 0 where
   before : List Event
   own : Event
   after : List Event
   are : w ≡ before ++ own ∷ after
-  asks : Ask l ≡ own.kind
-  none : HasNoReducedSwapRival (Ask l) before
+  opens : passed own ≡ false
+  over : ArePassedOver passed before
 
-reduced_reaching_first_ask : (w : List Event) (l : ℕ) → ReducedReachingFirstAsk w l ⊎ HasNoReducedSwapRival (Ask l) w
-reduced_reaching_first_ask [] l = inr (λ m f at. absurd (none-some f at))
-reduced_reaching_first_ask (e ∷ w) l = elim (reduced_swapped_ask_or_not l e.kind) [
-  | inl is ↦ inl (record {
-    before = [];
-    own = e;
-    after = w;
-    are = refl;
-    asks = is;
-    none = λ m f at. absurd (none-some f at);
-  })
-  | inr isnt ↦ elim (reduced_reaching_first_ask w l) [
-    | inl found ↦ inl (record {
-      before = e ∷ found.before;
-      own = found.own;
-      after = found.after;
-      are = ap (λ xs. e ∷ xs) found.are;
-      asks = found.asks;
-      none = further e w found.before l isnt found.none;
+module _ (passed : Event → Bool) where
+  reaching_over_more : (e : Event) (xs : List Event) → IsTrue (passed e) → ArePassedOver passed xs → ArePassedOver passed (e ∷ xs)
+  reaching_over_more e xs own over zero f at = subst (λ x. IsTrue (passed x)) (same_Some e f at) own
+  reaching_over_more e xs own over (suc i) f at = over i f at
+
+  reaching_first_open : (w : List Event) → ReachingFirstOpen passed w ⊎ ArePassedOver passed w
+  reaching_first_open [] = inr (λ i f at. absurd (none-some f at))
+  reaching_first_open (e ∷ w) = elim (reaching_over_or_not (passed e)) [
+    | inl over ↦ elim (reaching_first_open w) [
+      | inl found ↦ inl (record {
+        before = e ∷ found.before;
+        own = found.own;
+        after = found.after;
+        are = ap (λ xs. e ∷ xs) found.are;
+        opens = found.opens;
+        over = reaching_over_more e found.before over found.over;
+      })
+      | inr all ↦ inr (reaching_over_more e w over all)
+    ]
+    | inr opens ↦ inl (record {
+      before = [];
+      own = e;
+      after = w;
+      are = refl;
+      opens = opens;
+      over = λ i f at. absurd (none-some f at);
     })
-    | inr none ↦ inr (further e w w l isnt none)
   ]
-]
-  where
-    further : (e : Event) (w xs : List Event) (l : ℕ) → Ask l ≢ e.kind → HasNoReducedSwapRival (Ask l) xs → HasNoReducedSwapRival (Ask l) (e ∷ xs)
-    further e w xs l isnt none zero f at m is =
-        subst (λ (x : Event). Ask m ≢ x.kind) (same_Some e f at) (subst (λ c. c ≢ e.kind) (sym is) isnt)
-    further e w xs l isnt none (suc n) f at m is = none n f at m is
 
 -- an ask accesses nothing
 reaching_calm_ask : {rows : List (Vec ScriptCall)} (l : ℕ) → IsCalmInReducedSwap rows (Ask l)
@@ -184,7 +182,7 @@ pub record IsReached (V T : List Event → Type 0) : Type 0 where
 
 module _ (s : Plan) (rows : List (Vec ScriptCall)) (steps : AreLawfulMachineSteps s rows) (V T : List Event → Type 0)
     (lasting : IsReachingLasting s rows T)
-    (closed : (h : List Event) → V h → ReducedReachingFollowsAll s V h ⊎ (ReducedReachingFollowsOne s rows V h ⊎ ReachingFollowsAsks s V h)) where
+    (closed : (h : List Event) → V h → FlatSearchFollows s rows V h) where
   reduced_reaching_left_first : (h w : List Event) (p : ℕ) (k : Kind) → IsCalmInReducedSwap rows k → IsFlatBeginning s (did h p k)
       → IsFlatBeginning s (h ++ w) → T (h ++ w) → (f : ReducedReachingFirst w p) → HasNoReducedSwapRival k f.before → IsReachingLeft s T (did h p k)
   reduced_reaching_left_first h w p k calm next whole has f no_rival =
@@ -249,41 +247,65 @@ module _ (s : Plan) (rows : List (Vec ScriptCall)) (steps : AreLawfulMachineStep
     | inr away ↦ away
   ]
 
-  -- one of the asks for the lock, once it has come first
-  record IsReachingAskLeft (h : List Event) (l : ℕ) : Type 0 where
-    p : ℕ
-    next : IsFlatBeginning s (did h p (Ask l))
-    rest : IsReachingLeft s T (did h p (Ask l))
+  -- among events that are passed over nobody asks for a lock whose asks aren't
+  reaching_over_no_rival : (h w : List Event) (passed : Event → Bool) (p l : ℕ) → IsFlatBeginning s (h ++ w) → ArePassedOver passed w
+      → IsAskFollowed s V passed h p l → HasNoReducedSwapRival (Ask l) w
+  reaching_over_no_rival h w passed p l whole over asks m f at n is same =
+      let cut = reaching_parted w m f at in
+      let parted : h ++ w ≡ ((h ++ cut.before) ++ f ∷ []) ++ cut.after =
+      ap (λ xs. h ++ xs) cut.are ∙ sym (append_assoc h cut.before (f ∷ cut.after)) ∙ sym (append_assoc (h ++ cut.before) (f ∷ []) cut.after) in
+      let there = prefix_beginning_front s ((h ++ cut.before) ++ f ∷ []) cut.after (subst (IsFlatBeginning s) parted whole) in
+      let kind : f.kind ≡ Ask l = sym same ∙ is in
+      let asked = subst (λ c. IsFlatBeginning s (did (h ++ cut.before) f.processor c)) kind there in
+      let opens = subst (λ c. passed (event f.processor c) ≡ false) (sym kind) (asks.rivals cut.before f.processor asked) in
+      false≢true (sym opens ∙ over m f at)
 
-  reaching_asked_left : (h w : List Event) → IsFlatBeginning s (h ++ w) → T (h ++ w) → (l : ℕ) → (next : (q : ℕ) × IsFlatBeginning s (did h q (Ask l)))
-      → ((more : List Event) (p : ℕ) → IsFlatBeginning s (did (h ++ more) p (Ask l)) → IsFlatBeginning s (did h p (Ask l)))
-      → IsReachingAskLeft h l
-  reaching_asked_left h w whole has l next others = elim (reduced_reaching_first_ask w l) [
+  -- one of the asks that are followed, once it has come first
+  record IsReachingAskLeft (h : List Event) : Type 0 where
+    p : ℕ
+    lock : ℕ
+    next : IsFlatBeginning s (did h p (Ask lock))
+    found : V (did h p (Ask lock))
+    rest : IsReachingLeft s T (did h p (Ask lock))
+
+  reaching_asked_left : (h w : List Event) → IsFlatBeginning s (h ++ w) → T (h ++ w) → FlatSearchFollowsAsks s V h → IsReachingAskLeft h
+  reaching_asked_left h w whole has asks = elim (reaching_first_open asks.passed w) [
     | inl f ↦
         (let parted : h ++ w ≡ (h ++ f.before) ++ f.own ∷ f.after =
         ap (λ xs. h ++ xs) f.are ∙ sym (append_assoc h f.before (f.own ∷ f.after)) in
         let joined : (h ++ f.before) ++ f.own ∷ f.after ≡ ((h ++ f.before) ++ f.own ∷ []) ++ f.after =
         sym (append_assoc (h ++ f.before) (f.own ∷ []) f.after) in
         let with_own = prefix_beginning_front s ((h ++ f.before) ++ f.own ∷ []) f.after (subst (IsFlatBeginning s) (parted ∙ joined) whole) in
-        let asked = subst (λ c. IsFlatBeginning s (did (h ++ f.before) f.own.processor c)) (sym f.asks) with_own in
-        let first = others f.before f.own.processor asked in
+        let before = prefix_beginning_front s (h ++ f.before) (f.own ∷ []) with_own in
+        let first = asks.first f.before f.own.processor f.own.kind f.over with_own f.opens in
+        let l = first.0 in
+        let own = first.2 in
+        let none = reaching_over_no_rival h f.before asks.passed f.own.processor l before f.over own in
         record {
           p = f.own.processor;
-          next = first;
-          rest = reduced_reaching_left_first h w f.own.processor (Ask l) (reaching_calm_ask l) first whole has (record {
+          lock = l;
+          next = own.next;
+          found = own.found;
+          rest = reduced_reaching_left_first h w f.own.processor (Ask l) (reaching_calm_ask l) own.next whole has (record {
             before = f.before;
             own = f.own;
             after = f.after;
             are = f.are;
             mine = refl;
-            away = reaching_away_before_ask h f.before f.own.processor l first (prefix_beginning_front s (h ++ f.before) (f.own ∷ []) with_own) f.none;
-          }) f.none;
+            away = reaching_away_before_ask h f.before f.own.processor l own.next before none;
+          }) none;
         })
-    | inr none ↦ record {
-      p = next.0;
-      next = next.1;
-      rest = reduced_reaching_left_behind h w next.0 (Ask l) (reaching_calm_ask l) next.1 whole has (reaching_away_before_ask h w next.0 l next.1 whole none) none;
-    }
+    | inr over ↦
+        (let own = asks.some in
+        let none = reaching_over_no_rival h w asks.passed asks.processor asks.lock whole over own in
+        record {
+          p = asks.processor;
+          lock = asks.lock;
+          next = own.next;
+          found = own.found;
+          rest = reduced_reaching_left_behind h w asks.processor (Ask asks.lock) (reaching_calm_ask asks.lock) own.next whole has
+              (reaching_away_before_ask h w asks.processor asks.lock own.next whole none) none;
+        })
   ]
 
   reduced_reaching_longer : (h : List Event) (p : ℕ) (k : Kind) → IsFlatBeginning s (did h p k) → (n : ℕ) → most_held ≤ length h + suc n
@@ -306,9 +328,8 @@ module _ (s : Plan) (rows : List (Vec ScriptCall)) (steps : AreLawfulMachineStep
           reach n (did h one.processor one.kind) rest.more (reduced_reaching_longer h one.processor one.kind one.next n le) one.found rest.begins
           rest.has)
       | inr asks ↦
-          (let l = asks.lock in
-          let ask = reaching_asked_left h (e ∷ w) whole has l (asks.processor, asks.next) asks.others in
-          reach n (did h ask.p (Ask l)) ask.rest.more (reduced_reaching_longer h ask.p (Ask l) ask.next n le) (asks.found ask.p ask.next)
+          (let ask = reaching_asked_left h (e ∷ w) whole has asks in
+          reach n (did h ask.p (Ask ask.lock)) ask.rest.more (reduced_reaching_longer h ask.p (Ask ask.lock) ask.next n le) ask.found
           ask.rest.begins ask.rest.has)
     ]
   ]

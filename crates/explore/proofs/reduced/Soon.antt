@@ -1,18 +1,19 @@
 -- What free events lead to a state that was found.
 -- A search passes over states after which an event is free. What lasts, lasts behind free events, so a state that was found has
 -- it if one has that was passed over.
-use Rattle.std.proofs.Common.{suc, ◌⊎◌, inl, inr, List, [], ◌∷◌, ◌++◌, refl, sym, subst, append_assoc, append-nil}
+use Rattle.std.proofs.Common.{suc, inl, inr, List, [], ◌∷◌, ◌++◌, refl, sym, subst, append_assoc, append-nil}
 use Rattle.std.specs.Global.{Vec}
 use Rattle.base.proofs.JoinedLists.{joined_list_has-nil}
 use Rattle.journal.specs.declared.event.Event.{Event}
 use Rattle.lrc_script.specs.Plan.{Plan}
 use Rattle.explore.specs.declared.prefixes.script_call.ScriptCall.{ScriptCall}
 use Rattle.explore.specs.declared.flat_state.FlatState.{FlatState}
+use Rattle.explore.specs.FlatSearch.{FlatSearchFollows, FlatSearchFollowsFree}
 use Rattle.explore.specs.FoundStates.{IsFoundState}
 use Rattle.explore.specs.FreeRun.{AreFreeInRun, IsFoundByFreeRun}
 use Rattle.explore.specs.Prefixes.FlatBeginnings.{IsFlatBeginning}
 use Rattle.explore.proofs.prefixes.Beginnings.{prefix_beginning_front}
-use Rattle.explore.proofs.reduced.Reaching.{ReachingFollowsAsks, IsReached, IsReachingLasting, ReducedReachingFollowsAll, ReducedReachingFollowsOne}
+use Rattle.explore.proofs.reduced.Reaching.{IsReached, IsReachingLasting}
 
 module _ (s : Plan) (rows : List (Vec ScriptCall)) (states : List FlatState) where
   -- what is found is found soon
@@ -25,7 +26,7 @@ module _ (s : Plan) (rows : List (Vec ScriptCall)) (states : List FlatState) whe
 
   -- and behind the first of the free events, too
   soon_behind : (g : List Event) (e : Event) (more : List Event) → AreFreeInRun rows (e ∷ more) → IsFoundState s states (g ++ e ∷ more)
-      → ReducedReachingFollowsOne s rows (IsFoundByFreeRun s rows states) g
+      → FlatSearchFollowsFree s rows (IsFoundByFreeRun s rows states) g
   soon_behind g e more free found =
       let joined = append_assoc g (e ∷ []) more in
       record {
@@ -41,15 +42,12 @@ module _ (s : Plan) (rows : List (Vec ScriptCall)) (states : List FlatState) whe
       }
 
   -- so what is followed after a state that was found is followed wherever one is found soon
-  pub soon_followed : ((h : List Event) → IsFoundState s states h → ReducedReachingFollowsAll s (IsFoundByFreeRun s rows states) h
-      ⊎ (ReducedReachingFollowsOne s rows (IsFoundByFreeRun s rows states) h ⊎ ReachingFollowsAsks s (IsFoundByFreeRun s rows states) h))
-      → (h : List Event) → IsFoundByFreeRun s rows states h → ReducedReachingFollowsAll s (IsFoundByFreeRun s rows states) h
-      ⊎ (ReducedReachingFollowsOne s rows (IsFoundByFreeRun s rows states) h ⊎ ReachingFollowsAsks s (IsFoundByFreeRun s rows states) h)
+  pub soon_followed : ((h : List Event) → IsFoundState s states h → FlatSearchFollows s rows (IsFoundByFreeRun s rows states) h)
+      → (h : List Event) → IsFoundByFreeRun s rows states h → FlatSearchFollows s rows (IsFoundByFreeRun s rows states) h
   soon_followed followed h soon = by soon.more soon.free soon.found
     where
       by : (more : List Event) → AreFreeInRun rows more → IsFoundState s states (h ++ more)
-          → ReducedReachingFollowsAll s (IsFoundByFreeRun s rows states) h
-          ⊎ (ReducedReachingFollowsOne s rows (IsFoundByFreeRun s rows states) h ⊎ ReachingFollowsAsks s (IsFoundByFreeRun s rows states) h)
+          → FlatSearchFollows s rows (IsFoundByFreeRun s rows states) h
       by [] free found = followed h (subst (IsFoundState s states) (append-nil h) found)
       by (e ∷ more) free found = inr (inl (soon_behind h e more free found))
 

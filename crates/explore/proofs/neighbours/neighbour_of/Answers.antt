@@ -35,3 +35,7 @@ returns c q b conflict = elim (cases_lt q (length c.args.nexts.now)) [
   | inl lt ↦ (let over = c.loop-other-test.false in c.loop-other.invariant q b (omega arith) conflict)
   | inr past ↦ none-some b (sym (get_or_past c.args.nexts.now q None past) ∙ conflict.second)
 ]
+
+pub returns-then-not-accesses_a_word : goal.returns-then-not-accesses_a_word
+returns-then-not-accesses_a_word c = λ q b conflict.
+    false≢true (sym c.if-not-accesses_a_word.true ∙ c.accesses_a_word.ensures c.args.processor q b conflict.conflict)

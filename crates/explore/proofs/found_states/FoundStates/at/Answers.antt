@@ -9,7 +9,10 @@ use Rattle.explore.proofs.Clones.{clone_if_ok}
 use Rattle.explore.proofs.found_states.FoundStates.at.Goals as goal
 
 pub open-requires : goal.open-requires
-open-requires c = c.requires.kept.within c.args.place c.index.result.now c.index.ensures
+open-requires c = record {
+  calls = c.requires.kept.calls;
+  within = c.requires.kept.within c.args.place c.index.result.now c.index.ensures;
+}
 
 pub returns : goal.returns
 returns c =

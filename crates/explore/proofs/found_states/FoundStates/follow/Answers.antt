@@ -69,4 +69,21 @@ pub of-requires : goal.of-requires
 of-requires c = c.requires.may.1.small
 
 pub add-requires : goal.add-requires
-add-requires c = c.requires.may.1.found.kept
+add-requires c =
+    let s = c.requires.may.0 in
+    let may = c.requires.may.1 in
+    let stored = machine_step_some_at (found_states c.args.self.now) c.args.place may.within in
+    let f = stored.0 in
+    let g = may.found.known c.args.place f stored.1 in
+    let noted = c.in_ok-make_free_run.ensures in
+    let stepped = c.in_ok-step.ensures.knows s g.0 may.lawful (like_machine_knows s g.0 f c.args.state (c.requires.state f stored.1) g.1)
+    (may.next f stored.1 g.0 g.1) in
+    record {
+      kept = may.found.kept;
+      known = record {
+        plan = s;
+        table = may.found.calls;
+        events = did g.0 c.args.event.processor c.args.event.kind ++ noted.more;
+        knows = noted.run.knows s (did g.0 c.args.event.processor c.args.event.kind) may.lawful stepped;
+      };
+    }

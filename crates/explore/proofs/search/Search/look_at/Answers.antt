@@ -4,13 +4,12 @@ use Rattle.std.proofs.lemmas.Option.{same_Some}
 use Rattle.explore.specs.declared.flat_state.FlatState.{FlatState}
 use Rattle.explore.specs.declared.search.Search.{Search}
 use Rattle.explore.specs.FoundStates.{IsFoundStateAt, found_states}
-use Rattle.explore.specs.FreeChoice.{IsFreeChoice}
 use Rattle.explore.specs.FollowedStates.{AreFollowedStates, MayBeFollowedStateByEach}
 use Rattle.explore.specs.Machines.{MachineKnows}
 use Rattle.explore.specs.Nexts.{AreNexts}
 use Rattle.explore.specs.FlatSearch.{AreFlatSearchNotes}
 use Rattle.explore.proofs.LikeMachines.{like_machine_knows}
-use Rattle.explore.proofs.MachineSteps.{machine_step_some_at}
+use Rattle.explore.proofs.MachineSteps.{machine_step_rows_few, machine_step_some_at}
 use Rattle.explore.proofs.SearchedStates.{searched_states_next, searched_states_noted_kept, searched_states_noted_skip}
 use Rattle.explore.proofs.search.Search.look_at.Goals.{then-are_neighbours_over+in_ok-note_end, else-are_neighbours_over}
 use Rattle.explore.proofs.search.Search.look_at.Goals as goal
@@ -188,11 +187,17 @@ returns-clause-looked c = λ s may.
       hang = c.if-are_neighbours_over.self.hang;
     } in
     let more = may.more in
-    searched_states_next z f.done nexts chosen may
-    (λ m at. ap (λ (y : FlatState). y.done) (same_Some m f (sym at ∙ stored.1))) each c.in_default.ensures
-    (subst (λ d. IsFreeChoice c.args.steps.now d nexts chosen) like.done (c.free_choice-followed.ensures.choice c.args.steps.now c.requires.facts)) followed
+    searched_states_next z nexts chosen may each c.in_default.ensures
+    (λ m g at knows. c.free_choice-followed.ensures.choice s g (record {
+      lawful = may.lawful;
+      told = c.requires.facts;
+      knows = like_machine_knows s g f c.in_ok-state.state like (subst (MachineKnows s g) (same_Some m f (sym at ∙ stored.1)) knows);
+    })) followed
     (searched_states_noted_kept s (found_states x.found) (found_states new) (place + 1) followed.keeps (omega arith) c.if-are_neighbours_over.self z
     (ap found_states same) refl refl refl refl noted)
+
+pub free_choice-followed-requires : goal.free_choice-followed-requires
+free_choice-followed-requires c = machine_step_rows_few c.requires.unvisited.0 c.args.steps.now c.requires.unvisited.1.lawful
 
 pub at-requires-clause-kept : goal.at-requires-clause-kept
 at-requires-clause-kept c = c.requires.unvisited.1.searched.found.kept
