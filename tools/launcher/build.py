@@ -87,6 +87,7 @@ class Build:
             rooms.leave(crate)
             self.waiting.remove(crate)
             self.progress.proved(crate, self.waiting, self.spent())
+        rooms.wait_for_removals()
         self.begin(self.crates[-1], ["run", "--jobs", "JOBS", "--", "--help"], self.crates[-1].folder)
         last = self.running[self.crates[-1]]
         self.end_one()

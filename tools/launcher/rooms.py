@@ -86,6 +86,12 @@ def drop(folder):
         shutil.rmtree(folder, ignore_errors=True)
 
 
+def wait_for_removals():
+    """Waits until what was dropped is gone. The last run is in its crate's own folder, so it looks at all that is below that."""
+    for removal in removals:
+        removal.wait()
+
+
 def age_of(out):
     """When something came into a folder out/ last; 0 where there is none."""
     folders = [f"{out}/{part}" for part in KEPT if os.path.isdir(f"{out}/{part}")]
@@ -122,8 +128,7 @@ def begin(crates):
 def end(crates):
     """Leaves all rooms, and removes their folder where all could be left."""
     leave_all(crates)
-    for removal in removals:
-        removal.wait()
+    wait_for_removals()
     shutil.rmtree(f"{ROOMS}/scratch", ignore_errors=True)
     if not any(os.path.isdir(room_of(crate)) for crate in crates):
         shutil.rmtree(ROOMS, ignore_errors=True)
