@@ -1,14 +1,10 @@
 -- Parts of states that `==` finds equal are the same.
-use Rattle.std.proofs.Common.{ℕ, ◌≡◌, Bool, true, false, ◌&&◌, ◌||◌, ◌⊎◌, inl, inr, List, [], ◌∷◌, ◌++◌, map, refl, sym, ap, ap₂, subst, ◌∙◌}
+use Rattle.std.proofs.Common.{ℕ, ◌≡◌, Bool, true, false, ◌&&◌, List, [], ◌∷◌, map, refl, sym, ap, ap₂, subst, ◌∙◌}
 use Rattle.std.specs.Prelude.{nat_eq, not, if◌then◌else◌}
 use Rattle.std.specs.Global.{Vec}
 use Rattle.std.specs.Cmp.Lexicographic.{pointwise, same_text}
-use Rattle.std.specs.List.{list_any}
 use Rattle.std.proofs.lemmas.Bool.{and_from, and_parts, eqb-true, false≢true}
 use Rattle.std.proofs.lemmas.Cmp.{nat_list_eq_equiv}
-use Rattle.std.proofs.lemmas.List.{map-append}
-use Rattle.base.specs.InOrderOnce.{Has}
-use Rattle.base.proofs.JoinedLists.{joined_list_has-cons, joined_list_has-nil}
 use Rattle.explore.specs.declared.kept_state.KeptState.{KeptState}
 use Rattle.explore.specs.declared.kept_state.StateAsks.{StateAsks}
 use Rattle.explore.specs.declared.kept_state.StateMemory.{StateMemory}
@@ -106,47 +102,3 @@ pub equal_outcome_same : (a b : ScriptOutcome) → outcome_equal a b ≡ true �
 equal_outcome_same a b h =
     equal_items (λ (v : Vec ℕ). v.items) (λ (v w : Vec ℕ). pointwise nat_eq v.items w.items)
     (λ v w. equal_numbers v.items w.items) a.replies.items b.replies.items h
-
-equal_found_has : (o : ScriptOutcome) (ks : List ScriptOutcome) → list_any (outcome_equal o) ks ≡ true
-    → Has (map explored_outcome ks) (explored_outcome o)
-equal_found_has o [] h = absurd (false≢true h)
-equal_found_has o (k ∷ ks) h = go (outcome_equal o k) refl (λ later. equal_found_has o ks later)
-  where
-    go : (b : Bool) → outcome_equal o k ≡ b
-        → (list_any (outcome_equal o) ks ≡ true → Has (map explored_outcome ks) (explored_outcome o))
-        → Has (explored_outcome k ∷ map explored_outcome ks) (explored_outcome o)
-    go true is rest = (joined_list_has-cons (explored_outcome k) (map explored_outcome ks) (explored_outcome o)).1 (inl (equal_outcome_same o k is))
-    go false is rest =
-        (joined_list_has-cons (explored_outcome k) (map explored_outcome ks) (explored_outcome o)).1
-        (inr (rest (sym (ap (λ b. b || list_any (outcome_equal o) ks) is) ∙ h)))
-
-equal_has_found : (o : ScriptOutcome) (ks : List ScriptOutcome) → Has (map explored_outcome ks) (explored_outcome o)
-    → list_any (outcome_equal o) ks ≡ true
-equal_has_found o [] has = absurd (joined_list_has-nil (explored_outcome o) has)
-equal_has_found o (k ∷ ks) has = elim ((joined_list_has-cons (explored_outcome k) (map explored_outcome ks) (explored_outcome o)).0 has) [
-  | inl is ↦ ap (λ b. b || list_any (outcome_equal o) ks) (equal_rows o.replies.items k.replies.items (sym is))
-  | inr later ↦ or_right (outcome_equal o k) (equal_has_found o ks later)
-]
-  where
-    or_right : (a : Bool) {b : Bool} → b ≡ true → (a || b) ≡ true
-    or_right true h = refl
-    or_right false h = h
-
--- an outcome is one of these, or is put at their end, as `insert_full` says
-pub equal_outcome_inserted : (ks : List ScriptOutcome) (o : ScriptOutcome) (new : List ScriptOutcome) (is_new : Bool)
-    → is_new ≡ not (list_any (outcome_equal o) ks) → new ≡ (if list_any (outcome_equal o) ks then ks else ks ++ o ∷ [])
-    → ((is_new ≡ false) × Has (map explored_outcome ks) (explored_outcome o) × (map explored_outcome new ≡ map explored_outcome ks))
-    ⊎ ((is_new ≡ true) × (¬ Has (map explored_outcome ks) (explored_outcome o))
-    × (map explored_outcome new ≡ map explored_outcome ks ++ explored_outcome o ∷ []))
-equal_outcome_inserted ks o new is_new isnt is = go (list_any (outcome_equal o) ks) refl isnt is
-  where
-    go : (b : Bool) → list_any (outcome_equal o) ks ≡ b → is_new ≡ not b → new ≡ (if b then ks else ks ++ o ∷ [])
-        → ((is_new ≡ false) × Has (map explored_outcome ks) (explored_outcome o) × (map explored_outcome new ≡ map explored_outcome ks))
-        ⊎ ((is_new ≡ true) × (¬ Has (map explored_outcome ks) (explored_outcome o))
-        × (map explored_outcome new ≡ map explored_outcome ks ++ explored_outcome o ∷ []))
-    go true any told same = inl (told, equal_found_has o ks any, ap (λ (os : List ScriptOutcome). map explored_outcome os) same)
-    go false any told pushed = inr (
-      told,
-      (λ has. false≢true (sym any ∙ equal_has_found o ks has)),
-      ap (λ (os : List ScriptOutcome). map explored_outcome os) pushed ∙ map-append explored_outcome ks (o ∷ []),
-    )

@@ -13,6 +13,7 @@ pub mod MadeEvents
 pub mod Clones
 pub mod call_tables
 pub mod Equals
+pub mod NotedOutcomes
 pub mod FreeRuns
 pub mod AddedStates
 pub mod FollowedAll

@@ -1,14 +1,13 @@
 -- What a search knows, state by state.
 -- What was noted of the first states stays so as states are pushed on. One more state is either followed, where its next
 -- events are found, or ends: then it is whole and shows an outcome, or it hangs.
-use Rattle.std.proofs.Common.{ℕ, ◌≡◌, ◌≢◌, ◌+◌, ◌<◌, ◌≤◌, ◌↔◌, ◌⊎◌, inl, inr, Bool, false, List, [], ◌∷◌, ◌++◌, Option, Some, length, map, slice_get, slice_index_or, refl, sym, ap, subst, ◌∙◌, length-append, arith}
+use Rattle.std.proofs.Common.{ℕ, ◌≡◌, ◌≢◌, ◌+◌, ◌<◌, ◌≤◌, ◌↔◌, ◌⊎◌, inl, inr, Bool, false, List, [], ◌∷◌, Option, Some, length, slice_get, slice_index_or, refl, sym, ap, subst, ◌∙◌, arith}
 use Rattle.std.specs.Prelude.{None, MatchOption, unwrap_or}
 use Rattle.std.specs.Global.{Vec}
 use Rattle.std.proofs.lemmas.Bool.{cases_eq, cases_lt, false≢true}
 use Rattle.std.proofs.lemmas.List.{get_or_past}
 use Rattle.std.proofs.lemmas.Option.{none-some, same_Some, slice_get-get_or, slice_get_within}
 use Rattle.base.specs.InOrderOnce.{Has, IsOnce}
-use Rattle.base.proofs.SlicesAndCounts.{slice_push_cases}
 use Rattle.base.proofs.JoinedLists.{joined_list_has-append, joined_list_has-cons, joined_list_has-nil, joined_list_in_order-append, joined_list_in_order-nil, joined_list_in_order_single}
 use Rattle.journal.specs.declared.event.Event.{Event}
 use Rattle.journal.specs.declared.event.Kind.{Kind}
@@ -25,6 +24,7 @@ use Rattle.explore.specs.declared.found_states.FoundStates.{FoundStates}
 use Rattle.explore.specs.declared.neighbours.Neighbours.{Neighbours}
 use Rattle.explore.specs.declared.search.Search.{Search}
 use Rattle.explore.specs.declared.explored.Hanging.{Hanging}
+use Rattle.explore.specs.declared.explored.ScriptOutcome.{ScriptOutcome}
 use Rattle.explore.specs.declared.explored.Hanging.TheVariants as hanging
 use Rattle.explore.specs.declared.explored.Verdict.{Verdict}
 use Rattle.explore.specs.declared.explored.Verdict.TheVariants as verdict
@@ -38,9 +38,11 @@ use Rattle.explore.specs.Nexts.{AreNexts, AreNextInConflict}
 use Rattle.explore.specs.declared.outcome_telling.Detail.{Detail}
 use Rattle.explore.specs.OutcomeTelling.{AreOutcomeTellingReplies, outcome_telling_of_script, outcome_telling_kept, outcome_telling_replies, outcome_telling_steps}
 use Rattle.explore.proofs.ToldReplies.{told_reply_kept_whole, told_replies_rows_like, told_replies_same_rows}
-use Rattle.explore.specs.FlatSearch.{AreFlatSearchOutcomes, AreFlatSearchPlaces, FlatSearchFollows, FlatSearchHasHang, IsAmongFlatSearched, IsAskFollowed, IsFlatSearchReduced, AreFlatSearchNotes, IsFlatSearchHangingOpen, IsFlatSearchVerdictOpen, IsFlatSearchQuiet, FlatSearchedUpTo, IsNotedInFlatSearch, IsShownAtFlatSearchPlace, IsShownByFlatSearch, HasMoreToFlatSearch, MayNoteInFlatSearch, FlatSearchHasNoHang}
+use Rattle.explore.specs.FlatSearch.{AreFlatSearchOutcomes, AreFlatSearchPlaces, FlatSearchFollows, FlatSearchHasHang, IsAskFollowed, IsFlatSearchReduced, AreFlatSearchNotes, IsFlatSearchHangingOpen, IsFlatSearchVerdictOpen, IsFlatSearchQuiet, FlatSearchedUpTo, IsShownAtFlatSearchPlace, IsShownByFlatSearch, HasMoreToFlatSearch, MayNoteInFlatSearch, FlatSearchHasNoHang}
+use Rattle.explore.specs.NotedOutcomes.{IsNotedOutcome, noted_outcomes}
 use Rattle.explore.proofs.AddedStates.{added_state_found_soon_kept}
 use Rattle.explore.proofs.MachineSteps.{machine_step_some_at}
+use Rattle.explore.proofs.NotedOutcomes.{IsAmongNotedOutcomes, noted_outcome_among, noted_outcome_each}
 use Rattle.explore.proofs.reduced.Ends.{ReducedEndsInConflict, ReducedEndsShowing, reduced_ends_conflict_lasts, reduced_ends_whole, reduced_ends_hang_lasts, reduced_ends_shows_last}
 use Rattle.explore.proofs.reduced.Chosen.{chosen_follows}
 use Rattle.explore.proofs.reduced.Reaching.{IsReached, IsReachingLasting, reached}
@@ -117,26 +119,24 @@ module _ (s : Plan) (old new : List FlatState) (n : ℕ) (keeps : KeepsFoundStat
     hangs = λ m g at knows. h.hangs m g (searched_state_was_at old new place m keeps h.within at) knows;
   }
 
-  searched_states_places_kept : (outcomes : List (List (List ℕ))) (places : List ℕ) → AreFlatSearchPlaces s old outcomes places
-      → AreFlatSearchPlaces s new outcomes places
-  searched_states_places_kept outcomes places of = record {
-    long = of.long;
-    each = λ i place replies at_outcome at_place. (let shown = of.each i place replies at_outcome at_place in record {
-      within = (
-          let f = machine_step_some_at old place shown.within in slice_get_within new place f.0 (keeps place f.0 f.1));
-      shows = λ m g at knows. shown.shows m g (searched_state_was_at old new place m keeps shown.within at) knows;
-    });
-  }
+  searched_states_places_kept : (outcomes : List (ScriptOutcome × ℕ)) → AreFlatSearchPlaces s old outcomes → AreFlatSearchPlaces s new outcomes
+  searched_states_places_kept outcomes of e has =
+      let shown = of e has in
+      record {
+        within = (
+            let f = machine_step_some_at old e.1 shown.within in slice_get_within new e.1 f.0 (keeps e.1 f.0 f.1));
+        shows = λ m g at knows. shown.shows m g (searched_state_was_at old new e.1 m keeps shown.within at) knows;
+      }
 
-  pub searched_states_noted_kept : (x y : Search) → found_states x.found ≡ old → found_states y.found ≡ new → y.outcomes.keys ≡ x.outcomes.keys
-      → y.shown_at.items ≡ x.shown_at.items → y.hang ≡ x.hang → AreFlatSearchNotes s x n → AreFlatSearchNotes s y n
-  searched_states_noted_kept x y is_old is_new outcomes shown_at hang noted =
-      let shows = subst (λ ms. AreFlatSearchOutcomes s ms n (map explored_outcome x.outcomes.keys)) is_old noted.shown in
+  pub searched_states_noted_kept : (x y : Search) → found_states x.found ≡ old → found_states y.found ≡ new
+      → y.outcomes.entries ≡ x.outcomes.entries → y.hang ≡ x.hang → AreFlatSearchNotes s x n → AreFlatSearchNotes s y n
+  searched_states_noted_kept x y is_old is_new outcomes hang noted =
+      let shows = subst (λ ms. AreFlatSearchOutcomes s ms n (noted_outcomes x.outcomes.entries)) is_old noted.shown in
       let hung = subst (λ ms. MatchOption x.hang (FlatSearchHasNoHang s ms n) (FlatSearchHasHang s ms)) is_old noted.hang in
       record {
         shown =
-            subst (λ ms. AreFlatSearchOutcomes s ms n (map explored_outcome y.outcomes.keys)) (sym is_new)
-            (subst (λ ks. AreFlatSearchOutcomes s new n (map explored_outcome ks)) (sym outcomes) (record {
+            subst (λ ms. AreFlatSearchOutcomes s ms n (noted_outcomes y.outcomes.entries)) (sym is_new)
+            (subst (λ (es : List (ScriptOutcome × ℕ)). AreFlatSearchOutcomes s new n (noted_outcomes es)) (sym outcomes) (record {
               each = λ replies. (
                 λ has. (searched_states_shown_kept replies).0 ((shows.each replies).0 has),
                 λ by. (shows.each replies).1 ((searched_states_shown_kept replies).1 by),
@@ -144,11 +144,9 @@ module _ (s : Plan) (old new : List FlatState) (n : ℕ) (keeps : KeepsFoundStat
               once = shows.once;
             }));
         places =
-            subst (λ ms. AreFlatSearchPlaces s ms (map explored_outcome y.outcomes.keys) y.shown_at.items) (sym is_new)
-            (subst (λ ks. AreFlatSearchPlaces s new (map explored_outcome ks) y.shown_at.items) (sym outcomes)
-            (subst (AreFlatSearchPlaces s new (map explored_outcome x.outcomes.keys)) (sym shown_at)
-            (searched_states_places_kept (map explored_outcome x.outcomes.keys) x.shown_at.items
-            (subst (λ ms. AreFlatSearchPlaces s ms (map explored_outcome x.outcomes.keys) x.shown_at.items) is_old noted.places))));
+            subst (λ ms. AreFlatSearchPlaces s ms y.outcomes.entries) (sym is_new)
+            (subst (AreFlatSearchPlaces s new) (sym outcomes)
+            (searched_states_places_kept x.outcomes.entries (subst (λ ms. AreFlatSearchPlaces s ms x.outcomes.entries) is_old noted.places)));
         hang =
             subst (λ ms. MatchOption y.hang (FlatSearchHasNoHang s ms n) (FlatSearchHasHang s ms)) (sym is_new)
             (subst (λ o. MatchOption o (FlatSearchHasNoHang s new n) (FlatSearchHasHang s new)) (sym hang) (searched_state_hangs_kept x.hang hung));
@@ -164,22 +162,19 @@ module _ (s : Plan) (old new : List FlatState) (n : ℕ) (keeps : KeepsFoundStat
   searched_states_quiet_kept quiet place m g p q a b lt at knows = quiet place m g p q a b lt (searched_state_was_at old new place m keeps (omega arith) at) knows
 
 -- before the first state is looked at
-pub searched_states_start : (s : Plan) (x : Search) (rows : List (Vec ScriptCall)) → AreFoundStates s x.found → x.outcomes.keys ≡ []
-    → x.shown_at.items ≡ [] → x.hang ≡ None → FlatSearchedUpTo s x rows 0
-searched_states_start s x rows found outcomes shown_at hang = record {
+pub searched_states_start : (s : Plan) (x : Search) (rows : List (Vec ScriptCall)) → AreFoundStates s x.found → x.outcomes.entries ≡ []
+    → x.hang ≡ None → FlatSearchedUpTo s x rows 0
+searched_states_start s x rows found outcomes hang = record {
   found = found;
   within = omega arith;
   closed = λ place m g lt. absurd (omega arith);
   quiet = λ place m g p q a b lt. absurd (omega arith);
   noted = record {
-    shown = subst (λ ks. AreFlatSearchOutcomes s (found_states x.found) 0 (map explored_outcome ks)) (sym outcomes) (record {
+    shown = subst (λ (es : List (ScriptOutcome × ℕ)). AreFlatSearchOutcomes s (found_states x.found) 0 (noted_outcomes es)) (sym outcomes) (record {
       each = λ replies. ((λ has. absurd (joined_list_has-nil replies has)), (λ by. absurd (let lt = by.within in omega arith)));
       once = joined_list_in_order-nil _;
     });
-    places =
-        subst (λ ks. AreFlatSearchPlaces s (found_states x.found) (map explored_outcome ks) x.shown_at.items) (sym outcomes)
-        (subst (AreFlatSearchPlaces s (found_states x.found) []) (sym shown_at)
-        (record { long = refl; each = λ i place replies at_outcome. absurd (none-some replies at_outcome) }));
+    places = subst (AreFlatSearchPlaces s (found_states x.found)) (sym outcomes) (λ e has. absurd (joined_list_has-nil e has));
     hang = subst (λ o. MatchOption o (FlatSearchHasNoHang s (found_states x.found) 0) (FlatSearchHasHang s (found_states x.found))) (sym hang)
         (λ place m g lt. absurd (omega arith));
   };
@@ -218,12 +213,12 @@ module _ (s : Plan) (states : List FlatState) (n : ℕ) (f : FlatState) (at : sl
   )
 
   pub searched_state_unfinished_shown : (x y : Search) → found_states x.found ≡ states → found_states y.found ≡ states
-      → y.outcomes.keys ≡ x.outcomes.keys → AreFlatSearchOutcomes s (found_states x.found) n (map explored_outcome x.outcomes.keys)
-      → AreFlatSearchOutcomes s (found_states y.found) (n + 1) (map explored_outcome y.outcomes.keys)
+      → y.outcomes.entries ≡ x.outcomes.entries → AreFlatSearchOutcomes s (found_states x.found) n (noted_outcomes x.outcomes.entries)
+      → AreFlatSearchOutcomes s (found_states y.found) (n + 1) (noted_outcomes y.outcomes.entries)
   searched_state_unfinished_shown x y is_x is_y outcomes old =
-      subst (λ ms. AreFlatSearchOutcomes s ms (n + 1) (map explored_outcome y.outcomes.keys)) (sym is_y)
-      (subst (λ ks. AreFlatSearchOutcomes s states (n + 1) (map explored_outcome ks)) (sym outcomes)
-      (let shows = subst (λ ms. AreFlatSearchOutcomes s ms n (map explored_outcome x.outcomes.keys)) is_x old in
+      subst (λ ms. AreFlatSearchOutcomes s ms (n + 1) (noted_outcomes y.outcomes.entries)) (sym is_y)
+      (subst (λ (es : List (ScriptOutcome × ℕ)). AreFlatSearchOutcomes s states (n + 1) (noted_outcomes es)) (sym outcomes)
+      (let shows = subst (λ ms. AreFlatSearchOutcomes s ms n (noted_outcomes x.outcomes.entries)) is_x old in
       record {
         each = λ replies. (
           λ has. (searched_state_skipped_shown replies).0 ((shows.each replies).0 has),
@@ -269,9 +264,9 @@ searched_state_hung s states n f at hangs (Some place) h = h
 
 pub searched_state_noted_hanging : (s : Plan) (x y : Search) (steps : List (Vec ScriptCall)) (n : ℕ) (f : FlatState) → MayNoteInFlatSearch s x steps n
     → slice_get (found_states x.found) n ≡ Some f → ((g : List Event) → MachineKnows s g f → ¬ Follows s g)
-    → found_states y.found ≡ found_states x.found → y.outcomes.keys ≡ x.outcomes.keys → y.shown_at.items ≡ x.shown_at.items
+    → found_states y.found ≡ found_states x.found → y.outcomes.entries ≡ x.outcomes.entries
     → y.hang ≡ Some (unwrap_or x.hang n) → AreFlatSearchNotes s y (n + 1)
-searched_state_noted_hanging s x y steps n f may at unfinished found outcomes shown_at hang =
+searched_state_noted_hanging s x y steps n f may at unfinished found outcomes hang =
     let is_hang : (g : List Event) → MachineKnows s g f → IsFlatBeginningHanging s g = λ g knows. record {
       beginning = knows.beginning;
       unfinished = unfinished g knows;
@@ -280,9 +275,8 @@ searched_state_noted_hanging s x y steps n f may at unfinished found outcomes sh
     record {
       shown = searched_state_unfinished_shown s (found_states x.found) n f at unfinished x y refl found outcomes may.noted.shown;
       places =
-          subst (λ ms. AreFlatSearchPlaces s ms (map explored_outcome y.outcomes.keys) y.shown_at.items) (sym found)
-          (subst (λ ks. AreFlatSearchPlaces s (found_states x.found) (map explored_outcome ks) y.shown_at.items) (sym outcomes)
-          (subst (AreFlatSearchPlaces s (found_states x.found) (map explored_outcome x.outcomes.keys)) (sym shown_at) may.noted.places));
+          subst (λ ms. AreFlatSearchPlaces s ms y.outcomes.entries) (sym found)
+          (subst (AreFlatSearchPlaces s (found_states x.found)) (sym outcomes) may.noted.places);
       hang =
           subst (λ ms. MatchOption y.hang (FlatSearchHasNoHang s ms (n + 1)) (FlatSearchHasHang s ms)) (sym found)
           (subst (λ o. MatchOption o (FlatSearchHasNoHang s (found_states x.found) (n + 1)) (FlatSearchHasHang s (found_states x.found))) (sym hang)
@@ -351,7 +345,7 @@ module _ (s : Plan) (x : Search) (steps : List (Vec ScriptCall)) (n : ℕ) (f : 
   ]
 
   searched_states_shown_next : (old new : List (List (List ℕ))) → AreFlatSearchOutcomes s (found_states x.found) n old
-      → IsAmongFlatSearched old new (machine_rows f.replies.items) → AreFlatSearchOutcomes s (found_states x.found) (n + 1) new
+      → IsAmongNotedOutcomes old new (machine_rows f.replies.items) → AreFlatSearchOutcomes s (found_states x.found) (n + 1) new
   searched_states_shown_next old new shows (inl was) = record {
     each = λ replies. (
       λ has. searched_states_show_before replies ((shows.each replies).0 (subst (λ rs. Has rs replies) was.1 has)),
@@ -406,52 +400,24 @@ module _ (s : Plan) (x : Search) (steps : List (Vec ScriptCall)) (n : ℕ) (f : 
         (follows, searched_state_kept_told s g f may.lawful.lawful.but_uneven.one_each follows of_f));
   }
 
-  searched_state_among : (old new : List (List (List ℕ))) (before after : List ℕ)
-      → IsNotedInFlatSearch old new before after (machine_rows f.replies.items) n → IsAmongFlatSearched old new (machine_rows f.replies.items)
-  searched_state_among old new before after (inl was) = inl (was.0, was.1)
-  searched_state_among old new before after (inr pushed) = inr (pushed.0, pushed.1)
-
-  searched_state_places_next : (old new : List (List (List ℕ))) (before after : List ℕ) → AreFlatSearchPlaces s (found_states x.found) old before
-      → IsNotedInFlatSearch old new before after (machine_rows f.replies.items) n → AreFlatSearchPlaces s (found_states x.found) new after
-  searched_state_places_next old new before after of (inl was) =
-      subst (λ os. AreFlatSearchPlaces s (found_states x.found) os after) (sym was.1)
-      (subst (AreFlatSearchPlaces s (found_states x.found) old) (sym was.2) of)
-  searched_state_places_next old new before after of (inr pushed) =
-      subst (λ os. AreFlatSearchPlaces s (found_states x.found) os after) (sym pushed.1)
-      (subst (AreFlatSearchPlaces s (found_states x.found) (old ++ machine_rows f.replies.items ∷ [])) (sym pushed.2) (record {
-        long = (
-            let long = of.long in
-            let outcomes = length-append old (machine_rows f.replies.items ∷ []) in
-            let places = length-append before (n ∷ []) in
-            omega arith);
-        each = λ i place replies at_outcome at_place. (let long = of.long in
-            elim (slice_push_cases old (machine_rows f.replies.items) i replies at_outcome) [
-              | inl earlier ↦ elim (slice_push_cases before n i place at_place) [
-                | inl there ↦ of.each i place replies earlier.1 there.1
-                | inr now ↦ absurd (let lt = earlier.0 in let is = now.0 in omega arith)
-              ]
-              | inr last ↦ elim (slice_push_cases before n i place at_place) [
-                | inl there ↦ absurd (let lt = there.0 in let is = last.0 in omega arith)
-                | inr now ↦
-                    subst (IsShownAtFlatSearchPlace s (found_states x.found) replies) now.1
-                    (subst (λ rs. IsShownAtFlatSearchPlace s (found_states x.found) rs n) last.1 searched_state_shows_at_place)
-              ]
-            ]);
-      }))
+  searched_state_places_next : (old new : List (ScriptOutcome × ℕ)) → AreFlatSearchPlaces s (found_states x.found) old
+      → IsNotedOutcome old new (machine_rows f.replies.items) (λ place. place ≡ n) → AreFlatSearchPlaces s (found_states x.found) new
+  searched_state_places_next old new of noted =
+      noted_outcome_each (λ (e : ScriptOutcome × ℕ). IsShownAtFlatSearchPlace s (found_states x.found) (explored_outcome e.0) e.1) (λ place. place ≡ n) old new
+      (machine_rows f.replies.items) noted
+      (λ e shows is. subst (IsShownAtFlatSearchPlace s (found_states x.found) (explored_outcome e.0)) (sym is)
+      (subst (λ rs. IsShownAtFlatSearchPlace s (found_states x.found) rs n) (sym shows) searched_state_shows_at_place)) of
 
   pub searched_state_noted_whole : (y : Search) → found_states y.found ≡ found_states x.found → y.hang ≡ x.hang
-      → IsNotedInFlatSearch (map explored_outcome x.outcomes.keys) (map explored_outcome y.outcomes.keys) x.shown_at.items y.shown_at.items
-      (machine_rows f.replies.items) n
-      → AreFlatSearchNotes s y (n + 1)
+      → IsNotedOutcome x.outcomes.entries y.outcomes.entries (machine_rows f.replies.items) (λ place. place ≡ n) → AreFlatSearchNotes s y (n + 1)
   searched_state_noted_whole y found hang noted = record {
     shown =
-        subst (λ ms. AreFlatSearchOutcomes s ms (n + 1) (map explored_outcome y.outcomes.keys)) (sym found)
-        (searched_states_shown_next (map explored_outcome x.outcomes.keys) (map explored_outcome y.outcomes.keys) may.noted.shown
-        (searched_state_among (map explored_outcome x.outcomes.keys) (map explored_outcome y.outcomes.keys) x.shown_at.items y.shown_at.items noted));
+        subst (λ ms. AreFlatSearchOutcomes s ms (n + 1) (noted_outcomes y.outcomes.entries)) (sym found)
+        (searched_states_shown_next (noted_outcomes x.outcomes.entries) (noted_outcomes y.outcomes.entries) may.noted.shown
+        (noted_outcome_among (λ place. place ≡ n) x.outcomes.entries y.outcomes.entries (machine_rows f.replies.items) noted));
     places =
-        subst (λ ms. AreFlatSearchPlaces s ms (map explored_outcome y.outcomes.keys) y.shown_at.items) (sym found)
-        (searched_state_places_next (map explored_outcome x.outcomes.keys) (map explored_outcome y.outcomes.keys) x.shown_at.items
-        y.shown_at.items may.noted.places noted);
+        subst (λ ms. AreFlatSearchPlaces s ms y.outcomes.entries) (sym found)
+        (searched_state_places_next x.outcomes.entries y.outcomes.entries may.noted.places noted);
     hang =
         subst (λ ms. MatchOption y.hang (FlatSearchHasNoHang s ms (n + 1)) (FlatSearchHasHang s ms)) (sym found)
         (subst (λ o. MatchOption o (FlatSearchHasNoHang s (found_states x.found) (n + 1)) (FlatSearchHasHang s (found_states x.found))) (sym hang)
@@ -540,7 +506,7 @@ module _ (s : Plan) (x : Search) (steps : List (Vec ScriptCall)) (lawful : AreLa
       c.conflict
 
   pub searched_states_all_outcomes : (d : Detail) → x.found.first.telling ≡ outcome_telling_of_script s d
-      → AreAllOutcomesExplored s d (map explored_outcome x.outcomes.keys)
+      → AreAllOutcomesExplored s d (noted_outcomes x.outcomes.entries)
   searched_states_all_outcomes d tells replies outcome =
       let t = outcome_telling_of_script s d in
       let r = searched_states_reach_lasting (ReducedEndsShowing s t replies)
@@ -559,7 +525,7 @@ module _ (s : Plan) (x : Search) (steps : List (Vec ScriptCall)) (lawful : AreLa
 
 pub searched_states_some_outcomes : (s : Plan) (d : Detail) (x : Search) (steps : List (Vec ScriptCall)) (n : ℕ)
     → x.found.first.telling ≡ outcome_telling_of_script s d → FlatSearchedUpTo s x steps n
-    → AreExploredOutcomes s d (map explored_outcome x.outcomes.keys)
+    → AreExploredOutcomes s d (noted_outcomes x.outcomes.entries)
 searched_states_some_outcomes s d x steps n tells searched = record {
   each = λ replies has.
       let by = (searched.noted.shown.each replies).0 has in (

@@ -1,50 +1,17 @@
 -- Runs that show the outcomes of a search: of each outcome, the events that lead to the state at its place.
-use Rattle.std.proofs.Common.{ℕ, ◌≡◌, ◌<◌, inl, inr, List, [], ◌∷◌, ◌++◌, Some, length, map, slice_get, slice_index_or, sym, ap, subst, ◌∙◌, add-zero, arith}
-use Rattle.std.proofs.lemmas.List.{length-map, map-append}
-use Rattle.std.proofs.lemmas.Option.{slice_get-get_or, slice_get_within}
+use Rattle.std.proofs.Common.{ℕ, ◌≡◌, inl, inr, List, [], ◌∷◌, ◌++◌, Some, slice_get, sym, subst, ◌∙◌}
 use Rattle.base.specs.InOrderOnce.{Has}
 use Rattle.base.proofs.JoinedLists.{joined_list_has-append, joined_list_has-cons, joined_list_has-nil}
-use Rattle.base.proofs.SlicesAndCounts.{slice_get-append_right}
 use Rattle.lrc_script.specs.Plan.{Plan}
-use Rattle.explore.specs.declared.explored.ScriptOutcome.{ScriptOutcome}
 use Rattle.explore.specs.declared.explored.ShownOutcome.{ShownOutcome}
 use Rattle.explore.specs.declared.flat_state.FlatState.{FlatState}
 use Rattle.explore.specs.declared.found_states.FoundStates.{FoundStates}
 use Rattle.explore.specs.declared.outcome_telling.Detail.{Detail}
-use Rattle.explore.specs.Explored.{IsRunOfShownOutcome, explored_outcome, shown_outcome}
-use Rattle.explore.specs.FlatSearch.{AreFlatSearchPlaces, IsShownAtFlatSearchPlace}
+use Rattle.explore.specs.Explored.{IsRunOfShownOutcome, shown_outcome}
+use Rattle.explore.specs.FlatSearch.{IsShownAtFlatSearchPlace}
 use Rattle.explore.specs.FoundStates.{AreFoundStateMakers, AreFoundStates, found_states}
 use Rattle.explore.specs.OutcomeTelling.{AreOutcomeTellingReplies, outcome_telling_of_script}
 use Rattle.explore.proofs.MachineSteps.{machine_step_some_at}
-
--- the next outcome stands behind those that are done
-pub shown_run_next_outcome : {A : Type 0} (f : A → List (List ℕ)) (yielded rest outcomes : List ScriptOutcome) (o : ScriptOutcome) (shown : List A)
-    → map f shown ≡ map explored_outcome yielded → yielded ++ o ∷ rest ≡ outcomes
-    → slice_get (map explored_outcome outcomes) (length shown) ≡ Some (explored_outcome o)
-shown_run_next_outcome f yielded rest outcomes o shown listed came =
-    let many = sym (length-map shown f) ∙ ap (λ (xs : List (List (List ℕ))). length xs) listed in
-    let parts = ap (map explored_outcome) (sym came) ∙ map-append explored_outcome yielded (o ∷ rest) in
-    ap (λ xs. slice_get xs (length shown)) parts
-    ∙ ap (slice_get (map explored_outcome yielded ++ explored_outcome o ∷ map explored_outcome rest)) (many ∙ sym (add-zero (length (map explored_outcome yielded))))
-    ∙ slice_get-append_right (map explored_outcome yielded) (explored_outcome o ∷ map explored_outcome rest) 0
-
-module _ (s : Plan) (found : FoundStates) (of : AreFoundStates s found) (outcomes : List ScriptOutcome) (places : List ℕ)
-    (are : AreFlatSearchPlaces s (found_states found) (map explored_outcome outcomes) places) (yielded rest : List ScriptOutcome)
-    (o : ScriptOutcome) (shown : List ShownOutcome) (listed : map shown_outcome shown ≡ map explored_outcome yielded)
-    (came : yielded ++ o ∷ rest ≡ outcomes) where
-  -- and has a place
-  pub shown_run_within : length shown < length places
-  shown_run_within =
-      let long = are.long in
-      let within = slice_get_within (map explored_outcome outcomes) (length shown) (explored_outcome o)
-      (shown_run_next_outcome shown_outcome yielded rest outcomes o shown listed came) in
-      omega arith
-
-  -- at which a state shows it
-  pub shown_run_place : IsShownAtFlatSearchPlace s (found_states found) (explored_outcome o) (slice_index_or places (length shown) 0)
-  shown_run_place =
-      are.each (length shown) (slice_index_or places (length shown) 0) (explored_outcome o)
-      (shown_run_next_outcome shown_outcome yielded rest outcomes o shown listed came) (slice_get-get_or places (length shown) 0 shown_run_within)
 
 -- the events that lead to a state are a run that shows what the state does
 pub shown_run_of : (s : Plan) (d : Detail) (found : FoundStates) (x : ShownOutcome) (place : ℕ) → AreFoundStates s found

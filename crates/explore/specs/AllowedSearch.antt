@@ -1,5 +1,5 @@
 -- What a search by the rules of the memory alone knows.
-use Rattle.std.specs.Prelude.{ℕ, ◌≡◌, ◌++◌, ◌⊎◌, List, [], ◌∷◌, Some, length, map, slice_get}
+use Rattle.std.specs.Prelude.{ℕ, ◌≡◌, ◌++◌, ◌⊎◌, List, [], ◌∷◌, length, map}
 use Rattle.std.specs.Global.{Vec}
 use Rattle.base.specs.InOrderOnce.{Has, InOrder, IsOnce}
 use Rattle.journal.specs.declared.event.Event.{Event}
@@ -10,7 +10,9 @@ use Rattle.explore.specs.declared.allowed_search.AllowedSearch.{AllowedSearch}
 use Rattle.explore.specs.declared.outcome_telling.Detail.{Detail}
 use Rattle.explore.specs.AllowedRuns.{IsAllowedRunBeginning, IsAllowedRunOutcome, IsAllowedRun, IsAllowedRunShowing}
 use Rattle.explore.specs.AllowedBeginnings.{AreAllowedBeginningsPutBehind, TellsAllowedBeginning, allowed_beginning_events}
+use Rattle.explore.specs.declared.explored.ScriptOutcome.{ScriptOutcome}
 use Rattle.explore.specs.Explored.{explored_outcome}
+use Rattle.explore.specs.NotedOutcomes.{noted_outcomes}
 use Rattle.explore.specs.OutcomeTelling.{AreOutcomeTellingReplies, outcome_telling_of_script}
 
 -- some run that begins so shows this, told by this detail
@@ -31,20 +33,11 @@ pub record AreAllowedSearchListsApart (seen pending : List (List Event)) : Type 
 
 -- what was found
 abbrev pub allowed_search_found : AllowedSearch → List (List (List ℕ))
-allowed_search_found x = map explored_outcome x.outcomes.keys
+allowed_search_found x = noted_outcomes x.outcomes.entries
 
--- these are allowed runs that show these outcomes, one of each
-pub record AreAllowedSearchRuns (s : Plan) (d : Detail) (outcomes : List (List (List ℕ))) (runs : List (Vec Event)) : Type 0 where
-  pub long : length runs ≡ length outcomes
-  pub each : (i : ℕ) (replies : List (List ℕ)) (run : Vec Event) → slice_get outcomes i ≡ Some replies → slice_get runs i ≡ Some run
-      → IsAllowedRunShowing s d run.items replies
-
--- this is one of these outcomes, or put at their end, with this run
-abbrev pub IsNotedInAllowedSearch : List (List (List ℕ)) → List (List (List ℕ)) → List (Vec Event) → List (Vec Event) → List (List ℕ)
-    → List Event → Type 0
-IsNotedInAllowedSearch old new before after x events =
-    (Has old x × (new ≡ old) × (after ≡ before))
-    ⊎ ((run : Vec Event) × (run.items ≡ events) × (¬ Has old x) × (new ≡ old ++ x ∷ []) × (after ≡ before ++ run ∷ []))
+-- of each of these outcomes its run is allowed, and shows it
+abbrev pub AreAllowedSearchRuns : Plan → Detail → List (ScriptOutcome × Vec Event) → Type 0
+AreAllowedSearchRuns s d outcomes = (e : ScriptOutcome × Vec Event) → Has outcomes e → IsAllowedRunShowing s d e.1.items (explored_outcome e.0)
 
 -- this was found, or can still be by an pending beginning
 abbrev pub IsNotLostByAllowedSearch : Plan → Detail → AllowedSearch → List (List ℕ) → Type 0
@@ -58,7 +51,7 @@ pub record IsAllowedSearched (s : Plan) (d : Detail) (n : ℕ) (x : AllowedSearc
   pub seen_each : (g : List Event) → Has seen g → IsAllowedRunBeginning s g
   pub apart : AreAllowedSearchListsApart seen (map allowed_beginning_events x.pending.items)
   pub known : (b : AllowedBeginning) → Has x.pending.items b → TellsAllowedBeginning s b
-  pub runs : AreAllowedSearchRuns s d (allowed_search_found x) x.runs.items
+  pub runs : AreAllowedSearchRuns s d x.outcomes.entries
   pub once : IsOnce (allowed_search_found x)
   pub none_lost : (replies : List (List ℕ)) → IsAllowedRunOutcome s d replies → IsNotLostByAllowedSearch s d x replies
 
@@ -68,7 +61,6 @@ pub record IsAllowedSearchFollowed (s : Plan) (d : Detail) (g : List Event) (x y
   pub events_once : IsOnce events
   pub lengthened : AreAllowedBeginningsPutBehind s g events x.pending.items y.pending.items
   pub outcomes : y.outcomes ≡ x.outcomes
-  pub runs : y.runs.items ≡ x.runs.items
   pub none_lost : (replies : List (List ℕ)) → ¬ Follows s g → AllowedSearchCanShow s d g replies
       → (e : Event) × Has events e × AllowedSearchCanShow s d (g ++ e ∷ []) replies
 
@@ -80,7 +72,7 @@ pub record IsAllowedSearchStep (s : Plan) (d : Detail) (g : List Event) (x y : A
   pub keeps : (replies : List (List ℕ)) → Has (allowed_search_found x) replies → Has (allowed_search_found y) replies
   pub each : (replies : List (List ℕ)) → Has (allowed_search_found y) replies
       → Has (allowed_search_found x) replies ⊎ (IsAllowedRun s g × AreOutcomeTellingReplies s (outcome_telling_of_script s d) g replies)
-  pub runs : AreAllowedSearchRuns s d (allowed_search_found x) x.runs.items → AreAllowedSearchRuns s d (allowed_search_found y) y.runs.items
+  pub runs : AreAllowedSearchRuns s d x.outcomes.entries → AreAllowedSearchRuns s d y.outcomes.entries
   pub once : IsOnce (allowed_search_found x) → IsOnce (allowed_search_found y)
   pub none_lost : (replies : List (List ℕ)) → AllowedSearchCanShow s d g replies → Has (allowed_search_found y) replies
       ⊎ ((e : Event) × Has events e × AllowedSearchCanShow s d (g ++ e ∷ []) replies)

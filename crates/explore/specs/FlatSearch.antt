@@ -1,5 +1,5 @@
 -- What a search knows after it has looked at some of the states that it has found.
-use Rattle.std.specs.Prelude.{ℕ, ◌≡◌, ◌≢◌, ◌+◌, ◌<◌, ◌≤◌, ◌↔◌, ◌⊎◌, ⊤, Bool, false, IsTrue, MatchOption, Option, Some, None, List, [], ◌∷◌, ◌++◌, length, map, slice_get}
+use Rattle.std.specs.Prelude.{ℕ, ◌≡◌, ◌≢◌, ◌+◌, ◌<◌, ◌≤◌, ◌↔◌, ◌⊎◌, ⊤, Bool, false, IsTrue, MatchOption, Option, Some, None, List, ◌++◌, length, slice_get}
 use Rattle.std.specs.Global.{Vec}
 use Rattle.base.specs.InOrderOnce.{Has, IsOnce}
 use Rattle.journal.specs.declared.event.Event.{Event}
@@ -19,7 +19,9 @@ use Rattle.explore.specs.declared.explored.Hanging.{Hanging}
 use Rattle.explore.specs.declared.explored.Hanging.TheVariants as hanging
 use Rattle.explore.specs.declared.explored.Verdict.{Verdict}
 use Rattle.explore.specs.declared.explored.Verdict.TheVariants as verdict
+use Rattle.explore.specs.declared.explored.ScriptOutcome.{ScriptOutcome}
 use Rattle.explore.specs.Explored.{explored_outcome}
+use Rattle.explore.specs.NotedOutcomes.{noted_outcomes}
 use Rattle.explore.specs.FreeChoice.{IsFreeForChoice}
 use Rattle.explore.specs.FoundStates.{AreFoundStates, found_states}
 use Rattle.explore.specs.FreeRun.{IsFoundByFreeRun}
@@ -95,11 +97,9 @@ pub record IsShownAtFlatSearchPlace (s : Plan) (states : List FlatState) (replie
   pub shows : (m : FlatState) (g : List Event) → slice_get states place ≡ Some m → MachineKnows s g m
       → Follows s g × AreOutcomeTellingReplies s m.telling g replies
 
--- these are places of states that show these outcomes, one of each
-pub record AreFlatSearchPlaces (s : Plan) (states : List FlatState) (outcomes : List (List (List ℕ))) (places : List ℕ) : Type 0 where
-  pub long : length places ≡ length outcomes
-  pub each : (i place : ℕ) (replies : List (List ℕ)) → slice_get outcomes i ≡ Some replies → slice_get places i ≡ Some place
-      → IsShownAtFlatSearchPlace s states replies place
+-- of each of these outcomes the state at its place shows it
+abbrev pub AreFlatSearchPlaces : Plan → List FlatState → List (ScriptOutcome × ℕ) → Type 0
+AreFlatSearchPlaces s states outcomes = (e : ScriptOutcome × ℕ) → Has outcomes e → IsShownAtFlatSearchPlace s states (explored_outcome e.0) e.1
 
 -- none of the first n states is a hang
 abbrev pub FlatSearchHasNoHang : Plan → List FlatState → ℕ → Type 0
@@ -113,8 +113,8 @@ pub record FlatSearchHasHang (s : Plan) (states : List FlatState) (place : ℕ) 
 
 -- what is noted of the first n states: the outcomes, with a place of each, and a hang, if there is one
 pub record AreFlatSearchNotes (s : Plan) (x : Search) (n : ℕ) : Type 0 where
-  pub shown : AreFlatSearchOutcomes s (found_states x.found) n (map explored_outcome x.outcomes.keys)
-  pub places : AreFlatSearchPlaces s (found_states x.found) (map explored_outcome x.outcomes.keys) x.shown_at.items
+  pub shown : AreFlatSearchOutcomes s (found_states x.found) n (noted_outcomes x.outcomes.entries)
+  pub places : AreFlatSearchPlaces s (found_states x.found) x.outcomes.entries
   pub hang : MatchOption x.hang (FlatSearchHasNoHang s (found_states x.found) n) (FlatSearchHasHang s (found_states x.found))
 
 -- the state at this place, after which nothing may come next, may be noted
@@ -167,12 +167,3 @@ IsFlatSearchVerdictOpen o through verdict.Undecided = (o ≡ None) × (through �
 abbrev pub IsFlatSearchHangingOpen : Bool → Hanging → Type 0
 IsFlatSearchHangingOpen through hanging.Undecided = through ≡ false
 IsFlatSearchHangingOpen through _ = ⊤
-
--- this is one of these, or put at their end
-abbrev pub IsAmongFlatSearched : List (List (List ℕ)) → List (List (List ℕ)) → List (List ℕ) → Type 0
-IsAmongFlatSearched old new x = (Has old x × (new ≡ old)) ⊎ ((¬ Has old x) × (new ≡ old ++ x ∷ []))
-
--- the same, with its place put at the end of these
-abbrev pub IsNotedInFlatSearch : List (List (List ℕ)) → List (List (List ℕ)) → List ℕ → List ℕ → List (List ℕ) → ℕ → Type 0
-IsNotedInFlatSearch old new before after x place =
-    (Has old x × (new ≡ old) × (after ≡ before)) ⊎ ((¬ Has old x) × (new ≡ old ++ x ∷ []) × (after ≡ before ++ place ∷ []))

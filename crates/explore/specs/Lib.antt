@@ -11,6 +11,7 @@ pub mod AllowedUntilSearch
 pub mod StateHashes
 pub mod StateRoom
 pub mod Explored
+pub mod NotedOutcomes
 pub mod WaitCodes
 pub mod KeptWaiting
 pub mod Machines

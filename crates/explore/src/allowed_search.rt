@@ -6,7 +6,8 @@ ghost use Rattle.explore.specs.AllowedRuns.{AreAllowedRunOutcomes, IsAllowedRunS
 ghost use Rattle.explore.specs.declared.showing.ShownRun.{ShownRun as AShownRun};
 ghost use Rattle.explore.specs.Explored.{explored_outcome};
 ghost use Rattle.explore.specs.AllowedBeginnings.{TellsAllowedBeginning, allowed_beginning_events};
-ghost use Rattle.explore.specs.AllowedSearch.{AreAllowedSearchRuns, IsAllowedSearchFollowed, IsAllowedSearchStep, IsAllowedSearched, IsNotedInAllowedSearch, allowed_search_found};
+ghost use Rattle.explore.specs.AllowedSearch.{AreAllowedSearchRuns, IsAllowedSearchFollowed, IsAllowedSearchStep, IsAllowedSearched, allowed_search_found};
+ghost use Rattle.explore.specs.NotedOutcomes.{IsNotedOutcome, noted_outcomes};
 ghost use Rattle.explore.specs.Machines.{AreLawfulMachineSteps};
 ghost use Rattle.explore.specs.declared.outcome_telling.Detail.{Detail as ADetail};
 
@@ -19,58 +20,48 @@ use crate::explored::ScriptOutcome;
 use crate::outcome_telling::{Detail, OutcomeTelling};
 use crate::prefixes::{ScriptCall, script_calls_of_all};
 use crate::progress::Progress;
-use crate::search::search_outcomes_listed;
 use crate::showing::ShownRun;
-use indexmap::IndexSet;
+use indexmap::IndexMap;
 use journal::Event;
 use lrc_script::script::Script;
 use std::alloc::{AllocError, Global};
-use std::mem;
 
 /// What a search by the rules has found so far.
 #[derive(Drop)]
 pub struct AllowedSearch {
     /// The beginnings that are still to be looked at, the next one last.
     pub pending: Vec<AllowedBeginning>,
-    /// What the whole runs show that were met.
-    outcomes: IndexSet<ScriptOutcome>,
-    /// Of each of these the events of a run that shows it.
-    runs: Vec<Vec<Event>>,
+    /// What the whole runs show that were met, each outcome with the events of a run that shows it.
+    outcomes: IndexMap<ScriptOutcome, Vec<Event>>,
 }
 
 /// Adds an outcome with the run that shows it, if it is a new one. The only error is running out of memory.
 fn note_allowed_outcome(
     alloc: Global,
-    outcomes: &mut IndexSet<ScriptOutcome>,
-    runs: &mut Vec<Vec<Event>>,
+    outcomes: &mut IndexMap<ScriptOutcome, Vec<Event>>,
     outcome: ScriptOutcome,
     events: &[Event],
 ) -> Result<(), AllocError>
-    ensures { OnOk result (IsNotedInAllowedSearch (map explored_outcome outcomes.old.keys) (map explored_outcome outcomes.new.keys)
-        runs.old.items runs.new.items (explored_outcome outcome) events.now) }
+    ensures { OnOk result (IsNotedOutcome outcomes.old.entries outcomes.new.entries (explored_outcome outcome) (λ run. run.items ≡ events.now)) }
 {
-    let (_, is_new) = outcomes.insert_full(outcome)?;
-    if is_new {
+    if !outcomes.contains_key(&outcome) {
         let run = Vec::from_slice(alloc, events)?;
-        runs.push(run)?;
+        outcomes.insert(outcome, run)?;
     }
     Ok(())
 }
 
-/// These outcomes, each with its run. The only error is running out of memory.
+/// These outcomes as a list, each with its run. The only error is running out of memory.
 fn allowed_outcomes_with_runs(
     alloc: Global,
-    outcomes: Vec<ScriptOutcome>,
-    runs: &[Vec<Event>],
+    outcomes: IndexMap<ScriptOutcome, Vec<Event>>,
 ) -> Result<Vec<ShownRun>, AllocError>
-    requires { (s : Plan) × (d : ADetail) × AreAllowedSearchRuns s d (map explored_outcome outcomes.items) runs.now }
-    ensures listed { IfOk result (λ v. map shown_run_outcome v.items ≡ map explored_outcome outcomes.items) }
-    ensures runs { IfOk result (λ v. (s : Plan) (d : ADetail) → AreAllowedSearchRuns s d (map explored_outcome outcomes.items) runs.now
+    ensures listed { IfOk result (λ v. map shown_run_outcome v.items ≡ noted_outcomes outcomes.entries) }
+    ensures runs { IfOk result (λ v. (s : Plan) (d : ADetail) → AreAllowedSearchRuns s d outcomes.entries
         → (x : AShownRun) → Has v.items x → IsAllowedRunShowing s d x.events.items (shown_run_outcome x)) }
 {
     let mut shown = Vec::with_capacity(alloc, outcomes.len())?;
-    for outcome in outcomes {
-        let events = Vec::from_slice(alloc, &runs[shown.len()])?;
+    for (outcome, events) in outcomes {
         shown.push(ShownRun { events, outcome })?;
     }
     Ok(shown)
@@ -86,8 +77,7 @@ impl AllowedSearch {
         pending.push(AllowedBeginning::new(alloc))?;
         Ok(AllowedSearch {
             pending,
-            outcomes: IndexSet::new(alloc),
-            runs: Vec::new(alloc),
+            outcomes: IndexMap::new(alloc),
         })
     }
 
@@ -128,7 +118,7 @@ impl AllowedSearch {
             let replies = beginning.replies(alloc, telling, steps)?;
             let outcome = ScriptOutcome { replies };
             let events = beginning.events();
-            return note_allowed_outcome(alloc, &mut self.outcomes, &mut self.runs, outcome, events);
+            return note_allowed_outcome(alloc, &mut self.outcomes, outcome, events);
         }
         self.follow(alloc, script, steps, beginning)
     }
@@ -185,11 +175,9 @@ pub fn allowed_outcomes<P: Progress>(
     let mut search = AllowedSearch::new(alloc)?;
     let beginnings = search.look_at_all(alloc, script, &steps, detail, most, progress)?;
     let are_all = search.pending.is_empty();
-    let outcomes = mem::replace(&mut search.outcomes, IndexSet::new(alloc));
-    let outcomes = search_outcomes_listed(alloc, outcomes)?;
     Ok(AllowedOutcomes {
         beginnings,
-        outcomes: allowed_outcomes_with_runs(alloc, outcomes, &search.runs)?,
+        outcomes: allowed_outcomes_with_runs(alloc, search.outcomes)?,
         are_all,
     })
 }

@@ -17,8 +17,9 @@ ghost use Rattle.explore.specs.Racing.{AreRacing};
 ghost use Rattle.explore.specs.StateRoom.{state_room_at_most};
 ghost use Rattle.explore.specs.declared.outcome_telling.Detail.{Detail as ADetail};
 ghost use Rattle.explore.specs.OutcomeTelling.{outcome_telling_of_script};
-ghost use Rattle.explore.specs.FlatSearch.{FlatSearchHasHang, IsAmongFlatSearched, IsFlatSearchedAt, IsFlatSearchedThrough, AreFlatSearchNotes, FlatSearchedUpTo, HasMoreToFlatSearch};
-ghost use Rattle.explore.specs.FlatSearch.{AreFlatSearchPlaces, IsFlatSearchHangingOpen, IsFlatSearchVerdictOpen, IsFlatSearched, IsNotedInFlatSearch, MayNoteInFlatSearch};
+ghost use Rattle.explore.specs.FlatSearch.{FlatSearchHasHang, IsFlatSearchedAt, IsFlatSearchedThrough, AreFlatSearchNotes, FlatSearchedUpTo, HasMoreToFlatSearch};
+ghost use Rattle.explore.specs.FlatSearch.{AreFlatSearchPlaces, IsFlatSearchHangingOpen, IsFlatSearchVerdictOpen, IsFlatSearched, MayNoteInFlatSearch};
+ghost use Rattle.explore.specs.NotedOutcomes.{IsNotedOutcome, noted_outcomes};
 
 use crate::explored::{Explored, Hang, Hanging, ScriptOutcome, ShownOutcome, Verdict};
 use crate::flat_state::FlatState;
@@ -33,36 +34,30 @@ use crate::racing_history::racing_history;
 use crate::state_room::state_room_at_most;
 use crate::text_facts::{TextFacts, text_facts};
 use crate::whole_run::never_gets_stuck_by_text;
-use indexmap::IndexSet;
+use indexmap::IndexMap;
 use lrc_script::script::Script;
 use std::alloc::{AllocError, Global};
-use std::mem;
 
 /// What a search has found so far.
 #[derive(Drop)]
 pub struct Search {
     pub(crate) found: FoundStates,
-    /// What the whole runs among them show.
-    outcomes: IndexSet<ScriptOutcome>,
-    /// Of each of these the place of a state that shows it.
-    shown_at: Vec<usize>,
+    /// What the whole runs among them show, each outcome with the place of a state that shows it.
+    outcomes: IndexMap<ScriptOutcome, usize>,
     /// The place of a state that hangs.
     hang: Option<usize>,
 }
 
 /// Adds an outcome with the place of a state that shows it, if it is a new one. The only error is running out of memory.
 fn note_search_outcome(
-    outcomes: &mut IndexSet<ScriptOutcome>,
-    shown_at: &mut Vec<usize>,
+    outcomes: &mut IndexMap<ScriptOutcome, usize>,
     outcome: ScriptOutcome,
     place: usize,
 ) -> Result<(), AllocError>
-    ensures { OnOk result (IsNotedInFlatSearch (map explored_outcome outcomes.old.keys) (map explored_outcome outcomes.new.keys)
-        shown_at.old.items shown_at.new.items (explored_outcome outcome) place) }
+    ensures { OnOk result (IsNotedOutcome outcomes.old.entries outcomes.new.entries (explored_outcome outcome) (λ shown_at. shown_at ≡ place)) }
 {
-    let (_, is_new) = outcomes.insert_full(outcome)?;
-    if is_new {
-        shown_at.push(place)?;
+    if !outcomes.contains_key(&outcome) {
+        outcomes.insert(outcome, place)?;
     }
     Ok(())
 }
@@ -102,33 +97,21 @@ fn never_gets_stuck(
     }
 }
 
-/// The outcomes as a list. The only error is running out of memory.
-pub(crate) fn search_outcomes_listed(
-    alloc: Global,
-    outcomes: IndexSet<ScriptOutcome>,
-) -> Result<Vec<ScriptOutcome>, AllocError>
-    ensures { IfOk result (λ v. v.items ≡ outcomes.keys) }
-{
-    outcomes.into_iter().collect(alloc)
-}
-
 /// These outcomes, each with a run that comes to the state at its place. The only error is running out of memory.
 fn search_outcomes_with_runs(
     alloc: Global,
     found: &FoundStates,
-    outcomes: Vec<ScriptOutcome>,
-    shown_at: &[usize],
+    outcomes: IndexMap<ScriptOutcome, usize>,
 ) -> Result<Vec<ShownOutcome>, AllocError>
-    requires { (s : Plan) × IsLawful s × AreFoundStates s found.now
-        × AreFlatSearchPlaces s (found_states found.now) (map explored_outcome outcomes.items) shown_at.now }
-    ensures listed { IfOk result (λ v. map shown_outcome v.items ≡ map explored_outcome outcomes.items) }
+    requires { (s : Plan) × IsLawful s × AreFoundStates s found.now × AreFlatSearchPlaces s (found_states found.now) outcomes.entries }
+    ensures listed { IfOk result (λ v. map shown_outcome v.items ≡ noted_outcomes outcomes.entries) }
     ensures runs { IfOk result (λ v. (s : Plan) (d : ADetail) → AreFoundStates s found.now
-        → AreFlatSearchPlaces s (found_states found.now) (map explored_outcome outcomes.items) shown_at.now
+        → AreFlatSearchPlaces s (found_states found.now) outcomes.entries
         → found.now.first.telling ≡ outcome_telling_of_script s d → (x : AShownOutcome) → Has v.items x → IsRunOfShownOutcome s d x) }
 {
     let mut shown = Vec::with_capacity(alloc, outcomes.len())?;
-    for outcome in outcomes {
-        let makers = found.makers_to(alloc, shown_at[shown.len()])?;
+    for (outcome, place) in outcomes {
+        let makers = found.makers_to(alloc, place)?;
         shown.push(ShownOutcome { outcome, makers })?;
     }
     Ok(shown)
@@ -149,8 +132,7 @@ impl Search {
     {
         Ok(Search {
             found: FoundStates::new(alloc, FlatState::new(alloc, script, detail)?, steps)?,
-            outcomes: IndexSet::new(alloc),
-            shown_at: Vec::new(alloc),
+            outcomes: IndexMap::new(alloc),
             hang: None,
         })
     }
@@ -165,7 +147,7 @@ impl Search {
         if state.is_whole(steps) {
             let replies = state.replies()?;
             let outcome = ScriptOutcome { replies };
-            return note_search_outcome(&mut self.outcomes, &mut self.shown_at, outcome, place);
+            return note_search_outcome(&mut self.outcomes, outcome, place);
         }
         self.hang = Some(self.hang.unwrap_or(place));
         Ok(())
@@ -307,9 +289,9 @@ impl Search {
         }
     }
 
-    /// Looks at all states of the script as `explore` does, from the first one on; the outcomes are gone then.
+    /// Looks at all states of the script as `explore` does, from the first one on.
     fn answer<P: Progress>(
-        &mut self,
+        mut self,
         alloc: Global,
         script: &Script,
         steps: &[Vec<ScriptCall>],
@@ -321,9 +303,9 @@ impl Search {
         requires steps { AreLawfulMachineSteps (plan_of script.now) steps.now }
         requires long { length facts.now.guarded.items ≡ plan_addresses (plan_of script.now) }
         requires facts { AreFreeChoiceTextFacts steps.now facts.now }
-        requires searched { FlatSearchedUpTo (plan_of script.now) self.old steps.now 0 }
-        requires few { length (found_states self.old.found) ≤ 1 }
-        requires telling { self.old.found.first.telling ≡ outcome_telling_of_script (plan_of script.now) detail }
+        requires searched { FlatSearchedUpTo (plan_of script.now) self steps.now 0 }
+        requires few { length (found_states self.found) ≤ 1 }
+        requires telling { self.found.first.telling ≡ outcome_telling_of_script (plan_of script.now) detail }
         ensures { IfOk result (IsExplored (plan_of script.now) detail most) }
     {
         let most = state_room_at_most(script, detail, most);
@@ -334,9 +316,12 @@ impl Search {
         let verdict = self.verdict(alloc, script, steps, neighbours, race_free)?;
         let never = never_gets_stuck(alloc, script, steps, neighbours, through)?;
         let hanging = self.hanging(alloc, script, steps, through, never)?;
-        let outcomes = mem::replace(&mut self.outcomes, IndexSet::new(alloc));
-        let outcomes = search_outcomes_listed(alloc, outcomes)?;
-        let outcomes = search_outcomes_with_runs(alloc, &self.found, outcomes, &self.shown_at)?;
+        let Search {
+            found,
+            outcomes,
+            ..
+        } = self;
+        let outcomes = search_outcomes_with_runs(alloc, &found, outcomes)?;
         Ok(Explored {
             states,
             verdict,
@@ -360,7 +345,7 @@ fn search_steps<P: Progress>(
     ensures { IfOk result (IsExplored (plan_of script.now) detail most) }
 {
     let facts = text_facts(alloc, script, steps)?;
-    let mut search = Search::new(alloc, script, steps, detail)?;
+    let search = Search::new(alloc, script, steps, detail)?;
     search.answer(alloc, script, steps, &facts, detail, most, progress)
 }
 

@@ -7,7 +7,7 @@ use Rattle.std.proofs.lemmas.List.{map-append}
 use Rattle.std.proofs.lemmas.Option.{none-some, same_Some, slice_get_within}
 use Rattle.base.specs.InOrderOnce.{Has, InOrder, IsOnce}
 use Rattle.base.proofs.JoinedLists.{joined_list_has-append, joined_list_has-cons, joined_list_has-nil, joined_list_has-map, joined_list_in_order-append, joined_list_in_order-nil, joined_list_in_order_single}
-use Rattle.base.proofs.SlicesAndCounts.{slice_get-append_left, slice_get-last, slice_push_cases}
+use Rattle.base.proofs.SlicesAndCounts.{slice_get-append_left, slice_get-last}
 use Rattle.journal.specs.declared.event.Event.{Event}
 use Rattle.journal.specs.declared.event.Kind.{Kind}
 use Rattle.lrc_script.specs.Lawful.{IsLawful}
@@ -22,12 +22,14 @@ use Rattle.explore.specs.declared.outcome_telling.OutcomeTelling.{OutcomeTelling
 use Rattle.explore.specs.AllowedRuns.{IsAllowedRunShowing, shown_run_outcome, AreAllowedRunOutcomes, HasAllowedRunBeginnings, IsAllowedRunBeginning, IsAllowedRunOutcome, IsAllowedRun}
 use Rattle.explore.specs.AllowedBeginnings.{AreAllowedBeginningCallsFollowed, AreAllowedBeginningCalls, AreAllowedBeginningCallsPlain, IsAllowedBeginningChoice, IsAllowedBeginningEventChosen, AllowedBeginningMayCall, TellsAllowedBeginning, allowed_beginning_events}
 use Rattle.explore.specs.AllowedRoom.{allowed_room_at_most}
-use Rattle.explore.specs.AllowedSearch.{AreAllowedSearchListsApart, AreAllowedSearchRuns, IsNotedInAllowedSearch, AllowedSearchCanShow, IsAllowedSearchFollowed, IsAllowedSearchFront, IsAllowedSearchStep, IsAllowedSearched, IsNotLostByAllowedSearch, allowed_search_found}
+use Rattle.explore.specs.AllowedSearch.{AreAllowedSearchListsApart, AreAllowedSearchRuns, AllowedSearchCanShow, IsAllowedSearchFollowed, IsAllowedSearchFront, IsAllowedSearchStep, IsAllowedSearched, IsNotLostByAllowedSearch, allowed_search_found}
+use Rattle.explore.specs.declared.explored.ScriptOutcome.{ScriptOutcome}
 use Rattle.explore.specs.Explored.{explored_outcome}
+use Rattle.explore.specs.NotedOutcomes.{IsNotedOutcome, noted_outcomes}
 use Rattle.explore.specs.OutcomeTelling.{AreOutcomeTellingReplies, outcome_telling_of_script, outcome_telling_replies, outcome_telling_steps}
-use Rattle.explore.specs.FlatSearch.{IsAmongFlatSearched}
 use Rattle.explore.specs.Prefixes.ScriptCalls.{script_calls_of_section, script_calls_shown_by}
 use Rattle.explore.proofs.MachineSteps.{machine_step_some_at}
+use Rattle.explore.proofs.NotedOutcomes.{IsAmongNotedOutcomes, noted_outcome_among, noted_outcome_each}
 use Rattle.explore.proofs.prefixes.SectionCalls.{section_calls_follows_length}
 use Rattle.explore.proofs.ToldReplies.{told_replies_same_rows}
 use Rattle.explore.proofs.allowed_runs.Commuting.{commuting_all_show, commuting_one_shows}
@@ -193,9 +195,9 @@ module _ (seen rest : List (List Event)) (g : List Event) (events : List Event) 
   }
 
 -- before the first event
-pub rules_search_start : (s : Plan) (detail : Detail) (b : AllowedBeginning) (x : AllowedSearch) → x.pending.items ≡ b ∷ [] → x.outcomes.keys ≡ []
-    → x.runs.items ≡ [] → TellsAllowedBeginning s b → allowed_beginning_events b ≡ [] → IsAllowedSearched s detail 0 x
-rules_search_start s detail b x is none no_run known empty = record {
+pub rules_search_start : (s : Plan) (detail : Detail) (b : AllowedBeginning) (x : AllowedSearch) → x.pending.items ≡ b ∷ [] → x.outcomes.entries ≡ []
+    → TellsAllowedBeginning s b → allowed_beginning_events b ≡ [] → IsAllowedSearched s detail 0 x
+rules_search_start s detail b x is none known empty = record {
   seen = [];
   many = refl;
   seen_each = λ g has. absurd (joined_list_has-nil g has);
@@ -208,11 +210,8 @@ rules_search_start s detail b x is none no_run known empty = record {
     | inl own ↦ subst (TellsAllowedBeginning s) own known
     | inr nothing ↦ absurd (joined_list_has-nil other nothing)
   ];
-  runs =
-      subst (λ ks. AreAllowedSearchRuns s detail (map explored_outcome ks) x.runs.items) (sym none)
-      (subst (AreAllowedSearchRuns s detail []) (sym no_run)
-      (record { long = refl; each = λ i replies run at_outcome. absurd (none-some replies at_outcome) }));
-  once = subst (λ ks. IsOnce (map explored_outcome ks)) (sym none) (joined_list_in_order-nil (λ (c d : List (List ℕ)). c ≢ d));
+  runs = subst (AreAllowedSearchRuns s detail) (sym none) (λ e has. absurd (joined_list_has-nil e has));
+  once = subst (λ (es : List (ScriptOutcome × Vec Event)). IsOnce (noted_outcomes es)) (sym none) (joined_list_in_order-nil (λ (c d : List (List ℕ)). c ≢ d));
   none_lost = λ replies outcome. inr (
     b,
     subst (λ (bs : List AllowedBeginning). Has bs b) (sym is) (0, refl),
@@ -227,8 +226,8 @@ rules_search_start s detail b x is none no_run known empty = record {
 -- one more beginning is looked at
 pub rules_search_next : (s : Plan) (detail : Detail) (n : ℕ) (b : AllowedBeginning) (rest : List AllowedBeginning) (x y z : AllowedSearch)
     → IsAllowedSearched s detail n x → x.pending.items ≡ rest ++ b ∷ [] → y.pending.items ≡ rest → y.outcomes ≡ x.outcomes
-    → y.runs.items ≡ x.runs.items → IsAllowedSearchStep s detail (allowed_beginning_events b) y z → IsAllowedSearched s detail (n + 1) z
-rules_search_next s detail n b rest x y z old was now same same_runs looked = record {
+    → IsAllowedSearchStep s detail (allowed_beginning_events b) y z → IsAllowedSearched s detail (n + 1) z
+rules_search_next s detail n b rest x y z old was now same looked = record {
   seen = old.seen ++ (allowed_beginning_events b) ∷ [];
   many = (let one = length-append old.seen ((allowed_beginning_events b) ∷ []) in let count = old.many in omega (arith, one, count));
   seen_each = λ h has. elim ((joined_list_has-append old.seen ((allowed_beginning_events b) ∷ []) h).0 has) [
@@ -245,10 +244,8 @@ rules_search_next s detail n b rest x y z old was now same same_runs looked = re
     | inl before ↦ old.known other (subst (λ (bs : List AllowedBeginning). Has bs other) (sym was) ((joined_list_has-append rest (b ∷ []) other).1 (inl before)))
     | inr more ↦ looked.lengthened.known other more
   ];
-  runs = looked.runs
-      (subst (AreAllowedSearchRuns s detail (allowed_search_found y)) (sym same_runs)
-      (subst (λ o. AreAllowedSearchRuns s detail (map explored_outcome o.keys) x.runs.items) (sym same) old.runs));
-  once = looked.once (subst (λ ks. IsOnce (map explored_outcome ks)) (sym (ap (λ o. o.keys) same)) old.once);
+  runs = looked.runs (subst (λ o. AreAllowedSearchRuns s detail o.entries) (sym same) old.runs);
+  once = looked.once (subst (λ o. IsOnce (noted_outcomes o.entries)) (sym same) old.once);
   none_lost = λ replies outcome. elim (old.none_lost replies outcome) [
     | inl found ↦ inl (looked.keeps replies (found_after replies found))
     | inr waits ↦ still replies waits.0 waits.1 waits.2
@@ -269,7 +266,7 @@ rules_search_next s detail n b rest x y z old was now same same_runs looked = re
         ∙ ap (λ (es : List (List Event)). map allowed_beginning_events rest ++ es) looked.lengthened.are
 
     found_after : (replies : List (List ℕ)) → Has (allowed_search_found x) replies → Has (allowed_search_found y) replies
-    found_after replies has = subst (λ o. Has (map explored_outcome o.keys) replies) (sym same) has
+    found_after replies has = subst (λ o. Has (noted_outcomes o.entries) replies) (sym same) has
 
     still : (replies : List (List ℕ)) (other : AllowedBeginning) → Has x.pending.items other → AllowedSearchCanShow s detail (allowed_beginning_events other) replies
         → IsNotLostByAllowedSearch s detail z replies
@@ -299,19 +296,17 @@ rules_search_next s detail n b rest x y z old was now same same_runs looked = re
 
 -- the same of a search that has the same
 pub rules_search_same : (s : Plan) (detail : Detail) (n : ℕ) (x y : AllowedSearch) → y.pending.items ≡ x.pending.items → y.outcomes ≡ x.outcomes
-    → y.runs.items ≡ x.runs.items → IsAllowedSearched s detail n x → IsAllowedSearched s detail n y
-rules_search_same s detail n x y pending outcomes runs old = record {
+    → IsAllowedSearched s detail n x → IsAllowedSearched s detail n y
+rules_search_same s detail n x y pending outcomes old = record {
   seen = old.seen;
   many = old.many;
   seen_each = old.seen_each;
   apart = subst (λ (bs : List AllowedBeginning). AreAllowedSearchListsApart old.seen (map allowed_beginning_events bs)) (sym pending) old.apart;
   known = λ b has. old.known b (subst (λ (bs : List AllowedBeginning). Has bs b) pending has);
-  runs =
-      subst (λ o. AreAllowedSearchRuns s detail (map explored_outcome o.keys) y.runs.items) (sym outcomes)
-      (subst (AreAllowedSearchRuns s detail (allowed_search_found x)) (sym runs) old.runs);
-  once = subst (λ o. IsOnce (map explored_outcome o.keys)) (sym outcomes) old.once;
+  runs = subst (λ o. AreAllowedSearchRuns s detail o.entries) (sym outcomes) old.runs;
+  once = subst (λ o. IsOnce (noted_outcomes o.entries)) (sym outcomes) old.once;
   none_lost = λ r outcome. elim (old.none_lost r outcome) [
-    | inl found ↦ inl (subst (λ o. Has (map explored_outcome o.keys) r) (sym outcomes) found)
+    | inl found ↦ inl (subst (λ o. Has (noted_outcomes o.entries) r) (sym outcomes) found)
     | inr waits ↦ inr (waits.0, subst (λ (bs : List AllowedBeginning). Has bs waits.0) (sym pending) waits.1, waits.2)
   ];
 }
@@ -384,39 +379,18 @@ rules_search_whole_shows s detail g replies r lawful follows are shows = go show
         (next_allowed_of_front s (g ++ e ∷ []) w (subst (IsAllowedRunBeginning s) (sym (append_assoc g (e ∷ []) w)) run.beginning)))
 
 -- with one run more, or none
-rules_search_runs_next : (s : Plan) (detail : Detail) (old new : List (List (List ℕ))) (before after : List (Vec Event)) (replies : List (List ℕ))
-    (g : List Event) → IsAllowedRunShowing s detail g replies → IsNotedInAllowedSearch old new before after replies g
-    → AreAllowedSearchRuns s detail old before → AreAllowedSearchRuns s detail new after
-rules_search_runs_next s detail old new before after replies g own (inl was) of =
-    subst (λ os. AreAllowedSearchRuns s detail os after) (sym was.1) (subst (AreAllowedSearchRuns s detail old) (sym was.2) of)
-rules_search_runs_next s detail old new before after replies g own (inr pushed) of =
-    subst (λ os. AreAllowedSearchRuns s detail os after) (sym pushed.3)
-    (subst (AreAllowedSearchRuns s detail (old ++ replies ∷ [])) (sym pushed.4) (record {
-      long = (
-          let long = of.long in
-          let outcomes = length-append old (replies ∷ []) in
-          let runs = length-append before (pushed.0 ∷ []) in
-          omega arith);
-      each = λ i r run at_outcome at_run. (let long = of.long in
-          elim (slice_push_cases old replies i r at_outcome) [
-            | inl earlier ↦ elim (slice_push_cases before pushed.0 i run at_run) [
-              | inl there ↦ of.each i r run earlier.1 there.1
-              | inr now ↦ absurd (let lt = earlier.0 in let is = now.0 in omega arith)
-            ]
-            | inr last ↦ elim (slice_push_cases before pushed.0 i run at_run) [
-              | inl there ↦ absurd (let lt = there.0 in let is = last.0 in omega arith)
-              | inr now ↦
-                  subst (λ (v : Vec Event). IsAllowedRunShowing s detail v.items r) now.1
-                  (subst (λ h. IsAllowedRunShowing s detail h r) (sym pushed.1)
-                  (subst (IsAllowedRunShowing s detail g) last.1 own))
-            ]
-          ]);
-    }))
+rules_search_runs_next : (s : Plan) (detail : Detail) (old new : List (ScriptOutcome × Vec Event)) (replies : List (List ℕ)) (g : List Event)
+    → IsAllowedRunShowing s detail g replies → IsNotedOutcome old new replies (λ run. run.items ≡ g) → AreAllowedSearchRuns s detail old
+    → AreAllowedSearchRuns s detail new
+rules_search_runs_next s detail old new replies g own noted =
+    noted_outcome_each (λ (e : ScriptOutcome × Vec Event). IsAllowedRunShowing s detail e.1.items (explored_outcome e.0)) (λ (run : Vec Event). run.items ≡ g)
+    old new replies noted
+    (λ e shows is. subst (λ h. IsAllowedRunShowing s detail h (explored_outcome e.0)) (sym is) (subst (IsAllowedRunShowing s detail g) (sym shows) own))
 
 -- a whole beginning shows what it shows, and nothing comes next
 pub rules_search_looked_at_whole : (s : Plan) (detail : Detail) (b : AllowedBeginning) (replies : List (List ℕ)) (x y : AllowedSearch) → IsLawful s → TellsAllowedBeginning s b
     → Follows s (allowed_beginning_events b) → AreOutcomeTellingReplies s (outcome_telling_of_script s detail) (allowed_beginning_events b) replies → y.pending ≡ x.pending
-    → IsNotedInAllowedSearch (allowed_search_found x) (allowed_search_found y) x.runs.items y.runs.items replies (allowed_beginning_events b)
+    → IsNotedOutcome x.outcomes.entries y.outcomes.entries replies (λ run. run.items ≡ allowed_beginning_events b)
     → IsAllowedSearchStep s detail (allowed_beginning_events b) x y
 rules_search_looked_at_whole s detail b replies x y lawful tells follows are pending noted = record {
   events = [];
@@ -444,7 +418,7 @@ rules_search_looked_at_whole s detail b replies x y lawful tells follows are pen
       ]
     ]
   ];
-  runs = rules_search_runs_next s detail (allowed_search_found x) (allowed_search_found y) x.runs.items y.runs.items replies (allowed_beginning_events b)
+  runs = rules_search_runs_next s detail x.outcomes.entries y.outcomes.entries replies (allowed_beginning_events b)
       (record { run = record { beginning = tells.beginning; follows = follows }; told = are }) noted;
   once = λ once. elim among [
     | inl was ↦ subst IsOnce (sym was.1) once
@@ -459,8 +433,8 @@ rules_search_looked_at_whole s detail b replies x y lawful tells follows are pen
   none_lost = λ r shows. inl (subst (Has (allowed_search_found y)) (rules_search_whole_shows s detail (allowed_beginning_events b) replies r lawful follows are shows) found);
 }
   where
-    among : IsAmongFlatSearched (allowed_search_found x) (allowed_search_found y) replies
-    among = elim noted [ inl was ↦ inl (was.0, was.1) | inr pushed ↦ inr (pushed.2, pushed.3) ]
+    among : IsAmongNotedOutcomes (allowed_search_found x) (allowed_search_found y) replies
+    among = noted_outcome_among (λ (run : Vec Event). run.items ≡ allowed_beginning_events b) x.outcomes.entries y.outcomes.entries replies noted
 
     found : Has (allowed_search_found y) replies
     found = elim among [
@@ -475,12 +449,10 @@ rules_search_looked_onward s detail g x y unfinished on = record {
   events = on.events;
   events_once = on.events_once;
   lengthened = on.lengthened;
-  keeps = λ r has. subst (λ o. Has (map explored_outcome o.keys) r) (sym on.outcomes) has;
-  each = λ r has. inl (subst (λ o. Has (map explored_outcome o.keys) r) on.outcomes has);
-  runs = λ old.
-      subst (λ o. AreAllowedSearchRuns s detail (map explored_outcome o.keys) y.runs.items) (sym on.outcomes)
-      (subst (AreAllowedSearchRuns s detail (allowed_search_found x)) (sym on.runs) old);
-  once = λ once. subst (λ o. IsOnce (map explored_outcome o.keys)) (sym on.outcomes) once;
+  keeps = λ r has. subst (λ o. Has (noted_outcomes o.entries) r) (sym on.outcomes) has;
+  each = λ r has. inl (subst (λ o. Has (noted_outcomes o.entries) r) on.outcomes has);
+  runs = λ old. subst (λ o. AreAllowedSearchRuns s detail o.entries) (sym on.outcomes) old;
+  once = λ once. subst (λ o. IsOnce (noted_outcomes o.entries)) (sym on.outcomes) once;
   none_lost = λ r shows. inr (on.none_lost r unfinished shows);
 }
 
@@ -506,13 +478,12 @@ rules_search_choice_may s g nexts chosen calls plain choice p call at =
 -- and what a run shows is shown after one of them
 pub rules_search_followed : (s : Plan) (detail : Detail) (g : List Event) (nexts chosen : List (Option Kind)) (x y : AllowedSearch) → IsLawful s
     → AreAllowedBeginningCalls s g nexts → AreAllowedBeginningCallsPlain nexts → IsAllowedBeginningChoice nexts chosen → y.outcomes ≡ x.outcomes
-    → y.runs.items ≡ x.runs.items → AreAllowedBeginningCallsFollowed s g chosen x.pending.items y.pending.items → IsAllowedSearchFollowed s detail g x y
-rules_search_followed s detail g nexts chosen x y lawful calls plain choice outcomes runs followed = record {
+    → AreAllowedBeginningCallsFollowed s g chosen x.pending.items y.pending.items → IsAllowedSearchFollowed s detail g x y
+rules_search_followed s detail g nexts chosen x y lawful calls plain choice outcomes followed = record {
   events = followed.events;
   events_once = followed.chosen.once;
   lengthened = followed.lengthened;
   outcomes = outcomes;
-  runs = runs;
   none_lost = λ r unfinished shows.
       let one = after choice r unfinished shows in
       (one.0, (followed.chosen.each one.0).1 one.1, one.2);

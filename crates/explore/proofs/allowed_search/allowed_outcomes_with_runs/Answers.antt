@@ -1,65 +1,38 @@
-use Rattle.std.proofs.Common.{◌≡◌, ◌++◌, inl, inr, [], ◌∷◌, List, Some, length, map, slice_get, append_assoc, ap, refl, sym, subst, ◌∙◌, arith}
-use Rattle.std.proofs.lemmas.List.{append-nil, map-append}
-use Rattle.std.proofs.lemmas.Option.{slice_get_within}
-use Rattle.std.specs.Vec.Iter.{into_iter_items}
+use Rattle.std.proofs.Common.{◌++◌, inl, inr, List, [], ◌∷◌, map, append_assoc, ap, refl, sym, subst, ◌∙◌}
+use Rattle.std.specs.Global.{Vec}
+use Rattle.std.proofs.lemmas.List.{map-append}
 use Rattle.base.specs.InOrderOnce.{Has}
 use Rattle.base.proofs.JoinedLists.{joined_list_has-append, joined_list_has-cons, joined_list_has-nil}
+use Rattle.journal.specs.declared.event.Event.{Event}
 use Rattle.explore.specs.declared.explored.ScriptOutcome.{ScriptOutcome}
 use Rattle.explore.specs.declared.showing.ShownRun.{ShownRun}
 use Rattle.explore.specs.AllowedRuns.{IsAllowedRunShowing, shown_run_outcome}
-use Rattle.explore.specs.Explored.{explored_outcome}
-use Rattle.explore.proofs.MachineSteps.{machine_step_read_at}
-use Rattle.explore.proofs.ShownRuns.{shown_run_next_outcome}
+use Rattle.explore.specs.NotedOutcomes.{noted_outcomes}
 use Rattle.explore.proofs.allowed_search.allowed_outcomes_with_runs.Goals as goal
-
-nothing_left : (xs : List ScriptOutcome) → length xs ≡ 0 → xs ≡ []
-nothing_left [] h = refl
-nothing_left (x ∷ xs) h = absurd (omega arith)
 
 pub loop-outcome-preserved : goal.loop-outcome-preserved
 loop-outcome-preserved c =
     let inv = c.loop-outcome.invariant in
-    let yielded = c.loop-outcome.yielded in
     let shown = c.loop-outcome.shown.items in
-    let o = c.in-Some.outcome in
-    let came = ap (λ xs. yielded ++ xs) (sym c.in-Some.ensures.steps.0) ∙ inv.came in
+    let rest = c.next.new.self in
+    let e : ScriptOutcome × Vec Event = (c.in-Some.outcome, c.in-Some.events) in
+    let new : ShownRun = record { events = c.in-Some.events; outcome = c.in-Some.outcome } in
+    let steps = c.in-Some.ensures.steps in
     let pushed = c.in_ok-push.ensures.items in
-    let new : ShownRun = record { events = c.in_ok-events.events; outcome = o } in
+    let next = subst (λ (es : List (ScriptOutcome × Vec Event)). Has es e) (sym steps) ((joined_list_has-cons e rest e).1 (inl refl)) in
     record {
-      came = append_assoc yielded (o ∷ []) (into_iter_items c.next.new.self) ∙ came;
+      left = λ y has. inv.left y (subst (λ (es : List (ScriptOutcome × Vec Event)). Has es y) (sym steps) ((joined_list_has-cons e rest y).1 (inr has)));
       listed =
-          ap (map shown_run_outcome) pushed
-          ∙ map-append shown_run_outcome shown (new ∷ [])
-          ∙ ap (λ xs. xs ++ explored_outcome o ∷ []) inv.listed
-          ∙ sym (map-append explored_outcome yielded (o ∷ []));
+          ap (λ xs. map shown_run_outcome xs ++ noted_outcomes rest) pushed
+          ∙ ap (λ xs. xs ++ noted_outcomes rest) (map-append shown_run_outcome shown (new ∷ []))
+          ∙ append_assoc (map shown_run_outcome shown) (shown_run_outcome new ∷ []) (noted_outcomes rest)
+          ∙ ap (λ (es : List (ScriptOutcome × Vec Event)). map shown_run_outcome shown ++ noted_outcomes es) (sym steps)
+          ∙ inv.listed;
       runs = λ s d runs x has. elim ((joined_list_has-append shown (new ∷ []) x).0 (subst (λ xs. Has xs x) pushed has)) [
         | inl old ↦ inv.runs s d runs x old
         | inr last ↦ elim ((joined_list_has-cons new [] x).0 last) [
-          | inl is ↦
-              (let count = c.len-in-loop-outcome.ensures in
-              let ok = c.loop-outcome.shown.ok.0 in
-              let same : length shown ≡ c.len-in-loop-outcome.result = omega arith in
-              let at = shown_run_next_outcome shown_run_outcome yielded (into_iter_items c.next.new.self) c.args.outcomes.items o shown inv.listed came in
-              let within = slice_get_within (map explored_outcome c.args.outcomes.items) (length shown) (explored_outcome o) at in
-              let long = runs.long in
-              let run = machine_step_read_at c.args.runs.now c.len-in-loop-outcome.result c.index-runs-len.result (omega arith) c.index-runs-len.is in
-              let showing = runs.each (length shown) (explored_outcome o) c.index-runs-len.result at
-              (subst (λ n. slice_get c.args.runs.now n ≡ Some c.index-runs-len.result) (sym same) run) in
-              let copied = c.in_ok-events.ensures.items ∙ c.deref.ensures.value in
-              subst (λ (r : ShownRun). IsAllowedRunShowing s d r.events.items (shown_run_outcome r)) is
-              (subst (λ es. IsAllowedRunShowing s d es (explored_outcome o)) (sym copied) showing))
+          | inl is ↦ subst (λ (r : ShownRun). IsAllowedRunShowing s d r.events.items (shown_run_outcome r)) is (runs e (inv.left e next))
           | inr none ↦ absurd (joined_list_has-nil x none)
         ]
       ];
     }
-
-pub returns-clause-listed : goal.returns-clause-listed
-returns-clause-listed c =
-    let inv = c.loop-outcome.invariant in
-    let yielded = c.loop-outcome.yielded in
-    let rest = c.loop-outcome.outcome-iterator.rest in
-    let none = nothing_left rest.items (omega (arith, rest.ok, c.in-None.ensures.steps.0)) in
-    inv.listed ∙ ap (map explored_outcome) (sym (append-nil yielded) ∙ ap (λ xs. yielded ++ xs) (sym none) ∙ inv.came)
-
-pub returns-clause-runs : goal.returns-clause-runs
-returns-clause-runs c = c.loop-outcome.invariant.runs

@@ -1,18 +1,20 @@
 use Rattle.std.proofs.Common.{◌≡◌, ◌++◌, map}
-use Rattle.std.specs.Vec.Iter.{into_iter_items}
+use Rattle.std.specs.Global.{Vec}
 use Rattle.base.specs.InOrderOnce.{Has}
+use Rattle.journal.specs.declared.event.Event.{Event}
 use Rattle.lrc_script.specs.Plan.{Plan}
+use Rattle.explore.specs.declared.explored.ScriptOutcome.{ScriptOutcome}
 use Rattle.explore.specs.declared.outcome_telling.Detail.{Detail}
 use Rattle.explore.specs.declared.showing.ShownRun.{ShownRun}
 use Rattle.explore.specs.AllowedRuns.{IsAllowedRunShowing, shown_run_outcome}
 use Rattle.explore.specs.AllowedSearch.{AreAllowedSearchRuns}
-use Rattle.explore.specs.Explored.{explored_outcome}
+use Rattle.explore.specs.NotedOutcomes.{noted_outcomes}
 use Rattle.explore.proofs.allowed_search.allowed_outcomes_with_runs.Given as goal
 
 abbrev pub invariant-loop-outcome : goal.invariant-loop-outcome
 invariant-loop-outcome l = record {
-  came : l.yielded ++ into_iter_items l.outcome-iterator ≡ l.fn.outcomes.items;
-  listed : map shown_run_outcome l.shown.items ≡ map explored_outcome l.yielded;
-  runs : (s : Plan) (d : Detail) → AreAllowedSearchRuns s d (map explored_outcome l.fn.outcomes.items) l.runs → (x : ShownRun)
-      → Has l.shown.items x → IsAllowedRunShowing s d x.events.items (shown_run_outcome x);
+  left : (e : ScriptOutcome × Vec Event) → Has l.outcome-iterator e → Has l.fn.outcomes.entries e;
+  listed : map shown_run_outcome l.shown.items ++ noted_outcomes l.outcome-iterator ≡ noted_outcomes l.fn.outcomes.entries;
+  runs : (s : Plan) (d : Detail) → AreAllowedSearchRuns s d l.fn.outcomes.entries → (x : ShownRun) → Has l.shown.items x
+      → IsAllowedRunShowing s d x.events.items (shown_run_outcome x);
 }

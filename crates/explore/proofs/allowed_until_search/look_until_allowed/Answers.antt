@@ -59,10 +59,10 @@ pub loop-looked-preserved : goal.loop-looked-preserved
 loop-looked-preserved g c =
     let s = plan_of c.args.script.now in
     let b = c.in-Some.beginning in
-    let left : AllowedSearch = record { pending = c.pop.new.self; outcomes = c.loop-looked.search.outcomes; runs = c.loop-looked.search.runs } in
+    let left : AllowedSearch = record { pending = c.pop.new.self; outcomes = c.loop-looked.search.outcomes } in
     record {
       searched = rules_search_next s detail.Words c.loop-looked.looked b c.pop.new.self.items c.loop-looked.search left c.look_at.new.self
-          c.loop-looked.invariant.searched c.in-Some.ensures.items refl refl refl c.in_ok-look_at-in-Some.ensures;
+          c.loop-looked.invariant.searched c.in-Some.ensures.items refl refl c.in_ok-look_at-in-Some.ensures;
       none = allowed_until_next s c.args.words.now (allowed_beginning_events b) left c.look_at.new.self c.requires.lawful c.in_ok-look_at-in-Some.ensures
           (λ ends. false≢true (sym c.if-branch.false ∙ c.in_ok-has_allowed_until_words-in-Some.ensures.1 ends)) c.loop-looked.invariant.none;
     }

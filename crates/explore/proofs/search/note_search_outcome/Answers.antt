@@ -1,20 +1,12 @@
-use Rattle.std.proofs.Common.{inl, inr, refl, sym, ◌∙◌}
-use Rattle.std.proofs.lemmas.Bool.{false≢true}
-use Rattle.explore.proofs.Equals.{equal_outcome_inserted}
+use Rattle.std.proofs.Common.{◌≡◌, refl, sym, ◌∙◌}
+use Rattle.explore.proofs.NotedOutcomes.{noted_outcome_kept, noted_outcome_put}
 use Rattle.explore.proofs.search.note_search_outcome.Goals as goal
 
-pub returns-in_ok-push : goal.returns-in_ok-push
-returns-in_ok-push c =
-    let e = c.in_ok-is_new.ensures in
-    elim (equal_outcome_inserted c.args.outcomes.now.keys c.args.outcome c.insert_full.new.self.keys c.in_ok-is_new.is_new e.added e.keys) [
-      | inl was ↦ absurd (false≢true (sym was.0 ∙ c.if-is_new.true))
-      | inr new ↦ inr (new.1, new.2, c.in_ok-push.ensures.items)
-    ]
+pub returns-in_ok-insert : goal.returns-in_ok-insert
+returns-in_ok-insert c =
+    noted_outcome_put (λ shown_at. shown_at ≡ c.args.place) c.args.outcomes.now c.args.outcome c.args.place c.insert.new.self.entries
+    (sym c.contains_key.ensures ∙ c.if-not-contains_key.true) refl c.in_ok-insert.ensures.entries
 
-pub returns-else-is_new : goal.returns-else-is_new
-returns-else-is_new c =
-    let e = c.in_ok-is_new.ensures in
-    elim (equal_outcome_inserted c.args.outcomes.now.keys c.args.outcome c.insert_full.new.self.keys c.in_ok-is_new.is_new e.added e.keys) [
-      | inl was ↦ inl (was.1, was.2, refl)
-      | inr new ↦ absurd (false≢true (sym c.if-is_new.false ∙ new.0))
-    ]
+pub returns-else-not-contains_key : goal.returns-else-not-contains_key
+returns-else-not-contains_key c =
+    noted_outcome_kept (λ shown_at. shown_at ≡ c.args.place) c.args.outcome c.args.outcomes.now.entries (sym c.contains_key.ensures ∙ c.if-not-contains_key.false)

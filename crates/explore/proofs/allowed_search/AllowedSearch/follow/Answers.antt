@@ -31,7 +31,7 @@ returns c = on_ok_weaker c.follow_all.result (λ followed detail.
     let calls = c.next_calls-calls.ensures.calls s c.requires.steps c.requires.told in
     let choice = c.allowed_choice-chosen.ensures.choice in
     rules_search_followed s detail (allowed_beginning_events c.args.beginning.now) c.next_calls-calls.result c.allowed_choice-chosen.result c.args.self.now _
-    c.requires.steps.lawful calls c.next_calls-calls.ensures.plain choice refl refl
+    c.requires.steps.lawful calls c.next_calls-calls.ensures.plain choice refl
     (followed s (record {
       lawful = c.requires.steps.lawful;
       tells = c.requires.told;

@@ -1,10 +1,11 @@
-use Rattle.std.proofs.Common.{map, refl, sym, subst, ◌∙◌}
+use Rattle.std.proofs.Common.{◌≡◌, refl, sym, subst, ◌∙◌}
+use Rattle.std.specs.Global.{Vec}
 use Rattle.std.proofs.lemmas.Bool.{false≢true}
 use Rattle.std.proofs.lemmas.Result.{on_ok_weaker}
+use Rattle.journal.specs.declared.event.Event.{Event}
 use Rattle.lrc_script.specs.Plan.{plan_of}
 use Rattle.explore.specs.AllowedBeginnings.{allowed_beginning_events}
-use Rattle.explore.specs.AllowedSearch.{IsNotedInAllowedSearch, allowed_search_found}
-use Rattle.explore.specs.Explored.{explored_outcome}
+use Rattle.explore.specs.NotedOutcomes.{IsNotedOutcome}
 use Rattle.explore.specs.Machines.{machine_rows}
 use Rattle.explore.specs.OutcomeTelling.{AreOutcomeTellingReplies}
 use Rattle.explore.proofs.allowed_runs.SearchByRules.{rules_search_looked_onward, rules_search_looked_at_whole}
@@ -17,8 +18,8 @@ returns-then-is_whole c = on_ok_weaker c.note_allowed_outcome.result (λ noted.
     c.requires.told ((c.is_whole.ensures s c.requires.steps c.requires.told).0 c.if-is_whole.true)
     (subst (λ t. AreOutcomeTellingReplies s t (allowed_beginning_events c.args.beginning.now) (machine_rows c.in_ok-replies.replies.items)) c.of_script-telling.ensures
     (c.in_ok-replies.ensures s c.requires.steps c.requires.told)) refl
-    (subst (IsNotedInAllowedSearch (allowed_search_found c.args.self.now) (map explored_outcome c.note_allowed_outcome.new.outcomes.keys)
-    c.args.self.now.runs.items c.note_allowed_outcome.new.runs.items (machine_rows c.in_ok-replies.replies.items)) c.events-events.ensures noted))
+    (subst (λ es. IsNotedOutcome c.args.self.now.outcomes.entries c.note_allowed_outcome.new.outcomes.entries
+    (machine_rows c.in_ok-replies.replies.items) (λ (run : Vec Event). run.items ≡ es)) c.events-events.ensures noted))
     c.note_allowed_outcome.ensures
 
 pub returns : goal.returns

@@ -15,10 +15,10 @@ look_at-requires-clause-told g c =
 pub returns-in-None-clause-searched : goal.returns-in-None-clause-searched
 returns-in-None-clause-searched g c =
     rules_search_same (plan_of c.args.script.now) c.args.detail c.loop-looked.looked c.loop-looked.self _
-    (sym (c.in-None.ensures.items ∙ append-nil c.pop.new.self.items)) refl refl c.loop-looked.invariant
+    (sym (c.in-None.ensures.items ∙ append-nil c.pop.new.self.items)) refl c.loop-looked.invariant
 
 pub loop-looked-preserved : goal.loop-looked-preserved
 loop-looked-preserved g c =
     rules_search_next (plan_of c.args.script.now) c.args.detail c.loop-looked.looked c.in-Some.beginning c.pop.new.self.items c.loop-looked.self
-    (record { pending = c.pop.new.self; outcomes = c.loop-looked.self.outcomes; runs = c.loop-looked.self.runs }) c.look_at.new.self c.loop-looked.invariant c.in-Some.ensures.items
-    refl refl refl c.in_ok-look_at-in-Some.ensures
+    (record { pending = c.pop.new.self; outcomes = c.loop-looked.self.outcomes }) c.look_at.new.self c.loop-looked.invariant c.in-Some.ensures.items
+    refl refl c.in_ok-look_at-in-Some.ensures

@@ -1,4 +1,4 @@
-use Rattle.std.proofs.Common.{◌≡◌, ◌≤◌, ◌<◌, ◌↔◌, inl, inr, Bool, true, false, IsTrue, ℕ, List, Option, Some, map, length, refl, sym, subst, ap, ◌∙◌, arith}
+use Rattle.std.proofs.Common.{◌≡◌, ◌≤◌, ◌<◌, ◌↔◌, inl, inr, Bool, true, false, IsTrue, ℕ, List, Option, Some, length, refl, sym, subst, ◌∙◌, arith}
 use Rattle.std.specs.Prelude.{None, MatchOption, ⊤, ◌||◌, slice_index_or}
 use Rattle.std.specs.Global.{Vec}
 use Rattle.std.proofs.lemmas.Bool.{cases_lt, false≢true}
@@ -6,7 +6,7 @@ use Rattle.lrc_script.specs.Plan.{Plan, plan_of}
 use Rattle.explore.specs.declared.neighbours.Neighbours.{Neighbours}
 use Rattle.explore.specs.declared.prefixes.script_call.ScriptCall.{ScriptCall}
 use Rattle.explore.specs.declared.search.Search.{Search}
-use Rattle.explore.specs.Explored.{AreAllOutcomesExplored, AreExploredOutcomes, explored_outcome}
+use Rattle.explore.specs.Explored.{AreAllOutcomesExplored, AreExploredOutcomes}
 use Rattle.explore.specs.FoundStates.{found_states}
 use Rattle.explore.specs.TextGuards.{AreGuardedByText}
 use Rattle.explore.specs.Machines.{AreLawfulMachineSteps}
@@ -16,7 +16,7 @@ use Rattle.lrc_script.specs.Lawful.{plan_addresses}
 use Rattle.explore.proofs.locksets.TextGuardLaw.{text_guard_law}
 use Rattle.explore.proofs.locksets.Noted.{lockset_noted_address_within, lockset_noted_rows_within, lockset_noted_unused_guarded}
 use Rattle.explore.proofs.prefixes.Neighbours.NoNeighbours.{no_neighbours_law}
-use Rattle.explore.specs.FlatSearch.{AreFlatSearchPlaces, IsFlatSearchedThrough, IsFlatSearched, FlatSearchedUpTo}
+use Rattle.explore.specs.FlatSearch.{IsFlatSearchedThrough, IsFlatSearched, FlatSearchedUpTo}
 use Rattle.explore.proofs.SearchedStates.{searched_states_all_outcomes, searched_states_without_neighbours, searched_states_open_only, searched_states_some_outcomes}
 use Rattle.explore.proofs.search.Search.answer.Goals as goal
 
@@ -103,8 +103,7 @@ returns g c =
     let all = searched s x steps c.state_room_at_most-most.result c.len-states.result c.in_ok-neighbours.neighbours
     c.is_search_through-through.result through count c.is_search_through-through.ensures in
     let telling = looked.telling s c.requires.steps c.requires.searched ∙ begun in
-    let keys = sym (c.in_ok-outcomes.ensures ∙ ap (λ o. o.keys) c.replace-outcomes.ensures.value) in
-    let listed = ap (map explored_outcome) keys ∙ sym c.in_ok-outcomes-2.ensures.listed in
+    let listed = sym c.in_ok-outcomes.ensures.listed in
     record {
       states = c.len-states.ensures.states s d through.some.1.found telling;
       few = (
@@ -114,10 +113,7 @@ returns g c =
       hanging = c.in_ok-hanging.ensures.hanging;
       outcomes = subst (AreExploredOutcomes s d) listed
           (searched_states_some_outcomes s d x steps through.some.0 telling through.some.1);
-      runs = c.in_ok-outcomes-2.ensures.runs s d through.some.1.found
-          (subst (λ os. AreFlatSearchPlaces s (found_states x.found) (map explored_outcome os) c.deref-2.result.now) keys
-          (subst (AreFlatSearchPlaces s (found_states x.found) (map explored_outcome x.outcomes.keys)) (sym c.deref-2.ensures.value)
-          through.some.1.noted.places)) telling;
+      runs = c.in_ok-outcomes.ensures.runs s d through.some.1.found through.some.1.noted.places telling;
       all = λ yes.
           subst (AreAllOutcomesExplored s d) listed
           (searched_states_all_outcomes s x steps c.requires.steps (all.all yes) d telling);
@@ -133,13 +129,5 @@ returns g c =
 pub search_outcomes_with_runs-requires : goal.search_outcomes_with_runs-requires
 search_outcomes_with_runs-requires g c =
     let s = plan_of c.args.script.now in
-    let x = c.look_at_all.new.self in
     let through = c.in_ok-neighbours.ensures.looked s c.requires.steps c.requires.searched in
-    let keys = sym (c.in_ok-outcomes.ensures ∙ ap (λ o. o.keys) c.replace-outcomes.ensures.value) in (
-      s,
-      c.requires.steps.lawful,
-      through.some.1.found,
-      subst (λ os. AreFlatSearchPlaces s (found_states x.found) (map explored_outcome os) c.deref-2.result.now) keys
-          (subst (AreFlatSearchPlaces s (found_states x.found) (map explored_outcome x.outcomes.keys)) (sym c.deref-2.ensures.value)
-          through.some.1.noted.places),
-    )
+    (s, c.requires.steps.lawful, through.some.1.found, through.some.1.noted.places)

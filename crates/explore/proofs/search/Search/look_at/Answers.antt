@@ -183,7 +183,6 @@ returns-clause-looked c = λ s may.
     let z : Search = record {
       found = new;
       outcomes = c.if-are_neighbours_over.self.outcomes;
-      shown_at = c.if-are_neighbours_over.self.shown_at;
       hang = c.if-are_neighbours_over.self.hang;
     } in
     let more = may.more in
@@ -194,7 +193,7 @@ returns-clause-looked c = λ s may.
       knows = like_machine_knows s g f c.in_ok-state.state like (subst (MachineKnows s g) (same_Some m f (sym at ∙ stored.1)) knows);
     })) followed
     (searched_states_noted_kept s (found_states x.found) (found_states new) (place + 1) followed.keeps (omega arith) c.if-are_neighbours_over.self z
-    (ap found_states same) refl refl refl refl noted)
+    (ap found_states same) refl refl refl noted)
 
 pub free_choice-followed-requires : goal.free_choice-followed-requires
 free_choice-followed-requires c = machine_step_rows_few c.requires.unvisited.0 c.args.steps.now c.requires.unvisited.1.lawful

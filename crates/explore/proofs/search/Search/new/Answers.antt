@@ -7,7 +7,7 @@ pub returns : goal.returns
 returns c =
     let s = plan_of c.args.script.now in
     record {
-      searched = λ rows. searched_states_start s _ rows (c.in_ok-new-2.ensures.found s c.requires c.in_ok-new.ensures.knows) c.new-3.ensures.empty c.new-4.ensures.items refl;
+      searched = λ rows. searched_states_start s _ rows (c.in_ok-new-2.ensures.found s c.requires c.in_ok-new.ensures.knows) c.new-3.ensures.empty refl;
       few = c.in_ok-new-2.ensures.few;
       telling = c.in_ok-new-2.ensures.telling ∙ c.in_ok-new.ensures.telling;
     }

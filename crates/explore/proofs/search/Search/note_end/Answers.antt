@@ -1,9 +1,8 @@
-use Rattle.std.proofs.Common.{ap, map, sym, subst, ◌∙◌, refl, Some}
+use Rattle.std.proofs.Common.{◌≡◌, ap, sym, subst, ◌∙◌, refl, Some}
 use Rattle.std.proofs.lemmas.Bool.{false≢true}
 use Rattle.std.proofs.lemmas.Result.{on_ok_weaker}
 use Rattle.explore.specs.declared.search.Search.{Search}
-use Rattle.explore.specs.Explored.{explored_outcome}
-use Rattle.explore.specs.FlatSearch.{IsNotedInFlatSearch}
+use Rattle.explore.specs.NotedOutcomes.{IsNotedOutcome}
 use Rattle.explore.specs.FoundStates.{found_states}
 use Rattle.explore.proofs.LikeMachines.{like_machine_knows}
 use Rattle.explore.proofs.MachineSteps.{machine_step_some_at}
@@ -32,13 +31,12 @@ returns-then-is_whole-clause-noted c = on_ok_weaker c.note_search_outcome.result
     let y : Search = record {
       found = x.found;
       outcomes = c.note_search_outcome.new.outcomes;
-      shown_at = c.note_search_outcome.new.shown_at;
       hang = x.hang;
     } in
     searched_state_noted_whole s x c.args.steps.now c.args.place f may stored.1
     (λ g knows. (c.is_whole.ensures s g may.lawful (like_machine_knows s g f c.in_ok-state.state like knows)).0 c.if-is_whole.true) y refl refl
-    (subst (λ rows. IsNotedInFlatSearch (map explored_outcome x.outcomes.keys) (map explored_outcome y.outcomes.keys) x.shown_at.items
-    y.shown_at.items rows c.args.place) (c.in_ok-replies.ensures ∙ like.replies) noted)) c.note_search_outcome.ensures
+    (subst (λ rows. IsNotedOutcome x.outcomes.entries y.outcomes.entries rows (λ place. place ≡ c.args.place)) (c.in_ok-replies.ensures ∙ like.replies)
+    noted)) c.note_search_outcome.ensures
 
 pub returns-clause-noted : goal.returns-clause-noted
 returns-clause-noted c = λ s may.
@@ -47,7 +45,7 @@ returns-clause-noted c = λ s may.
     let like = c.in_ok-state.ensures f stored.1 in
     searched_state_noted_hanging s c.args.self.now _ c.args.steps.now c.args.place f may stored.1
     (λ g knows follows.
-    false≢true (sym c.if-is_whole.false ∙ (c.is_whole.ensures s g may.lawful (like_machine_knows s g f c.in_ok-state.state like knows)).1 follows)) refl refl refl
+    false≢true (sym c.if-is_whole.false ∙ (c.is_whole.ensures s g may.lawful (like_machine_knows s g f c.in_ok-state.state like knows)).1 follows)) refl refl
     (ap Some c.unwrap_or.ensures)
 
 pub at-requires-clause-kept : goal.at-requires-clause-kept
