@@ -2,7 +2,7 @@
 -- A state that is there stays at its place; a new one comes from an earlier one, and what it comes to is known.
 use Rattle.std.proofs.Common.{ℕ, zero, suc, ◌≡◌, ◌+◌, ◌<◌, ◌≤◌, inl, inr, List, [], ◌∷◌, ◌++◌, Some, length, map, slice_get, append_assoc, sym, ap, subst, ◌∙◌, length-append, arith, Bool, true, false}
 use Rattle.std.specs.Prelude.{if◌then◌else◌}
-use Rattle.std.proofs.lemmas.List.{map-append}
+use Rattle.std.proofs.lemmas.List.{length-replicate, map-append}
 use Rattle.std.proofs.lemmas.Option.{same_Some, none-some, slice_get_within}
 use Rattle.base.proofs.SlicesAndCounts.{slice_push_cases, slice_get-append_left, slice_get-last}
 use Rattle.journal.specs.declared.event.Event.{Event}
@@ -18,12 +18,12 @@ use Rattle.explore.specs.declared.kept_state.StateParts.{StateParts}
 use Rattle.explore.specs.declared.wait_code.ProcessorNumber.{ProcessorNumber}
 use Rattle.explore.specs.FoundStates.{AreFoundStates, AreFoundStatesKept, IsFoundStateOrigin, FoundStateAdded, IsFoundState, KeepsFoundStates, FoundStateWasPushed, FoundStateWasThere, found_states}
 use Rattle.explore.specs.Origins.{AreOriginsInOrder, StateOrigin, state_origins}
-use Rattle.explore.specs.KeptStates.{AreStatePartsOnce, IsKeptStateWithin, IsStateKept, opened_state}
+use Rattle.explore.specs.KeptStates.{AreFewStateParts, AreOfOneSearch, AreStatePartsOnce, AreTrimmedMemories, IsKeptStateWithin, IsStateKept, opened_state}
 use Rattle.explore.specs.CallTables.{IsCallTableOf}
 use Rattle.explore.specs.FollowedStates.{IsFollowedState, MayBeFollowedState}
 use Rattle.explore.specs.FreeRun.{AreFreeInRun, IsFoundByFreeRun}
 use Rattle.explore.specs.Machines.{MachinesInSameState, MachineKnows}
-use Rattle.explore.proofs.KeptStates.{kept_state_opens_same, kept_state_stays_within, kept_states_open_same}
+use Rattle.explore.proofs.KeptStates.{kept_state_opens_same, kept_state_parts_few_more, kept_state_parts_few_still, kept_state_stays_within, kept_states_open_same}
 use Rattle.explore.proofs.MachineSteps.{machine_step_some_at}
 use Rattle.explore.proofs.LikeMachines.{like_machine_knows}
 
@@ -135,12 +135,12 @@ module _ (s : Plan) (x y : FoundStates) (m : FlatState) (was : FoundStateWasTher
     told = λ place f at. old.told place f (ap (λ ms. slice_get ms place) (sym was.states) ∙ at) ∙ sym (ap (λ (n : FlatState). n.telling) was.first);
   }
 
-  pub added_state_there_known : AreFoundStates s x → m.telling ≡ x.first.telling → (g : List Event) → MachineKnows s g m → IsFoundState s (found_states y) g
-  added_state_there_known old tells g knows = record {
+  pub added_state_there_known : (g : List Event) → MachineKnows s g m → IsFoundState s (found_states y) g
+  added_state_there_known g knows = record {
     place = was.place;
     state = was.state;
     at = ap (λ ms. slice_get ms was.place) was.states ∙ was.at;
-    knows = like_machine_knows s g m was.state (was.like tells) knows;
+    knows = like_machine_knows s g m was.state was.like knows;
   }
 
 -- what is found soon stays so
@@ -190,7 +190,7 @@ module _ {s : Plan} {rows : List (Vec ScriptCall)} {x : FoundStates} {place p : 
   added_state_is_followed_there was kept = record {
     keeps = added_state_there_keeps s x y m was;
     found = added_state_there_found s x y m was kept may.found;
-    known = added_state_found_soon (added_state_there_known s x y m was may.found (came.telling ∙ may.found.told place f at));
+    known = added_state_found_soon (added_state_there_known s x y m was);
     telling = ap (λ (n : FlatState). n.telling) was.first;
     few = (let same = ap (λ (ms : List FlatState). length ms) was.states in omega (arith, same));
   }
@@ -217,7 +217,7 @@ pub added_state_is_followed : {s : Plan} {rows : List (Vec ScriptCall)} {x : Fou
 added_state_is_followed may at came y added = elim added.added [
   | inl was ↦ added_state_is_followed_there may at came y was added.kept
   | inr put ↦
-      (let like = put.like (came.telling ∙ may.found.told _ _ at) in
+      (let like = put.like in
       added_state_is_followed_pushed may at (record {
         more = came.more;
         free = came.free;
@@ -235,9 +235,15 @@ added_state_opened_at f (x ∷ xs) zero a at = ap (λ z. Some (f z)) (same_Some 
 added_state_opened_at f (x ∷ xs) (suc i) a at = added_state_opened_at f xs i a at
 
 -- a state is kept by k
-module _ (x : FoundStates) (parts : StateParts) (m : FlatState) (k : KeptState) (is : IsStateKept x.parts parts m k) (old : AreFoundStatesKept x) where
-  added_state_like : m.telling ≡ x.first.telling → MachinesInSameState m (opened_state parts x.first k)
-  added_state_like tells = is.like x.first (sym tells)
+module _ (x : FoundStates) (parts : StateParts) (m : FlatState) (k : KeptState) (is : IsStateKept x.parts parts m k)
+    (one : AreOfOneSearch x.first m) (old : AreFoundStatesKept x) where
+  added_state_like : MachinesInSameState m (opened_state parts x.first k)
+  added_state_like = is.like x.first one
+
+  added_state_trimmed : AreTrimmedMemories parts (length x.first.memory.items)
+  added_state_trimmed =
+      let long : length x.first.memory.items ≡ length m.memory.items = ap (λ (ws : List ℕ). length ws) one.zeros ∙ length-replicate (length m.memory.items) 0 in
+      subst (AreTrimmedMemories parts) (sym long) (is.trimmed (subst (AreTrimmedMemories x.parts) long old.trimmed))
 
   added_state_opens : (y : FoundStates) → y.parts ≡ parts → y.first ≡ x.first
       → found_states y ≡ map (opened_state parts x.first) y.states.keys
@@ -263,6 +269,13 @@ module _ (x : FoundStates) (parts : StateParts) (m : FlatState) (k : KeptState) 
               subst (λ z. IsKeptStateWithin z a) (sym parts_are)
               (kept_state_stays_within x.parts parts a is.keeps (old.within i a (ap (λ ks. slice_get ks i) (sym keys) ∙ here)));
           once = subst AreStatePartsOnce (sym parts_are) is.once;
+          few =
+              subst (λ ks. AreFewStateParts y.parts (length ks)) (sym keys)
+              (subst (λ z. AreFewStateParts z (length x.states.keys)) (sym parts_are)
+              (kept_state_parts_few_still x.parts parts k _ is.grown (subst (IsKeptStateWithin x.parts) same within) old.few));
+          trimmed =
+              subst (λ (f : FlatState). AreTrimmedMemories y.parts (length f.memory.items)) (sym first)
+              (subst (λ z. AreTrimmedMemories z (length x.first.memory.items)) (sym parts_are) added_state_trimmed);
           in_order = subst AreOriginsInOrder (sym origins) old.in_order;
         };
         added = inl (record {
@@ -273,9 +286,9 @@ module _ (x : FoundStates) (parts : StateParts) (m : FlatState) (k : KeptState) 
           place = place;
           state = opened_state x.parts x.first h;
           at = added_state_opened_at (opened_state x.parts x.first) x.states.keys place h at;
-          like = λ tells.
+          like =
               subst (MachinesInSameState m) (kept_state_opens_same x.parts parts x.first h is.keeps within)
-              (subst (λ z. MachinesInSameState m (opened_state parts x.first z)) (sym same) (added_state_like tells));
+              (subst (λ z. MachinesInSameState m (opened_state parts x.first z)) (sym same) added_state_like);
         });
       }
 
@@ -290,6 +303,13 @@ module _ (x : FoundStates) (parts : StateParts) (m : FlatState) (k : KeptState) 
         | inr now ↦ subst (λ z. IsKeptStateWithin z a) (sym parts_are) (subst (IsKeptStateWithin parts) now.1 is.within)
       ];
       once = subst AreStatePartsOnce (sym parts_are) is.once;
+      few =
+          subst (AreFewStateParts y.parts) (sym (ap (λ (ks : List KeptState). length ks) keys ∙ length-append x.states.keys (k ∷ [])))
+          (subst (λ z. AreFewStateParts z (length x.states.keys + 1)) (sym parts_are)
+          (kept_state_parts_few_more x.parts parts k _ is.grown old.few));
+      trimmed =
+          subst (λ (f : FlatState). AreTrimmedMemories y.parts (length f.memory.items)) (sym first)
+          (subst (λ z. AreTrimmedMemories z (length x.first.memory.items)) (sym parts_are) added_state_trimmed);
       in_order = in_order;
     };
     added = inr (record {

@@ -16,7 +16,7 @@ use Rattle.explore.specs.Machines.{MachinesInSameState, MachineKnows}
 use Rattle.explore.specs.StatesOfScript.{HasStatesOfScript}
 use Rattle.explore.proofs.Determined.{determined_apart_at, determined_machine}
 use Rattle.explore.proofs.Equals.{kept_state_equal}
-use Rattle.explore.proofs.KeptStates.{kept_state_same_places}
+use Rattle.explore.proofs.KeptStates.{kept_state_of_one_search, kept_state_same_places}
 use Rattle.explore.proofs.MachineSteps.{machine_step_some_at}
 
 -- what is opened at a place
@@ -74,6 +74,7 @@ module _ (s : Plan) (d : Detail) (x : FoundStates) (found : AreFoundStates s x) 
         let a = counted_state_kept (opened_state x.parts x.first) x.states.keys i m.0 m.1 in
         let b = counted_state_kept (opened_state x.parts x.first) x.states.keys k n.0 n.1 in
         false≢true (sym (determined_apart_at kept_state_equal x.states.keys unique i k a.0 b.0 less a.1 b.1)
-        ∙ kept_state_same_places x.parts x.first a.0 b.0 found.kept.once (found.kept.within i a.0 a.1) (found.kept.within k b.0 b.1)
+        ∙ kept_state_same_places x.parts x.first (length x.first.memory.items) a.0 b.0 found.kept.once
+        (kept_state_of_one_search s [] x.first x.first found.begins found.begins refl).zeros found.kept.trimmed (found.kept.within i a.0 a.1) (found.kept.within k b.0 b.1)
         (subst (λ z. MachinesInSameState z (opened_state x.parts x.first b.0)) (sym a.2) (subst (MachinesInSameState m.0) (sym b.2) like)));
   }

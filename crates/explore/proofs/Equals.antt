@@ -24,7 +24,7 @@ equal_items f E same (x ∷ xs) (y ∷ ys) h =
     let both = and_parts (E x y) (pointwise E xs ys) h in
     ap₂ (λ z zs. z ∷ zs) (same x y both.0) (equal_items f E same xs ys both.1)
 
-equal_numbers : (xs ys : List ℕ) → pointwise nat_eq xs ys ≡ true → ys ≡ xs
+pub equal_numbers : (xs ys : List ℕ) → pointwise nat_eq xs ys ≡ true → ys ≡ xs
 equal_numbers xs ys h = sym (same_text xs ys (sym h))
 
 -- what `==` tests of memories

@@ -30,5 +30,6 @@ pub mod reduced
 pub mod allowed_runs
 pub mod Determined
 pub mod KeptStates
+pub mod TrimmedWords
 pub mod StateOrigins
 pub mod CountedStates

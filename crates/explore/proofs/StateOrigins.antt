@@ -1,5 +1,5 @@
 -- Where states come from: the makers of each stand between two ends.
-use Rattle.std.proofs.Common.{ℕ, zero, suc, ◌≡◌, ◌+◌, ◌-◌, ◌≤◌, List, [], ◌∷◌, ◌++◌, Some, drop, length, slice_get, slice_index_or, take, map, refl, sym, ap, ap₂, subst, ◌∙◌, length-append, arith}
+use Rattle.std.proofs.Common.{ℕ, zero, suc, ◌≡◌, ◌+◌, ◌-◌, ◌*◌, ◌≤◌, List, [], ◌∷◌, ◌++◌, Some, drop, length, slice_get, slice_index_or, take, map, refl, sym, ap, ap₂, subst, ◌∙◌, length-append, arith}
 use Rattle.std.proofs.lemmas.Option.{none-some, same_Some}
 use Rattle.explore.specs.declared.origins.Origin.{Origin}
 use Rattle.explore.specs.declared.wait_code.ProcessorNumber.{ProcessorNumber}
@@ -9,8 +9,16 @@ use Rattle.explore.specs.Origins.{AreOriginsInOrderFrom, StateOrigin, state_orig
 pub state_origins_start_small : (start : ℕ) (os : List Origin) (many : ℕ) → AreOriginsInOrderFrom start os many → start ≤ many
 state_origins_start_small start [] many is = omega (arith, is)
 state_origins_start_small start (o ∷ os) many both =
-    let rest = state_origins_start_small o.ends os many both.1 in
+    let rest = state_origins_start_small o.ends os many both.2 in
     let first = both.0 in
+    omega (arith, rest, first)
+
+-- there are no more makers than these origins have
+pub state_origins_makers_few : (start : ℕ) (os : List Origin) (many : ℕ) → AreOriginsInOrderFrom start os many → many ≤ start + 16 * length os
+state_origins_makers_few start [] many is = omega (arith, is)
+state_origins_makers_few start (o ∷ os) many both =
+    let rest = state_origins_makers_few o.ends os many both.2 in
+    let first = both.1 in
     omega (arith, rest, first)
 
 -- what is in front of a list is taken from it
@@ -47,17 +55,17 @@ state_origins_push start [] makers more from is o from_is ends =
     (ap (λ n. take (o.ends - n) (drop n (makers ++ more))) is ∙ ap (take (o.ends - length makers)) (state_origins_drop_front makers more)
     ∙ state_origins_take_whole more (o.ends - length makers) (let long = length-append makers more in omega (arith, ends, long)))
 state_origins_push start (p ∷ os) makers more from both o from_is ends =
-    let small = state_origins_start_small p.ends os (length makers) both.1 in
+    let small = state_origins_start_small p.ends os (length makers) both.2 in
     let le = both.0 in
     ap₂ (λ ms rest. state_origin p.from ms ∷ rest)
     (state_origins_part_front makers more start (p.ends - start) (omega (arith, small, le)))
-    (state_origins_push p.ends os makers more from both.1 o from_is ends)
+    (state_origins_push p.ends os makers more from both.2 o from_is ends)
 
-pub state_origins_push_in_order : (start : ℕ) (os : List Origin) (many more : ℕ) → AreOriginsInOrderFrom start os many → many ≤ more
+pub state_origins_push_in_order : (start : ℕ) (os : List Origin) (many more : ℕ) → AreOriginsInOrderFrom start os many → many ≤ more → more ≤ many + 16
     → (o : Origin) → o.ends ≡ more → AreOriginsInOrderFrom start (os ++ o ∷ []) more
-state_origins_push_in_order start [] many more is le o ends = (omega (arith, is, le, ends), ends)
-state_origins_push_in_order start (p ∷ os) many more both le o ends =
-    (both.0, state_origins_push_in_order p.ends os many more both.1 le o ends)
+state_origins_push_in_order start [] many more is le few o ends = (omega (arith, is, le, ends), omega (arith, is, few, ends), ends)
+state_origins_push_in_order start (p ∷ os) many more both le few o ends =
+    (both.0, both.1, state_origins_push_in_order p.ends os many more both.2 le few o ends)
 
 -- there are as many
 pub state_origins_long : (start : ℕ) (os : List Origin) (makers : List ProcessorNumber) → length (state_origins_from start os makers) ≡ length os
@@ -84,6 +92,6 @@ pub state_origins_within : (start : ℕ) (os : List Origin) (many : ℕ) (i : �
 state_origins_within start [] many i o is at = absurd (none-some o at)
 state_origins_within start (p ∷ os) many zero o both at =
     let is = same_Some p o at in
-    let small = state_origins_start_small p.ends os many both.1 in
+    let small = state_origins_start_small p.ends os many both.2 in
     (subst (λ (q : Origin). start ≤ q.ends) is both.0, subst (λ (q : Origin). q.ends ≤ many) is small)
-state_origins_within start (p ∷ os) many (suc i) o both at = state_origins_within p.ends os many i o both.1 at
+state_origins_within start (p ∷ os) many (suc i) o both at = state_origins_within p.ends os many i o both.2 at

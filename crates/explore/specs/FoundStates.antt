@@ -1,5 +1,5 @@
 -- What a search keeps of the states that it has found.
-use Rattle.std.specs.Prelude.{ℕ, ◌≡◌, ◌+◌, ◌<◌, ◌⊎◌, Some, List, [], ◌∷◌, ◌++◌, length, map, slice_get}
+use Rattle.std.specs.Prelude.{ℕ, ◌≡◌, ◌+◌, ◌<◌, ◌≤◌, ◌⊎◌, Some, List, [], ◌∷◌, ◌++◌, length, map, slice_get}
 use Rattle.journal.specs.declared.event.Event.{Event}
 use Rattle.journal.specs.declared.event.Kind.{Kind}
 use Rattle.journal.specs.DidEvent.{did}
@@ -12,20 +12,27 @@ use Rattle.explore.specs.declared.wait_code.ProcessorNumber.{ProcessorNumber}
 use Rattle.std.specs.Global.{Vec}
 use Rattle.explore.specs.declared.prefixes.script_call.ScriptCall.{ScriptCall}
 use Rattle.explore.specs.CallTables.{IsCallTableOf}
-use Rattle.explore.specs.KeptStates.{AreStatePartsOnce, IsKeptStateWithin, opened_state}
-use Rattle.explore.specs.Origins.{AreOriginsInOrder, StateOrigin, state_origins}
+use Rattle.explore.specs.KeptStates.{AreFewStateParts, AreStatePartsOnce, AreTrimmedMemories, IsKeptStateWithin, opened_state}
+use Rattle.explore.specs.Origins.{AreOriginsInOrder, StateOrigin, most_state_origins, state_origins}
 use Rattle.explore.specs.Machines.{AreLawfulMachineSteps, MachinesInSameState, MachineKnows}
 
 -- the states, in the order in which they were found
 abbrev pub found_states : FoundStates → List FlatState
 found_states x = map (opened_state x.parts x.first) x.states.keys
 
--- each is kept by parts that are there, each once, and where they come from is in order
+-- each is kept by parts that are there, each once, no more of them than states, without zeros at their end, and where they come
+-- from is in order
 pub record AreFoundStatesKept (x : FoundStates) : Type 0 where
   pub calls : (s : Plan) × IsCallTableOf s x.parts.calls
   pub within : (place : ℕ) (k : KeptState) → slice_get x.states.keys place ≡ Some k → IsKeptStateWithin x.parts k
   pub once : AreStatePartsOnce x.parts
+  pub few : AreFewStateParts x.parts (length x.states.keys)
+  pub trimmed : AreTrimmedMemories x.parts (length x.first.memory.items)
   pub in_order : AreOriginsInOrder x.origins
+
+-- so many more states have places of 32 bits
+abbrev pub HasRoomForStates : FoundStates → ℕ → Type 0
+HasRoomForStates x more = length (found_states x) + more ≤ most_state_origins
 
 -- one of these states is what the events come to
 pub record IsFoundState (s : Plan) (states : List FlatState) (g : List Event) : Type 0 where
@@ -67,7 +74,7 @@ pub record FoundStateWasThere (x y : FoundStates) (m : FlatState) : Type 0 where
   pub place : ℕ
   pub state : FlatState
   pub at : slice_get (found_states x) place ≡ Some state
-  pub like : m.telling ≡ x.first.telling → MachinesInSameState m state
+  pub like : MachinesInSameState m state
 
 -- it was put at the end
 pub record FoundStateWasPushed (x y : FoundStates) (m : FlatState) (o : StateOrigin) : Type 0 where
@@ -80,7 +87,7 @@ pub record FoundStateWasPushed (x y : FoundStates) (m : FlatState) (o : StateOri
 pub record FoundStateWasKept (x y : FoundStates) (m : FlatState) (o : StateOrigin) : Type 0 where
   pub state : FlatState
   pub pushed : FoundStateWasPushed x y state o
-  pub like : m.telling ≡ x.first.telling → MachinesInSameState m state
+  pub like : MachinesInSameState m state
 
 -- the state was added, if it is a new one
 pub record FoundStateAdded (x y : FoundStates) (m : FlatState) (o : StateOrigin) : Type 0 where

@@ -1,12 +1,12 @@
 -- A script's run on one flat memory, as a machine has it.
-use Rattle.std.specs.Prelude.{ℕ, ◌≡◌, ◌<◌, false, List, [], ◌∷◌, length, map, replicate, slice_index}
+use Rattle.std.specs.Prelude.{ℕ, ◌≡◌, ◌<◌, ◌↔◌, false, List, [], ◌∷◌, length, map, replicate, slice_index}
 use Rattle.std.specs.Global.{Vec}
 use Rattle.journal.specs.declared.event.Event.{Event}
 use Rattle.journal.specs.declared.event.Kind.{Kind}
 use Rattle.journal.specs.declared.event.Kind.TheVariants.{Load}
-use Rattle.journal.specs.DidEvent.{did}
+use Rattle.journal.specs.DidEvent.{did, event}
 use Rattle.journal.specs.ReplayMemory.{memory_after}
-use Rattle.journal.specs.WellFormed.{WellFormedKindInRange}
+use Rattle.journal.specs.WellFormed.{WellFormedKindInRange, WellFormedNext}
 use Rattle.lrc_script.specs.Plan.{Plan}
 use Rattle.lrc_script.specs.Lawful.{plan_addresses, IsLawful}
 use Rattle.conformance.specs.Follows.{calls_of, is_fetch, plan_sizes}
@@ -54,6 +54,15 @@ IsProperMachineStep s (Adds a v) = a < plan_addresses s
 abbrev pub MachineReadsWithin : ℕ → ScriptCall → Type 0
 MachineReadsWithin size (Call (Load a v)) = a < size
 MachineReadsWithin size _ = Unit {0}
+
+-- p has made all its calls
+abbrev pub HasMachineNoNextCall : Plan → FlatState → ℕ → Type 0
+HasMachineNoNextCall s m p = (g : List Event) (k : Kind) → MachineKnows s g m → ¬ IsFlatBeginning s (did g p k)
+
+-- p makes this call next, as soon as it may follow
+pub record IsMachineNextCall (s : Plan) (m : FlatState) (p : ℕ) (c : Kind) : Type 0 where
+  pub in_range : WellFormedKindInRange (plan_sizes s) c
+  pub next : (g : List Event) (k : Kind) → MachineKnows s g m → IsFlatBeginning s (did g p k) ↔ (WellFormedNext (plan_sizes s) g (event p c) × (c ≡ k))
 
 -- these are the steps of a lawful script
 pub record AreLawfulMachineSteps (s : Plan) (steps : List (Vec ScriptCall)) : Type 0 where

@@ -1,5 +1,5 @@
 //! A script's run on one flat memory, an event at a time.
-ghost use Rattle.std.specs.Prelude.{◌≡◌, ◌↔◌, ℕ, ◌+◌, ◌<◌, ◌≤◌, ◌++◌, [], ◌∷◌, List, Some, None, IfOk, OnOk, IsTrue, cond};
+ghost use Rattle.std.specs.Prelude.{◌≡◌, ◌↔◌, ℕ, ◌+◌, ◌<◌, ◌≤◌, ◌++◌, [], ◌∷◌, List, Some, None, IfOk, OnOk, IsTrue, MatchOption, cond};
 ghost use Rattle.std.specs.Prelude.{length, replicate, slice_get, slice_index, slice_index_or};
 ghost use Rattle.base.specs.Prelude.{most_processors, wrote};
 ghost use Rattle.journal.specs.declared.event.Event.{Event as AnEvent};
@@ -9,7 +9,7 @@ ghost use Rattle.lrc_script.specs.Prelude.{IsLawful, Plan, plan_of};
 ghost use Rattle.conformance.specs.Follows.{Follows, calls_of};
 ghost use Rattle.explore.specs.Prefixes.ScriptCalls.{FitsScriptCall, last_reply_of_script_calls};
 ghost use Rattle.explore.specs.Prefixes.Prelude.{IsFlatBeginning};
-ghost use Rattle.explore.specs.Machines.{AreLawfulMachineSteps, MachineReadsWithin, MachinesInSameState, IsMachineRunning, MachineMayDo, MachineKnows};
+ghost use Rattle.explore.specs.Machines.{AreLawfulMachineSteps, MachineReadsWithin, MachinesInSameState, HasMachineNoNextCall, IsMachineNextCall, IsMachineRunning, MachineMayDo, MachineKnows};
 ghost use Rattle.explore.specs.Machines.{machine_rows, machine_last_or};
 ghost use Rattle.explore.specs.OutcomeTelling.{is_sum_for_outcome_telling, outcome_telling_steps, outcome_telling_of_script};
 ghost use Rattle.explore.specs.EndingWords.{HasEndingWords};
@@ -147,6 +147,32 @@ impl FlatState {
         flat_state_last_of(&self.replies[processor])
     }
 
+    /// The next call that the processor's steps say, whether it may be made yet or not. Its steps are one of these rows.
+    pub fn next_call(&self, steps: &[Vec<ScriptCall>], processor: usize) -> Option<Kind>
+        requires processor { processor < length steps.now }
+        requires running { IsMachineRunning self.now steps.now }
+        ensures { MatchOption result ((s : Plan) → AreLawfulMachineSteps s steps.now → HasMachineNoNextCall s self.now processor)
+            (λ k. (s : Plan) → AreLawfulMachineSteps s steps.now → IsMachineNextCall s self.now processor k) }
+    {
+        let row = &steps[processor];
+        let done = self.done[processor] as usize;
+        if done >= row.len() {
+            return None;
+        }
+        Some(flat_state_call_of(row[done], self.reply_before(processor), &self.memory))
+    }
+
+    /// Whether the processor may make its next call, which this is. Its steps are one of these rows.
+    pub fn may_make(&self, steps: &[Vec<ScriptCall>], processor: usize, kind: Kind) -> bool
+        requires processor { processor < length steps.now }
+        requires running { IsMachineRunning self.now steps.now }
+        requires next { (s : Plan) → AreLawfulMachineSteps s steps.now → IsMachineNextCall s self.now processor kind }
+        ensures { (s : Plan) (g : List AnEvent) → AreLawfulMachineSteps s steps.now → MachineKnows s g self.now
+            → IsTrue result ↔ IsFlatBeginning s (did g processor kind) }
+    {
+        self.waiting.may_follow(steps.len(), processor, kind)
+    }
+
     /// What the processor may do next. Its steps are one of these rows.
     pub fn next(&self, steps: &[Vec<ScriptCall>], processor: usize) -> Option<Kind>
         requires processor { processor < length steps.now }
@@ -154,16 +180,9 @@ impl FlatState {
         ensures { (s : Plan) (g : List AnEvent) → AreLawfulMachineSteps s steps.now → MachineKnows s g self.now
             → (k : AKind) → (result ≡ Some k) ↔ IsFlatBeginning s (did g processor k) }
     {
-        let row = &steps[processor];
-        let done = self.done[processor] as usize;
-        if done >= row.len() {
-            return None;
-        }
-        let kind = flat_state_call_of(row[done], self.reply_before(processor), &self.memory);
-        if self.waiting.may_follow(steps.len(), processor, kind) {
-            Some(kind)
-        } else {
-            None
+        match self.next_call(steps, processor) {
+            Some(kind) if self.may_make(steps, processor, kind) => Some(kind),
+            _ => None,
         }
     }
 

@@ -1,12 +1,14 @@
 //! The states that a search has found, and where each was found first.
-ghost use Rattle.std.specs.Prelude.{MatchOption, None, slice_index_or, ◌≢◌, ◌≡◌, ◌<◌, ◌≤◌, ◌++◌, [], ℕ, List, Some, IfOk, OnOk, length, map, reverse, slice_get};
+ghost use Rattle.std.specs.Prelude.{MatchOption, None, slice_index_or, ◌≢◌, ◌≡◌, ◌+◌, ◌<◌, ◌≤◌, ◌++◌, [], ℕ, List, Some, IfOk, OnOk, length, map, reverse, slice_get};
 ghost use Rattle.base.specs.Prelude.{most_processors};
 ghost use Rattle.journal.specs.declared.event.Event.{Event as AnEvent};
 ghost use Rattle.lrc_script.specs.Prelude.{IsLawful, Plan};
 ghost use Rattle.explore.specs.declared.flat_state.FlatState.{FlatState as AMachine};
 ghost use Rattle.explore.specs.declared.wait_code.ProcessorNumber.{ProcessorNumber as ANumber};
 ghost use Rattle.explore.specs.CallTables.{IsStateOfCalls};
-ghost use Rattle.explore.specs.FoundStates.{AreEventsOfMakers, AreFoundStateMakers, AreFoundStates, AreFoundStatesKept, FoundStateAdded, IsFoundStateAt, found_states};
+ghost use Rattle.explore.specs.FoundStates.{AreEventsOfMakers, AreFoundStateMakers, AreFoundStates, AreFoundStatesKept, FoundStateAdded, HasRoomForStates, IsFoundStateAt, found_states};
+ghost use Rattle.explore.specs.KeptStates.{AreOfOneSearch};
+ghost use Rattle.explore.specs.Origins.{most_origin_makers, state_origins};
 ghost use Rattle.journal.specs.declared.event.Kind.{Kind as AKind};
 ghost use Rattle.explore.specs.FollowedStates.{AreFollowedStates, IsFollowedState, IsLastNext, MayBeFollowedState, MayBeFollowedStateByEach};
 ghost use Rattle.explore.specs.FreeChoice.{AreFreeChoiceTextFacts};
@@ -17,13 +19,14 @@ ghost use Rattle.explore.specs.OutcomeTelling.{outcome_telling_of_script};
 
 use crate::call_table::CallTable;
 use crate::flat_state::FlatState;
-use crate::free_run::{MOST_BEHIND, make_free_run};
+use crate::free_run::make_free_run;
 use crate::kept_state::{KeptState, StateParts};
-use crate::origins::Origins;
+use crate::origins::{MOST_MAKERS, Origins};
 use crate::prefixes::ScriptCall;
 use crate::state_hasher::StateSet;
 use crate::text_facts::TextFacts;
 use crate::wait_code::ProcessorNumber;
+use arrayvec::ArrayVec;
 use indexmap::IndexSet;
 use journal::{Event, Kind};
 use std::alloc::{AllocError, Global};
@@ -101,7 +104,7 @@ impl FoundStates {
         ensures few { IfOk result (λ x. length (found_states x) ≤ 1) }
     {
         let mut parts = StateParts::new(alloc, CallTable::of_steps(alloc, steps)?);
-        let kept = parts.keep(first.copy()?)?;
+        let kept = parts.keep(alloc, first.copy()?)?;
         let mut states = IndexSet::with_hasher(alloc, BuildHasherDefault::new());
         states.insert_full(kept)?;
         Ok(FoundStates {
@@ -140,10 +143,15 @@ impl FoundStates {
         makers: &[ProcessorNumber],
     ) -> Result<(), AllocError>
         requires kept { AreFoundStatesKept self.old }
+        requires long { length (found_states self.old) ≡ length (state_origins self.old.origins) + 1 }
+        requires room { HasRoomForStates self.old 1 }
         requires known { IsStateOfCalls self.old.parts.calls state }
+        requires of_one { AreOfOneSearch self.old.first state }
+        requires from { from < length (found_states self.old) }
+        requires makers { length makers.now ≤ most_origin_makers }
         ensures { OnOk result (FoundStateAdded self.old self.new state (record { from = from; makers = makers.now })) }
     {
-        let kept = self.parts.keep(state)?;
+        let kept = self.parts.keep(self.alloc, state)?;
         let (_, is_new) = self.states.insert_full(kept)?;
         if is_new {
             self.origins.push(from, makers)?;
@@ -163,14 +171,15 @@ impl FoundStates {
     ) -> Result<(), AllocError>
         requires state { IsFoundStateAt self.old place state }
         requires facts { AreFreeChoiceTextFacts steps.now facts.now }
+        requires room { HasRoomForStates self.old 1 }
         requires may { (s : Plan) × MayBeFollowedState s steps.now self.old place event.processor event.kind }
         ensures { OnOk result ((s : Plan) → MayBeFollowedState s steps.now self.old place event.processor event.kind
             → IsFollowedState s steps.now self.old self.new place event.processor event.kind) }
     {
         let mut state = state;
         state.step(steps, event.processor, event.kind)?;
-        let mut makers = Vec::with_capacity(self.alloc, MOST_BEHIND + 1)?;
-        makers.push(ProcessorNumber::of(event.processor))?;
+        let mut makers = ArrayVec::<ProcessorNumber, MOST_MAKERS>::new();
+        makers.push(ProcessorNumber::of(event.processor));
         make_free_run(&mut state, &mut makers, steps, facts)?;
         self.add(state, place, &makers)
     }
@@ -187,6 +196,7 @@ impl FoundStates {
     ) -> Result<(), AllocError>
         requires state { IsFoundStateAt self.old place state }
         requires facts { AreFreeChoiceTextFacts steps.now facts.now }
+        requires room { HasRoomForStates self.old (length nexts.now) }
         requires may { (s : Plan) × MayBeFollowedStateByEach s steps.now self.old place nexts.now }
         ensures { OnOk result ((s : Plan) → MayBeFollowedStateByEach s steps.now self.old place nexts.now
             → AreFollowedStates s steps.now self.old self.new place nexts.now (length nexts.now)) }

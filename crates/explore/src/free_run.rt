@@ -6,30 +6,23 @@ ghost use Rattle.explore.specs.Machines.{IsMachineRunning};
 
 use crate::flat_state::FlatState;
 use crate::free_choice::is_free_choice;
-use crate::outcome_telling::outcome_telling_step;
+use crate::origins::MOST_MAKERS;
 use crate::prefixes::ScriptCall;
 use crate::text_facts::TextFacts;
 use crate::wait_code::ProcessorNumber;
-use journal::{Event, Kind};
+use arrayvec::ArrayVec;
+use journal::Event;
 use std::alloc::AllocError;
 
-/// The most free events that are done behind another one. A state is kept with the makers of the events that lead to it, so
-/// they are few.
-pub const MOST_BEHIND: usize = 15;
-
-/// The first free event that may come next. What the processors behind its own may do isn't looked at, nor whether one that asks
-/// for a lock next may do so: an ask isn't free.
+/// The first free event that may come next. What the processors behind its own may do isn't looked at, nor whether a call that
+/// isn't free may be made.
 fn free_run_next(state: &FlatState, steps: &[Vec<ScriptCall>], guarded: &[bool]) -> Option<Event>
     requires { IsMachineRunning state.now steps.now }
     ensures { MatchOption result ⊤ (IsNextInFreeRun steps.now guarded.now state.now) }
 {
     for processor in 0..steps.len() {
-        let step = outcome_telling_step(&steps[processor], state.steps_done(processor));
-        if let Some(ScriptCall::Call(Kind::Ask(_))) = step {
-            continue;
-        }
-        if let Some(kind) = state.next(steps, processor) {
-            if is_free_choice(guarded, kind) {
+        if let Some(kind) = state.next_call(steps, processor) {
+            if is_free_choice(guarded, kind) && state.may_make(steps, processor, kind) {
                 return Some(Event { processor, kind });
             }
         }
@@ -37,11 +30,11 @@ fn free_run_next(state: &FlatState, steps: &[Vec<ScriptCall>], guarded: &[bool])
     None
 }
 
-/// Makes free events as long as there are any, 15 at most, and adds their makers to these. The only error is running out of
-/// memory, after which the machine may be of no use.
+/// Makes free events as long as there are any, and adds their makers to these until there is no room for one more. The only
+/// error is running out of memory, after which the machine may be of no use.
 pub fn make_free_run(
     state: &mut FlatState,
-    makers: &mut Vec<ProcessorNumber>,
+    makers: &mut ArrayVec<ProcessorNumber, MOST_MAKERS>,
     steps: &[Vec<ScriptCall>],
     facts: &TextFacts,
 ) -> Result<(), AllocError>
@@ -49,12 +42,12 @@ pub fn make_free_run(
     requires facts { AreFreeChoiceTextFacts steps.now facts.now }
     ensures { OnOk result (IsFreeRunNoted steps.now state.old state.new makers.old.items makers.new.items) }
 {
-    for _ in 0..MOST_BEHIND {
+    while !makers.is_full() {
         let Some(event) = free_run_next(state, steps, &facts.guarded) else {
             return Ok(());
         };
         state.step(steps, event.processor, event.kind)?;
-        makers.push(ProcessorNumber::of(event.processor))?;
+        makers.push(ProcessorNumber::of(event.processor));
     }
     Ok(())
 }

@@ -1,17 +1,20 @@
 //! Where the states of a search were found first.
-ghost use Rattle.std.specs.Prelude.{◌≡◌, ◌<◌, ◌++◌, [], ◌∷◌, OnOk, Some, length, slice_get};
-ghost use Rattle.explore.specs.Origins.{AreOriginsInOrder, StateOrigin as AnOrigin, origin_start, state_origins};
+ghost use Rattle.std.specs.Prelude.{◌≡◌, ◌+◌, ◌<◌, ◌≤◌, ◌++◌, [], ◌∷◌, OnOk, Some, length, slice_get};
+ghost use Rattle.explore.specs.Origins.{AreOriginsInOrder, StateOrigin as AnOrigin, most_origin_makers, most_state_origins, origin_start, state_origins};
 
 use crate::wait_code::ProcessorNumber;
 use std::alloc::{AllocError, Global};
 
-/// Where a state was found first.
+/// The most makers of one origin.
+pub const MOST_MAKERS: usize = 16;
+
+/// Where a state was found first. Each state has one, so its numbers have 32 bits.
 #[derive(Clone, Copy)]
 pub struct Origin {
     /// The place of the earlier state that it comes from.
-    from: usize,
+    from: u32,
     /// How many makers there are up to the last of those that lead to it.
-    ends: usize,
+    ends: u32,
 }
 
 /// Where each state but the first one comes from: by which events of which earlier state.
@@ -36,12 +39,16 @@ impl Origins {
 
     /// Puts an origin at the end. The only error is running out of memory, after which these may be of no use.
     pub fn push(&mut self, from: usize, makers: &[ProcessorNumber]) -> Result<(), AllocError>
-        requires { AreOriginsInOrder self.old }
+        requires in_order { AreOriginsInOrder self.old }
+        requires few { length (state_origins self.old) + 1 < most_state_origins }
+        requires from { from < most_state_origins }
+        requires makers { length makers.now ≤ most_origin_makers }
         ensures pushed { OnOk result (state_origins self.new ≡ state_origins self.old ++ record { from = from; makers = makers.now } ∷ []) }
         ensures in_order { OnOk result (AreOriginsInOrder self.new) }
     {
         self.makers.extend_from_slice(makers)?;
-        let ends = self.makers.len();
+        let ends = self.makers.len() as u32;
+        let from = from as u32;
         self.origins.push(Origin { from, ends })?;
         Ok(())
     }
@@ -54,7 +61,7 @@ impl Origins {
         if place == 0 {
             0
         } else {
-            self.origins[place - 1].ends
+            self.origins[place - 1].ends as usize
         }
     }
 
@@ -63,7 +70,7 @@ impl Origins {
         requires { place < length (state_origins self.now) }
         ensures { (o : AnOrigin) → slice_get (state_origins self.now) place ≡ Some o → result ≡ o.from }
     {
-        self.origins[place].from
+        self.origins[place].from as usize
     }
 
     /// Of each event that leads from the earlier state to this one, the processor that makes it.
@@ -72,6 +79,6 @@ impl Origins {
         requires in_order { AreOriginsInOrder self.now }
         ensures { (o : AnOrigin) → slice_get (state_origins self.now) place ≡ Some o → result.now ≡ o.makers }
     {
-        &self.makers[self.start(place)..self.origins[place].ends]
+        &self.makers[self.start(place)..self.origins[place].ends as usize]
     }
 }

@@ -61,13 +61,12 @@ fn add_all_yet_to_call(
     true
 }
 
-/// The first processor that hasn't arrived at the barrier as often as this one: of the members, or of all.
+/// The first of these processors that hasn't arrived at the barrier as often as this one.
 fn late_processor(
-    members: &PersistentMembers,
+    among: &PersistentMembers,
     state: &FlatState,
     processors: usize,
     processor: usize,
-    is_any: bool,
 ) -> Option<usize>
     requires processors { processors ≤ most_processors }
     requires processor { processor < most_processors }
@@ -75,7 +74,7 @@ fn late_processor(
         × (slice_index state.now.waiting.arrivals late < slice_index state.now.waiting.arrivals processor)) }
 {
     for other in 0..processors {
-        if (is_any || members[other]) && state.waiting.is_behind(other, processor) {
+        if among[other] && state.waiting.is_behind(other, processor) {
             return Some(other);
         }
     }
@@ -128,9 +127,10 @@ fn settle_barrier(
     ensures long { length members.new ≡ length members.old }
 {
     let processors = steps.len();
-    let late = match late_processor(members, state, processors, processor, false) {
+    let everybody = [true; MOST_PROCESSORS];
+    let late = match late_processor(members, state, processors, processor) {
         Some(late) => Some(late),
-        None => late_processor(members, state, processors, processor, true),
+        None => late_processor(&everybody, state, processors, processor),
     };
     match late {
         Some(late) => add_member(members, late),

@@ -11,7 +11,8 @@ ghost use Rattle.explore.specs.FreeChoice.{AreFreeChoiceTextFacts};
 ghost use Rattle.explore.specs.Explored.{IsExplored, IsExploredHang, IsExploredHanging, IsExploredVerdict, IsRunOfShownOutcome, explored_outcome, shown_outcome};
 ghost use Rattle.explore.specs.declared.explored.ShownOutcome.{ShownOutcome as AShownOutcome};
 ghost use Rattle.base.specs.InOrderOnce.{Has};
-ghost use Rattle.explore.specs.FoundStates.{AreFoundStates, KeepsFoundStates, found_states};
+ghost use Rattle.explore.specs.FoundStates.{AreFoundStates, HasRoomForStates, IsFoundStateAt, KeepsFoundStates, found_states};
+ghost use Rattle.explore.specs.Origins.{most_state_origins};
 ghost use Rattle.explore.specs.Machines.{AreLawfulMachineSteps};
 ghost use Rattle.explore.specs.Racing.{AreRacing};
 ghost use Rattle.explore.specs.StateRoom.{state_room_at_most};
@@ -137,13 +138,18 @@ impl Search {
         })
     }
 
-    /// Takes note of a state after which nothing may come next: it is whole, or it hangs.
-    fn note_end(&mut self, steps: &[Vec<ScriptCall>], place: usize) -> Result<(), AllocError>
-        requires { (s : Plan) × MayNoteInFlatSearch s self.old steps.now place }
+    /// Takes note of the state at this place, which is given, after which nothing may come next: it is whole, or it hangs.
+    fn note_end(
+        &mut self,
+        state: &FlatState,
+        steps: &[Vec<ScriptCall>],
+        place: usize,
+    ) -> Result<(), AllocError>
+        requires state { IsFoundStateAt self.old.found place state.now }
+        requires may { (s : Plan) × MayNoteInFlatSearch s self.old steps.now place }
         ensures found { OnOk result (self.new.found ≡ self.old.found) }
         ensures noted { OnOk result ((s : Plan) → MayNoteInFlatSearch s self.old steps.now place → AreFlatSearchNotes s self.new (place + 1)) }
     {
-        let state = self.found.at(place)?;
         if state.is_whole(steps) {
             let replies = state.replies()?;
             let outcome = ScriptOutcome { replies };
@@ -153,15 +159,18 @@ impl Search {
         Ok(())
     }
 
-    /// Looks at the state at this place: the two events that conflict, if there are such; else what comes next is
-    /// found, by one event that is free, by asks, or by all, and what there is to note is noted.
+    /// Looks at the state at this place, which is given: the two events that conflict, if there are such; else what comes
+    /// next is found, by one event that is free, by asks, or by all, and what there is to note is noted.
     pub(crate) fn look_at(
         &mut self,
+        state: FlatState,
         steps: &[Vec<ScriptCall>],
         facts: &TextFacts,
         place: usize,
     ) -> Result<Option<Neighbours>, AllocError>
+        requires state { IsFoundStateAt self.old.found place state }
         requires facts { AreFreeChoiceTextFacts steps.now facts.now }
+        requires room { HasRoomForStates self.old.found most_processors }
         requires unvisited { (s : Plan) × HasMoreToFlatSearch s self.old steps.now place }
         ensures looked { IfOk result (λ o. (s : Plan) → HasMoreToFlatSearch s self.old steps.now place
             → IsFlatSearchedAt s self.new steps.now place o) }
@@ -170,7 +179,6 @@ impl Search {
             × (length (found_states self.new.found) ≤ length (found_states self.old.found) + most_processors)
             × (self.new.found.first.telling ≡ self.old.found.first.telling)) }
     {
-        let state = self.found.at(place)?;
         let nexts = neighbour_nexts_of(&state, steps);
         if let Some((first, second)) = neighbours_in(&nexts) {
             return Ok(Some(Neighbours {
@@ -181,7 +189,7 @@ impl Search {
         }
         let followed = free_choice(steps, &state, &nexts, facts);
         if are_neighbours_over(&nexts) {
-            self.note_end(steps, place)?;
+            self.note_end(&state, steps, place)?;
         }
         self.found
             .follow_all(state, steps, facts, place, &followed)?;
@@ -197,6 +205,7 @@ impl Search {
         progress: &mut P,
     ) -> Result<Option<Neighbours>, AllocError>
         requires facts { AreFreeChoiceTextFacts steps.now facts.now }
+        requires room { most + most_processors ≤ most_state_origins }
         requires searched { (s : Plan) × AreLawfulMachineSteps s steps.now × FlatSearchedUpTo s self.old steps.now 0 }
         ensures looked { IfOk result (λ o. (s : Plan) → AreLawfulMachineSteps s steps.now → FlatSearchedUpTo s self.old steps.now 0
             → IsFlatSearchedThrough s self.new steps.now most o) }
@@ -214,7 +223,8 @@ impl Search {
             if place == states {
                 return Ok(None);
             }
-            if let Some(neighbours) = self.look_at(steps, facts, place)? {
+            let state = self.found.at(place)?;
+            if let Some(neighbours) = self.look_at(state, steps, facts, place)? {
                 return Ok(Some(neighbours));
             }
         }

@@ -1,5 +1,5 @@
 //! How many states of a script fit.
-ghost use Rattle.std.specs.Prelude.{◌≡◌, ◌≤◌, count_by, length};
+ghost use Rattle.std.specs.Prelude.{◌≡◌, ◌^◌, ◌≤◌, count_by, length};
 ghost use Rattle.lrc_script.specs.Prelude.{IsLawful, plan_of};
 ghost use Rattle.explore.specs.StateRoom.{state_room_is_load, state_room_is_loading, state_room_keeps, state_room_replies_in, state_room_size, state_room_at_most, state_room_words};
 
@@ -80,7 +80,8 @@ fn state_room_size(script: &Script, detail: Detail) -> usize
 /// How many states are looked at by this detail, if `most` are asked for: so many, but no more than fit.
 pub fn state_room_at_most(script: &Script, detail: Detail, most: usize) -> usize
     requires { IsLawful (plan_of script.now) }
-    ensures { result ≡ state_room_at_most (plan_of script.now) detail most }
+    ensures at_most { result ≡ state_room_at_most (plan_of script.now) detail most }
+    ensures few { result ≤ 2 ^ 27 }
 {
     most.min(state_room_size(script, detail))
 }

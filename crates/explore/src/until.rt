@@ -5,6 +5,7 @@ ghost use Rattle.journal.specs.declared.event.Event.{Event as AnEvent};
 ghost use Rattle.lrc_script.specs.Prelude.{IsLawful, Plan, plan_of};
 ghost use Rattle.explore.specs.FreeChoice.{AreFreeChoiceTextFacts};
 ghost use Rattle.explore.specs.FoundStates.{AreFoundStates, found_states};
+ghost use Rattle.explore.specs.Origins.{most_state_origins};
 ghost use Rattle.explore.specs.Machines.{AreLawfulMachineSteps, IsMachineRunning, MachineKnows};
 ghost use Rattle.explore.specs.FlatSearch.{FlatSearchedUpTo};
 ghost use Rattle.explore.specs.declared.outcome_telling.Detail.{Detail as ADetail};
@@ -56,6 +57,7 @@ fn look_until<P: Progress>(
     progress: &mut P,
 ) -> Result<Option<Met>, AllocError>
     requires facts { AreFreeChoiceTextFacts steps.now facts.now }
+    requires room { most + most_processors ≤ most_state_origins }
     requires searched { (s : Plan) × AreLawfulMachineSteps s steps.now × FlatSearchedUpTo s search.old steps.now 0 }
     ensures looked { IfOk result (λ o. (s : Plan) → AreLawfulMachineSteps s steps.now → FlatSearchedUpTo s search.old steps.now 0
         → IsSearchedUntil s search.new steps.now words.now most o) }
@@ -77,7 +79,7 @@ fn look_until<P: Progress>(
         if has_until_words(&state, steps, words) {
             return Ok(Some(Met::Ending(place)));
         }
-        if let Some(neighbours) = search.look_at(steps, facts, place)? {
+        if let Some(neighbours) = search.look_at(state, steps, facts, place)? {
             return Ok(Some(Met::Conflict(neighbours)));
         }
     }

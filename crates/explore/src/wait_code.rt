@@ -57,7 +57,7 @@ pub fn wait_code_end_of(wait: Option<WaitCode>) -> Option<Kind>
 }
 
 /// A processor's number, below 16, in a byte.
-#[derive(Clone, Copy, PartialEq, Eq, PartialOrd, Ord, Hash)]
+#[derive(Clone, Copy, Default, PartialEq, Eq, PartialOrd, Ord, Hash)]
 pub struct ProcessorNumber(u8);
 
 impl ProcessorNumber {

@@ -5,13 +5,13 @@ use Rattle.explore.proofs.FreeRuns.{free_run_noted_push, free_run_noted_start}
 use Rattle.explore.proofs.MachineSteps.{machine_step_rows_few}
 use Rattle.explore.proofs.free_run.make_free_run.Goals as goal
 
-pub loop-init : goal.loop-init
-loop-init c = free_run_noted_start c.args.steps.now c.args.state.now c.args.makers.now.items
+pub loop-state-init : goal.loop-state-init
+loop-state-init c = free_run_noted_start c.args.steps.now c.args.state.now c.args.makers.now.items
 
 pub free_run_next-requires : goal.free_run_next-requires
 free_run_next-requires c =
     let running = c.requires.running in
-    let went = c.loop.invariant in
+    let went = c.loop-state.invariant in
     record {
       plan = running.plan;
       lawful = running.lawful;
@@ -23,7 +23,7 @@ pub step-requires : goal.step-requires
 step-requires c =
     let running = c.requires.running in
     let s = running.plan in
-    let went = c.loop.invariant in
+    let went = c.loop-state.invariant in
     let g = running.events ++ went.more in
     let knows = went.run.knows s running.events running.lawful running.knows in
     record {
@@ -40,11 +40,11 @@ of-requires c =
     let within = c.in-Some.ensures.processor in
     omega (arith, few, within)
 
-pub loop-preserved : goal.loop-preserved
-loop-preserved c =
+pub loop-state-preserved : goal.loop-state-preserved
+loop-state-preserved c =
     let rows = c.args.steps.now in
     let e = c.in-Some.event in
     let free = choosing_free_where_guarded rows c.args.facts.now.guarded.items e.kind c.requires.facts.guarded
     (subst (λ words. IsFreeForChoiceByWords words e.kind) c.deref.ensures.value c.in-Some.ensures.free) in
-    free_run_noted_push rows c.step.new.self e c.of.result c.loop.invariant free c.in_ok-step.ensures.telling
-    (λ s g lawful knows. c.in_ok-step.ensures.knows s g lawful knows (c.in-Some.ensures.next s g lawful knows)) c.of.ensures c.in_ok-push.ensures.items
+    free_run_noted_push rows c.step.new.self e c.of.result c.loop-state.invariant free c.in_ok-step.ensures.telling
+    (λ s g lawful knows. c.in_ok-step.ensures.knows s g lawful knows (c.in-Some.ensures.next s g lawful knows)) c.of.ensures c.push.ensures.items

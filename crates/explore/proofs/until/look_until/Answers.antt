@@ -197,3 +197,10 @@ at-requires-clause-place g c =
 pub at-requires-clause-kept : goal.at-requires-clause-kept
 at-requires-clause-kept g c =
     (c.loop-place.invariant.searched c.requires.searched.0 c.requires.searched.1 c.requires.searched.2).searched.found.kept
+
+pub look_at-requires-clause-room : goal.look_at-requires-clause-room
+look_at-requires-clause-room g c =
+    let is = c.len-states.ensures.count in
+    let under = not_past c.args.most c.len-states.result c.is_search_past.result c.is_search_past.ensures c.if-is_search_past.false in
+    let room = c.requires.room in
+    omega (arith, is, under, room)

@@ -21,7 +21,7 @@ returns g c =
     let s = plan_of c.args.script.now in
     let begun = c.in_ok-search.ensures.searched c.args.steps.now in
     let looked = c.in_ok-met.ensures.looked s c.requires begun in
-    let most = c.state_room_at_most-most.ensures in
+    let most = c.state_room_at_most-most.ensures.at_most in
     let count = c.len-states.ensures.count in
     let telling = c.in_ok-met.ensures.telling s c.requires begun ∙ c.in_ok-search.ensures.telling in
     record {
@@ -37,3 +37,8 @@ returns g c =
           c.in_ok-showing.ensures.opens opens in
           omega (arith, more, most);
     }
+
+pub look_until-requires-clause-room : goal.look_until-requires-clause-room
+look_until-requires-clause-room g c =
+    let few = c.state_room_at_most-most.ensures.few in
+    omega (arith, few)

@@ -1,137 +1,27 @@
-use Rattle.std.proofs.Common.{ℕ, ◌≡◌, ◌<◌, ◌≤◌, ◌↔◌, List, Some, IsTrue, length, slice_get, slice_index, refl, sym, ap, subst, ◌∙◌, arith}
-use Rattle.std.specs.Global.{Vec}
+use Rattle.std.proofs.Common.{Some, sym, ap, subst, ◌∙◌}
 use Rattle.std.proofs.lemmas.Bool.{false≢true}
 use Rattle.std.proofs.lemmas.Option.{none-some, same_Some}
-use Rattle.journal.specs.declared.event.Event.{Event}
-use Rattle.journal.specs.declared.event.Kind.{Kind}
-use Rattle.journal.specs.DidEvent.{did, event}
-use Rattle.journal.specs.ReplayMemory.{AnswersReplayMemory}
-use Rattle.journal.specs.WellFormed.{WellFormedKindInRange, WellFormedNext}
-use Rattle.lrc_script.specs.Plan.{Plan}
-use Rattle.conformance.specs.Follows.{calls_of, plan_sizes}
-use Rattle.explore.specs.declared.prefixes.script_call.ScriptCall.{ScriptCall}
+use Rattle.journal.specs.DidEvent.{did}
 use Rattle.explore.specs.Prefixes.FlatBeginnings.{IsFlatBeginning}
-use Rattle.explore.specs.Prefixes.ScriptCalls.{FitsScriptCall, last_reply_of_script_calls}
-use Rattle.explore.specs.declared.flat_state.FlatState.{FlatState}
-use Rattle.explore.specs.Machines.{AreLawfulMachineSteps, MachineKnows}
-use Rattle.explore.specs.OutcomeTelling.{is_sum_for_outcome_telling, outcome_telling_steps}
-use Rattle.explore.proofs.MachineSteps.{machine_step_at, machine_step_memory_long, machine_steps_all_made, machine_step_read_at, machine_step_row, machine_step_row_told, machine_step_row_proper, machine_step_rows_few, machine_step_rows_many, machine_step_sizes_small, machine_step_range, machine_step_word}
 use Rattle.explore.proofs.flat_state.FlatState.next.Goals as goal
 
-pub returns-then-done-len : goal.returns-then-done-len
-returns-then-done-len c = λ s g steps knows k.
-    let p = c.args.processor in
-    let few = machine_step_rows_few s c.args.steps.now steps in
-    let lt = c.requires.processor in
-    let row = c.index-steps-processor.result in
-    let at = machine_step_read_at c.args.steps.now p row lt c.index-steps-processor.is in
-    let of = machine_step_row s c.args.steps.now p row steps.are at in
-    let long = c.len.ensures in
-    let over = c.if-done-len.true in
-    let past : length row.items ≤ slice_index c.args.self.now.done p = omega arith in (
+pub returns-in-Some : goal.returns-in-Some
+returns-in-Some c = λ s g lawful knows k.
+    let may = c.may_make.ensures s g lawful knows in
+    let next = (c.in-Some.ensures s lawful).next g k knows in (
+      λ is. subst (λ j. IsFlatBeginning s (did g c.args.processor j)) (same_Some c.in-Some.kind k is) (may.0 c.if-may_make.true),
+      λ h. ap Some (next.0 h).1,
+    )
+
+pub returns-in_default : goal.returns-in_default
+returns-in_default c = λ s g lawful knows k.
+    let may = c.may_make.ensures s g lawful knows in
+    let next = (c.in-Some.ensures s lawful).next g k knows in (
       λ none. absurd (none-some k none),
-      λ h. absurd (machine_steps_all_made s g c.args.self.now p row steps.lawful of (omega arith) knows past k h),
+      λ h.
+          let mine = subst (λ j. IsFlatBeginning s (did g c.args.processor j)) (sym (next.0 h).1) h in
+          absurd (false≢true (sym c.if-may_make.false ∙ may.1 mine)),
     )
 
-pub flat_state_call_of-kind-requires : goal.flat_state_call_of-kind-requires
-flat_state_call_of-kind-requires c =
-    let run = c.requires.running in
-    let m = c.args.self.now in
-    let p = c.args.processor in
-    let row = c.index-steps-processor.result in
-    let at = machine_step_read_at c.args.steps.now p row c.requires.processor c.index-steps-processor.is in
-    let of = machine_step_row run.plan c.args.steps.now p row run.lawful.are at in
-    let long = c.len.ensures in
-    let under = c.if-done-len.false in
-    let n = slice_index m.done p in
-    let here = machine_step_read_at row.items n c.index.result.now (omega arith) c.index.ensures in
-    machine_step_word run.plan c.index.result.now (length c.deref.result.now)
-    (ap (λ (ws : List ℕ). length ws) c.deref.ensures.value ∙ machine_step_memory_long run.plan run.events m run.knows)
-    (machine_step_row_proper run.plan p row n c.index.result.now run.lawful.lawful of here)
-
--- what the call is, by the words of the machine
-module _ (s : Plan) (g : List Event) (m : FlatState) (steps : List (Vec ScriptCall)) (p : ℕ) (row : Vec ScriptCall)
-    (lawful : AreLawfulMachineSteps s steps) (knows : MachineKnows s g m) (lt : p < length steps) (at : slice_get steps p ≡ Some row)
-    (x : ScriptCall) (here : slice_get row.items (slice_index m.done p) ≡ Some x) (reply : ℕ) (words : List ℕ)
-    (told : (t : Plan) (h : List Event) → MachineKnows t h m
-    → IsTrue (is_sum_for_outcome_telling (slice_get (outcome_telling_steps t p) (length (calls_of h p)))) → reply ≡ last_reply_of_script_calls (calls_of h p))
-    (are : words ≡ m.memory.items) (c : Kind)
-    (says : (k : Kind) → (c ≡ k) ↔ (FitsScriptCall reply x k × AnswersReplayMemory words k)) where
-  in_range : WellFormedKindInRange (plan_sizes s) c
-  in_range =
-      machine_step_range s reply x c
-      (machine_step_row_proper s p row (slice_index m.done p) x lawful.lawful (machine_step_row s steps p row lawful.are at) here)
-      ((says c).0 refl).0
-
-  goes : (k : Kind) → IsFlatBeginning s (did g p k) ↔ (WellFormedNext (plan_sizes s) g (event p c) × (c ≡ k))
-  goes =
-      let few = machine_step_rows_few s steps lawful in
-      let of = machine_step_row s steps p row lawful.are at in
-      let small : p < 16 = omega arith in
-      let there : slice_get (outcome_telling_steps s p) (length (calls_of g p)) ≡ Some x =
-      ap (λ xs. slice_get xs (length (calls_of g p))) (sym (machine_step_row_told s p row of))
-      ∙ ap (slice_get row.items) (sym (knows.done p small)) ∙ here in
-      machine_step_at s g m p row lawful.lawful of small knows reply x
-      (λ sum. told s g knows (ap is_sum_for_outcome_telling there ∙ sum)) here c (subst (λ ws. (k : Kind) → (c ≡ k) ↔ (FitsScriptCall reply x k × AnswersReplayMemory ws k)) are says)
-
-pub may_follow-requires : goal.may_follow-requires
-may_follow-requires c =
-    let run = c.requires.running in
-    let m = c.args.self.now in
-    let p = c.args.processor in
-    let row = c.index-steps-processor.result in
-    let lt = c.requires.processor in
-    let at = machine_step_read_at c.args.steps.now p row lt c.index-steps-processor.is in
-    let long = c.len.ensures in
-    let under = c.if-done-len.false in
-    let here = machine_step_read_at row.items (slice_index m.done p) c.index.result.now (omega arith) c.index.ensures in
-    record {
-      sizes = plan_sizes run.plan;
-      small = machine_step_sizes_small run.plan run.lawful.lawful;
-      processors_are = machine_step_rows_many run.plan c.args.steps.now run.lawful;
-      processor = lt;
-      in_range =
-          in_range run.plan run.events m c.args.steps.now p row run.lawful run.knows lt at c.index.result.now here
-          c.reply_before.result c.deref.result.now c.reply_before.ensures c.deref.ensures.value c.flat_state_call_of-kind.result
-          c.flat_state_call_of-kind.ensures;
-      events = run.events;
-      tells = run.knows.waiting;
-    }
-
-pub returns-then-may_follow : goal.returns-then-may_follow
-returns-then-may_follow c = λ s g lawful knows k.
-    let m = c.args.self.now in
-    let p = c.args.processor in
-    let row = c.index-steps-processor.result in
-    let lt = c.requires.processor in
-    let at = machine_step_read_at c.args.steps.now p row lt c.index-steps-processor.is in
-    let long = c.len.ensures in
-    let under = c.if-done-len.false in
-    let here = machine_step_read_at row.items (slice_index m.done p) c.index.result.now (omega arith) c.index.ensures in
-    let goes_on = goes s g m c.args.steps.now p row lawful knows lt at c.index.result.now here c.reply_before.result
-    c.deref.result.now c.reply_before.ensures c.deref.ensures.value c.flat_state_call_of-kind.result c.flat_state_call_of-kind.ensures k in
-    let range = in_range s g m c.args.steps.now p row lawful knows lt at c.index.result.now here c.reply_before.result
-    c.deref.result.now c.reply_before.ensures c.deref.ensures.value c.flat_state_call_of-kind.result c.flat_state_call_of-kind.ensures in
-    let may = c.may_follow.ensures (plan_sizes s) g (machine_step_rows_many s c.args.steps.now lawful) range knows.waiting in (
-      λ is. goes_on.1 (may.0 c.if-may_follow.true, same_Some c.flat_state_call_of-kind.result k is),
-      λ h. ap Some (goes_on.0 h).1,
-    )
-
-pub returns-else-may_follow : goal.returns-else-may_follow
-returns-else-may_follow c = λ s g lawful knows k.
-    let m = c.args.self.now in
-    let p = c.args.processor in
-    let row = c.index-steps-processor.result in
-    let lt = c.requires.processor in
-    let at = machine_step_read_at c.args.steps.now p row lt c.index-steps-processor.is in
-    let long = c.len.ensures in
-    let under = c.if-done-len.false in
-    let here = machine_step_read_at row.items (slice_index m.done p) c.index.result.now (omega arith) c.index.ensures in
-    let goes_on = goes s g m c.args.steps.now p row lawful knows lt at c.index.result.now here c.reply_before.result
-    c.deref.result.now c.reply_before.ensures c.deref.ensures.value c.flat_state_call_of-kind.result c.flat_state_call_of-kind.ensures k in
-    let range = in_range s g m c.args.steps.now p row lawful knows lt at c.index.result.now here c.reply_before.result
-    c.deref.result.now c.reply_before.ensures c.deref.ensures.value c.flat_state_call_of-kind.result c.flat_state_call_of-kind.ensures in
-    let may = c.may_follow.ensures (plan_sizes s) g (machine_step_rows_many s c.args.steps.now lawful) range knows.waiting in (
-      λ none. absurd (none-some k none),
-      λ h. absurd (false≢true (sym c.if-may_follow.false ∙ may.1 (goes_on.0 h).0)),
-    )
+pub returns-in_default-2 : goal.returns-in_default-2
+returns-in_default-2 c = λ s g lawful knows k. (λ none. absurd (none-some k none), λ h. absurd (c.in_default.ensures s lawful g k knows h))

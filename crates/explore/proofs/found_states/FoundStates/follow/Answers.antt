@@ -1,4 +1,4 @@
-use Rattle.std.proofs.Common.{ap, refl, ◌∙◌, ◌++◌, ◌∷◌, [], map}
+use Rattle.std.proofs.Common.{ap, refl, sym, ◌∙◌, ◌++◌, ◌∷◌, [], map}
 use Rattle.std.proofs.lemmas.Option.{same_Some}
 use Rattle.std.proofs.lemmas.Result.{on_ok_weaker}
 use Rattle.journal.specs.declared.event.Event.{Event}
@@ -7,6 +7,7 @@ use Rattle.explore.specs.declared.wait_code.ProcessorNumber.{ProcessorNumber}
 use Rattle.explore.proofs.AddedStates.{IsAddedStateFreelyReached, added_state_is_followed}
 use Rattle.explore.specs.FoundStates.{found_states}
 use Rattle.explore.proofs.MachineSteps.{machine_step_some_at}
+use Rattle.explore.proofs.KeptStates.{kept_state_of_one_search}
 use Rattle.explore.proofs.LikeMachines.{like_machine_knows}
 use Rattle.explore.proofs.found_states.FoundStates.follow.Goals as goal
 
@@ -55,9 +56,9 @@ returns c = on_ok_weaker c.add.result (λ added s may.
       more = noted.more;
       free = went.free;
       from = refl;
-      makers = ap (map (λ (n : ProcessorNumber). n.0)) c.deref.ensures.value ∙ noted.makers
+      makers = ap (map (λ (n : ProcessorNumber). n.0)) c.deref.ensures.0 ∙ noted.makers
           ∙ ap (λ ns. map (λ (n : ProcessorNumber). n.0) ns ++ map (λ (e : Event). e.processor) noted.more)
-          (c.in_ok-push.ensures.items ∙ ap (λ ns. ns ++ c.of.result ∷ []) c.in_ok-makers.ensures.items)
+          (c.push.ensures.items ∙ ap (λ ns. ns ++ c.of.result ∷ []) c.new-makers.ensures)
           ∙ ap (λ q. q ∷ map (λ (e : Event). e.processor) noted.more) (same_Some c.of.result.0 p c.of.ensures);
       telling = went.telling ∙ c.in_ok-step.ensures.telling ∙ like.telling;
       knows = λ g knows. went.knows s (did g p k) may.lawful
@@ -68,8 +69,17 @@ returns c = on_ok_weaker c.add.result (λ added s may.
 pub of-requires : goal.of-requires
 of-requires c = c.requires.may.1.small
 
-pub add-requires : goal.add-requires
-add-requires c =
+pub add-requires-clause-kept : goal.add-requires-clause-kept
+add-requires-clause-kept c = c.requires.may.1.found.kept
+
+pub add-requires-clause-long : goal.add-requires-clause-long
+add-requires-clause-long c = c.requires.may.1.found.long
+
+pub add-requires-clause-from : goal.add-requires-clause-from
+add-requires-clause-from c = c.requires.may.1.within
+
+pub add-requires-clause-known : goal.add-requires-clause-known
+add-requires-clause-known c =
     let s = c.requires.may.0 in
     let may = c.requires.may.1 in
     let stored = machine_step_some_at (found_states c.args.self.now) c.args.place may.within in
@@ -79,11 +89,22 @@ add-requires c =
     let stepped = c.in_ok-step.ensures.knows s g.0 may.lawful (like_machine_knows s g.0 f c.args.state (c.requires.state f stored.1) g.1)
     (may.next f stored.1 g.0 g.1) in
     record {
-      kept = may.found.kept;
-      known = record {
-        plan = s;
-        table = may.found.calls;
-        events = did g.0 c.args.event.processor c.args.event.kind ++ noted.more;
-        knows = noted.run.knows s (did g.0 c.args.event.processor c.args.event.kind) may.lawful stepped;
-      };
+      plan = s;
+      table = may.found.calls;
+      events = did g.0 c.args.event.processor c.args.event.kind ++ noted.more;
+      knows = noted.run.knows s (did g.0 c.args.event.processor c.args.event.kind) may.lawful stepped;
     }
+
+pub add-requires-clause-of_one : goal.add-requires-clause-of_one
+add-requires-clause-of_one c =
+    let s = c.requires.may.0 in
+    let may = c.requires.may.1 in
+    let stored = machine_step_some_at (found_states c.args.self.now) c.args.place may.within in
+    let f = stored.0 in
+    let like = c.requires.state f stored.1 in
+    let g = may.found.known c.args.place f stored.1 in
+    let noted = c.in_ok-make_free_run.ensures in
+    let stepped = c.in_ok-step.ensures.knows s g.0 may.lawful (like_machine_knows s g.0 f c.args.state like g.1) (may.next f stored.1 g.0 g.1) in
+    kept_state_of_one_search s _ c.args.self.now.first c.make_free_run.new.state may.found.begins
+    (noted.run.knows s (did g.0 c.args.event.processor c.args.event.kind) may.lawful stepped)
+    (sym (noted.run.telling ∙ c.in_ok-step.ensures.telling ∙ like.telling ∙ may.found.told c.args.place f stored.1))

@@ -118,3 +118,19 @@ returns c = on_ok_weaker c.follow-2.result (λ followed s may.
     let within = of.within in
     followed_all_rest s rows x z c.args.place nexts may (last + 1) next (omega (arith, within))
     (λ p j told. let le = of.last p j told in omega (arith, le))) c.follow-2.ensures
+
+pub follow-requires-clause-room : goal.follow-requires-clause-room
+follow-requires-clause-room c =
+    let few = (c.loop-processor.invariant c.requires.may.0 c.requires.may.1).few in
+    let room = c.requires.room in
+    let before = c.loop-processor-test.true in
+    let within = c.in-Some.ensures.within in
+    omega (arith, few, room, before, within)
+
+pub follow-requires-2-clause-room : goal.follow-requires-2-clause-room
+follow-requires-2-clause-room c =
+    let few = (c.loop-processor.invariant c.requires.may.0 c.requires.may.1).few in
+    let room = c.requires.room in
+    let up_to = c.loop-processor.auto.processor-end in
+    let within = c.in-Some.ensures.within in
+    omega (arith, few, room, up_to, within)

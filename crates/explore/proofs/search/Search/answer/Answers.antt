@@ -98,7 +98,7 @@ returns g c =
     let steps = c.args.steps.now in
     let looked = c.in_ok-neighbours.ensures in
     let through = looked.looked s c.requires.steps c.requires.searched in
-    let most = c.state_room_at_most-most.ensures in
+    let most = c.state_room_at_most-most.ensures.at_most in
     let count = c.len-states.ensures.count in
     let all = searched s x steps c.state_room_at_most-most.result c.len-states.result c.in_ok-neighbours.neighbours
     c.is_search_through-through.result through count c.is_search_through-through.ensures in
@@ -131,3 +131,8 @@ search_outcomes_with_runs-requires g c =
     let s = plan_of c.args.script.now in
     let through = c.in_ok-neighbours.ensures.looked s c.requires.steps c.requires.searched in
     (s, c.requires.steps.lawful, through.some.1.found, through.some.1.noted.places)
+
+pub look_at_all-requires-clause-room : goal.look_at_all-requires-clause-room
+look_at_all-requires-clause-room g c =
+    let few = c.state_room_at_most-most.ensures.few in
+    omega (arith, few)

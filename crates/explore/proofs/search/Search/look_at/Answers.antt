@@ -3,7 +3,7 @@ use Rattle.std.proofs.lemmas.Bool.{false≢true}
 use Rattle.std.proofs.lemmas.Option.{same_Some}
 use Rattle.explore.specs.declared.flat_state.FlatState.{FlatState}
 use Rattle.explore.specs.declared.search.Search.{Search}
-use Rattle.explore.specs.FoundStates.{IsFoundStateAt, found_states}
+use Rattle.explore.specs.FoundStates.{HasRoomForStates, IsFoundStateAt, found_states}
 use Rattle.explore.specs.FollowedStates.{AreFollowedStates, MayBeFollowedStateByEach}
 use Rattle.explore.specs.Machines.{MachineKnows}
 use Rattle.explore.specs.Nexts.{AreNexts}
@@ -24,16 +24,16 @@ neighbour_nexts_of-nexts-requires c =
       plan = s;
       lawful = may.lawful;
       events = g.0;
-      knows = like_machine_knows s g.0 stored.0 c.in_ok-state.state (c.in_ok-state.ensures stored.0 stored.1) g.1;
+      knows = like_machine_knows s g.0 stored.0 c.args.state (c.requires.state stored.0 stored.1) g.1;
     }
 
 pub returns-in-Some-clause-looked : goal.returns-in-Some-clause-looked
 returns-in-Some-clause-looked c = λ s may.
     let stored = machine_step_some_at (found_states c.args.self.now.found) c.args.place may.more in
     let f = stored.0 in
-    let like = c.in_ok-state.ensures f stored.1 in
+    let like = c.requires.state f stored.1 in
     let nexts_of : AreNexts s f c.neighbour_nexts_of-nexts.result = (λ g knows.
-    c.neighbour_nexts_of-nexts.ensures.nexts s may.lawful g (like_machine_knows s g f c.in_ok-state.state like knows)) in
+    c.neighbour_nexts_of-nexts.ensures.nexts s may.lawful g (like_machine_knows s g f c.args.state like knows)) in
     let nexts = nexts_of in
     let conflict = c.in-Some.ensures in (
       may.searched,
@@ -54,15 +54,15 @@ returns-in-Some-clause-looked c = λ s may.
       },
     )
 
-pub note_end-requires : goal.note_end-requires
-note_end-requires c =
+pub note_end-requires-clause-may : goal.note_end-requires-clause-may
+note_end-requires-clause-may c =
     let s = c.requires.unvisited.0 in
     let may = c.requires.unvisited.1 in
     let stored = machine_step_some_at (found_states c.args.self.now.found) c.args.place may.more in
     let f = stored.0 in
-    let like = c.in_ok-state.ensures f stored.1 in
+    let like = c.requires.state f stored.1 in
     let nexts_of : AreNexts s f c.neighbour_nexts_of-nexts.result = (λ g knows.
-    c.neighbour_nexts_of-nexts.ensures.nexts s may.lawful g (like_machine_knows s g f c.in_ok-state.state like knows)) in
+    c.neighbour_nexts_of-nexts.ensures.nexts s may.lawful g (like_machine_knows s g f c.args.state like knows)) in
     let nexts = nexts_of in (
       s,
       record {
@@ -82,9 +82,9 @@ follow_all-requires-clause-may c =
     let may = c.requires.unvisited.1 in
     let stored = machine_step_some_at (found_states c.args.self.now.found) c.args.place may.more in
     let f = stored.0 in
-    let like = c.in_ok-state.ensures f stored.1 in
+    let like = c.requires.state f stored.1 in
     let nexts_of : AreNexts s f c.neighbour_nexts_of-nexts.result = (λ g knows.
-    c.neighbour_nexts_of-nexts.ensures.nexts s may.lawful g (like_machine_knows s g f c.in_ok-state.state like knows)) in
+    c.neighbour_nexts_of-nexts.ensures.nexts s may.lawful g (like_machine_knows s g f c.args.state like knows)) in
     let same : c.if-are_neighbours_over.self.found ≡ c.args.self.now.found = elim c.if-are_neighbours_over.branch [
       | then-are_neighbours_over+in_ok-note_end w ↦ ap (λ (z : Search). z.found) w.self-is ∙ w.in_ok-note_end.ensures.found
       | else-are_neighbours_over w ↦ ap (λ (z : Search). z.found) w.self-is
@@ -110,9 +110,9 @@ returns-clause-found c = λ s may.
     let place = c.args.place in
     let stored = machine_step_some_at (found_states c.args.self.now.found) c.args.place may.more in
     let f = stored.0 in
-    let like = c.in_ok-state.ensures f stored.1 in
+    let like = c.requires.state f stored.1 in
     let nexts_of : AreNexts s f c.neighbour_nexts_of-nexts.result = (λ g knows.
-    c.neighbour_nexts_of-nexts.ensures.nexts s may.lawful g (like_machine_knows s g f c.in_ok-state.state like knows)) in
+    c.neighbour_nexts_of-nexts.ensures.nexts s may.lawful g (like_machine_knows s g f c.args.state like knows)) in
     let chosen = c.free_choice-followed.result in
     let new = c.follow_all.new.self in
     let same : c.if-are_neighbours_over.self.found ≡ x = elim c.if-are_neighbours_over.branch [
@@ -140,9 +140,9 @@ returns-clause-looked c = λ s may.
     let place = c.args.place in
     let stored = machine_step_some_at (found_states c.args.self.now.found) c.args.place may.more in
     let f = stored.0 in
-    let like = c.in_ok-state.ensures f stored.1 in
+    let like = c.requires.state f stored.1 in
     let nexts_of : AreNexts s f c.neighbour_nexts_of-nexts.result = (λ g knows.
-    c.neighbour_nexts_of-nexts.ensures.nexts s may.lawful g (like_machine_knows s g f c.in_ok-state.state like knows)) in
+    c.neighbour_nexts_of-nexts.ensures.nexts s may.lawful g (like_machine_knows s g f c.args.state like knows)) in
     let nexts = c.neighbour_nexts_of-nexts.result in
     let chosen = c.free_choice-followed.result in
     let are = nexts_of in
@@ -190,7 +190,7 @@ returns-clause-looked c = λ s may.
     (λ m g at knows. c.free_choice-followed.ensures.choice s g (record {
       lawful = may.lawful;
       told = c.requires.facts;
-      knows = like_machine_knows s g f c.in_ok-state.state like (subst (MachineKnows s g) (same_Some m f (sym at ∙ stored.1)) knows);
+      knows = like_machine_knows s g f c.args.state like (subst (MachineKnows s g) (same_Some m f (sym at ∙ stored.1)) knows);
     })) followed
     (searched_states_noted_kept s (found_states x.found) (found_states new) (place + 1) followed.keeps (omega arith) c.if-are_neighbours_over.self z
     (ap found_states same) refl refl refl noted)
@@ -198,13 +198,20 @@ returns-clause-looked c = λ s may.
 pub free_choice-followed-requires : goal.free_choice-followed-requires
 free_choice-followed-requires c = machine_step_rows_few c.requires.unvisited.0 c.args.steps.now c.requires.unvisited.1.lawful
 
-pub at-requires-clause-kept : goal.at-requires-clause-kept
-at-requires-clause-kept c = c.requires.unvisited.1.searched.found.kept
-
 pub follow_all-requires-clause-state : goal.follow_all-requires-clause-state
 follow_all-requires-clause-state c =
     let same : c.if-are_neighbours_over.self.found ≡ c.args.self.now.found = elim c.if-are_neighbours_over.branch [
       | then-are_neighbours_over+in_ok-note_end w ↦ ap (λ (z : Search). z.found) w.self-is ∙ w.in_ok-note_end.ensures.found
       | else-are_neighbours_over w ↦ ap (λ (z : Search). z.found) w.self-is
     ] in
-    subst (λ x. IsFoundStateAt x c.args.place c.in_ok-state.state) (sym same) c.in_ok-state.ensures
+    subst (λ x. IsFoundStateAt x c.args.place c.args.state) (sym same) c.requires.state
+
+pub follow_all-requires-clause-room : goal.follow_all-requires-clause-room
+follow_all-requires-clause-room c =
+    let same : c.if-are_neighbours_over.self.found ≡ c.args.self.now.found = elim c.if-are_neighbours_over.branch [
+      | then-are_neighbours_over+in_ok-note_end w ↦ ap (λ (z : Search). z.found) w.self-is ∙ w.in_ok-note_end.ensures.found
+      | else-are_neighbours_over w ↦ ap (λ (z : Search). z.found) w.self-is
+    ] in
+    let room = c.requires.room in
+    let long = c.free_choice-followed.ensures.long in
+    subst (λ x. HasRoomForStates x (length c.free_choice-followed.result)) (sym same) (omega (arith, room, long))

@@ -135,3 +135,10 @@ returns-clause-telling g c = c.loop-place.invariant.telling
 
 pub returns-clause-few : goal.returns-clause-few
 returns-clause-few g c = c.loop-place.invariant.few
+
+pub look_at-requires-clause-room : goal.look_at-requires-clause-room
+look_at-requires-clause-room g c =
+    let is = c.len-states.ensures.count in
+    let under = not_past c.args.most c.len-states.result c.is_search_past.result c.is_search_past.ensures c.if-is_search_past.false in
+    let room = c.requires.room in
+    omega (arith, is, under, room)
