@@ -7,43 +7,42 @@ ghost use Rattle.base.specs.Prelude.{most_processors};
 ghost use Rattle.vtime.specs.TicksAndJoins.{tick, join, Covers};
 
 use base::MOST_PROCESSORS;
+use smallvec::SmallVec;
 use std::alloc::Global;
 use std::marker::Model;
 
 /// A vector timestamp: entry q is how many of processor q's intervals have been performed here.
 ///
-/// It has 1 to `MOST_PROCESSORS` entries, and they lie in the value itself, so no call takes memory. The order that
+/// It has 1 to `MOST_PROCESSORS` entries in a `SmallVec` with room for all in the value, so no call takes memory. The order that
 /// `covers` and `join` are about is that of Mattern (Virtual Time and Global States of Distributed
 /// Systems, 1989); its use for intervals is that of Keleher, Cox and Zwaenepoel (Lazy Release
 /// Consistency for Software Distributed Shared Memory, ISCA 1992, section 3).
 #[derive(Drop)]
 pub struct VTime {
-    // Those past the processors' say nothing.
-    entries: [u64; MOST_PROCESSORS],
-    processors: usize,
+    entries: SmallVec<u64, MOST_PROCESSORS>,
 }
 
 impl Model for VTime {
-    ghost use Rattle.std.specs.Prelude.{ℕ, ◌≤◌, List, take};
+    ghost use Rattle.std.specs.Prelude.{◌≡◌, ℕ, ◌≤◌, List, length};
     ghost use Rattle.base.specs.Limits.{most_processors};
 
     ghost Value = { List ℕ };
 
-    ghost view = { λ time. take time.processors time.entries };
+    ghost view = { λ time. time.entries.items };
 
-    ghost invariant = { λ time. (1 ≤ time.processors) × (time.processors ≤ most_processors) };
+    ghost invariant = { λ time. (time.entries.capacity ≡ most_processors)
+        × (1 ≤ length time.entries.items) × (length time.entries.items ≤ most_processors) };
 }
 
 impl VTime {
     /// The timestamp of `processors` processors (1 to `MOST_PROCESSORS`) of which no interval has been performed.
-    pub fn zero(_alloc: Global, processors: usize) -> VTime
+    pub fn zero(alloc: Global, processors: usize) -> VTime
         requires some { 1 ≤ processors }
         requires most { processors ≤ most_processors }
         ensures { result ≡ replicate processors 0 }
     {
         VTime {
-            entries: [0; MOST_PROCESSORS],
-            processors,
+            entries: SmallVec::from_elem(alloc, 0, processors).unwrap(),
         }
     }
 
@@ -59,7 +58,7 @@ impl VTime {
     pub fn entries(&self) -> &[u64]
         ensures { result.now ≡ self.now }
     {
-        &self.entries[..self.processors]
+        self.entries.as_slice()
     }
 
     /// Adds one interval of processor `q`, which it has just closed.
@@ -68,7 +67,7 @@ impl VTime {
         requires fits { slice_index self.old q < 2 ^ 64 - 1 }
         ensures { self.new ≡ tick self.old q }
     {
-        tick_vtime_entry(&mut self.entries[..self.processors], q);
+        tick_vtime_entry(self.entries.as_mut_slice(), q);
     }
 
     /// Takes over what `other` has performed: each entry becomes the greater of the two.
@@ -78,14 +77,14 @@ impl VTime {
         ensures greater { (q : ℕ) → slice_index self.new q ≡ max (slice_index self.old q) (slice_index other.now q) }
         ensures same_length { length self.new ≡ length self.old }
     {
-        join_vtime_entries(&mut self.entries[..self.processors], other.entries());
+        join_vtime_entries(self.entries.as_mut_slice(), other.entries());
     }
 
     /// Makes it that of the start again, of which no interval has been performed.
     pub fn clear(&mut self)
         ensures { self.new ≡ replicate (length self.old) 0 }
     {
-        self.entries = [0; MOST_PROCESSORS];
+        self.entries.as_mut_slice().fill(0);
     }
 
     /// The same timestamp once more.
@@ -93,8 +92,7 @@ impl VTime {
         ensures { result ≡ self.now }
     {
         VTime {
-            entries: self.entries,
-            processors: self.processors,
+            entries: SmallVec::from_slice(*self.entries.allocator(), self.entries()).unwrap(),
         }
     }
 
