@@ -36,8 +36,8 @@ def failure(crate, run):
 class Build:
     """A build: the crates that are not proved yet, and the runs that go on, by their crate."""
 
-    def __init__(self, rt, crates):
-        self.rt, self.crates, self.waiting = rt, crates, list(crates)
+    def __init__(self, rt, program, crates):
+        self.rt, self.program, self.crates, self.waiting = rt, program, crates, list(crates)
         self.running, self.jobs, self.look = {}, {}, Look()
         self.cores = plan.cores_at_hand()
         self.most = plan.most_at_once(self.cores)
@@ -45,22 +45,15 @@ class Build:
         # What the toolchain says of the program that it has proved and built.
         self.said = ""
 
-    def begin(self, crate, words, folder, nice=plan.NICE):
-        """Starts a run of the toolchain for a crate."""
-        behind = [it for it, run in self.running.items() if run.nice > plan.NICE]
-        self.jobs[crate] = plan.jobs(crate, self.waiting, behind, self.cores)
-        words = [it if it != "JOBS" else str(self.jobs[crate]) for it in words]
-        self.running[crate] = Run(crate.name, [self.rt, *words], folder, nice)
+    def begin(self, crate, jobs, words, folder):
+        """Starts a run of the toolchain for a crate, with so many jobs."""
+        self.jobs[crate] = jobs
+        self.running[crate] = Run(crate.name, [self.rt, *words], folder, plan.NICE)
 
     def begin_ready(self):
-        """Starts the libraries that may start now, the longest way first; what isn't urgent only beside one that is."""
-        urgent = plan.urgent(self.waiting)
-        ready = [crate for crate in self.waiting[:-1] if crate not in self.running]
-        ready = [crate for crate in ready if plan.is_ready(crate, self.waiting)]
-        for crate in sorted(ready, key=lambda crate: -crate.way)[: max(0, self.most - len(self.running))]:
-            is_urgent = crate in urgent
-            if is_urgent or sum(it in urgent for it in self.running) <= 1:
-                self.begin(crate, ["lib", "--jobs", "JOBS"], rooms.enter(crate), plan.nice(crate, self.waiting))
+        """Starts the libraries that may start now, the longest way first."""
+        for crate, jobs in plan.starting(self.waiting, self.running, self.cores, self.most).items():
+            self.begin(crate, jobs, ["lib", "--jobs", str(jobs)], rooms.enter(crate))
 
     def end_one(self):
         """Waits until a run ends that proved its crate, and returns the crate. Says how far the build is meanwhile."""
@@ -72,7 +65,8 @@ class Build:
                     self.running.pop(crate).wait()
                     self.progress.note(crate, run.seconds(), self.jobs[crate])
                     return crate
-            self.look.show(self.progress)
+            if self.look.show(self.progress):
+                self.progress.goes_on(self.waiting, self.spent())
             self.progress.show(self.waiting, self.spent())
             time.sleep(0.05)
 
@@ -88,11 +82,12 @@ class Build:
             self.waiting.remove(crate)
             self.progress.proved(crate, self.waiting, self.spent())
         rooms.wait_for_removals()
-        self.begin(self.crates[-1], ["run", "--jobs", "JOBS", "--", "--help"], self.crates[-1].folder)
+        self.begin(self.crates[-1], 1, self.program.last_words(), self.crates[-1].folder)
         last = self.running[self.crates[-1]]
         self.end_one()
         self.said = last.last_line()
-        self.progress.say(f"{self.progress.so_far()} proved and built")
+        what = "proved and built" if self.program.is_there() else f"{self.program.name} is proved"
+        self.progress.say(f"{self.progress.so_far()} {what}")
 
     def pause(self, *_):
         """Ctrl-Z: stops the runs and then the launcher; both go on together."""
@@ -118,7 +113,7 @@ class Build:
 def build(rt, program, crates, words):
     """Proves and builds the program, and leaves nothing behind but what was proved, whatever comes between. Returns what
     the toolchain says of it."""
-    made = Build(rt, crates)
+    made = Build(rt, program, crates)
     try:
         if rooms.begin(crates):
             say("taking up what a build that died has proved")

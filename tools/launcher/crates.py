@@ -2,6 +2,7 @@
 import os
 
 from .places import ROOT, WEIGHTS
+from .plan import find_ways
 
 PARTS = ("src", "specs", "proofs")
 # What a crate is taken to weigh that `tools/weights` doesn't name.
@@ -59,19 +60,19 @@ def listed():
     return found
 
 
-def crates_of(program):
+def crates_of(program, also=()):
     """The crates that the program stands on, each after those that it uses, and then its own; none where crates.txt
-    doesn't list it."""
+    doesn't list it. `also`: crates that come before its own, as if it used them."""
     lines, found = listed(), {}
 
-    def visit(name):
+    def visit(name, more=()):
         if name in lines and name not in found:
             line, uses = lines[name]
-            below = [visit(used) for used in uses]
+            below = [visit(used) for used in [*uses, *more]]
             found[name] = Crate(name, line, [crate for crate in below if crate])
         return found.get(name)
 
-    visit(program.name)
+    visit(program.name, also)
     return list(found.values())
 
 
@@ -92,18 +93,9 @@ def weights():
     return {row[0]: float(row[1]) for row in rows if len(row) == 2}
 
 
-def find_ways(crates):
-    """Adds up the longest way from each crate to the program."""
-    for crate in crates:
-        crate.way = crate.weight
-    for crate in reversed(crates):
-        for used in crate.uses:
-            used.way = max(used.way, crate.way + used.weight)
-
-
-def weigh(crates):
+def weigh(crates, cores):
     """Gives the crates their weights, and the longest way from each to the program."""
     known = weights()
     for crate in crates:
         crate.weight = weight_of(crate, known.get(crate.name, USUAL))
-    find_ways(crates)
+    find_ways(crates, cores)

@@ -94,12 +94,13 @@ class Look:
             tell(found, signal.SIGKILL)
 
     def show(self, progress):
-        """Shows the answer once it is there. Where there is none, nothing is said: the proved one comes."""
+        """Shows the answer once it is there, and returns whether it did. Where there is none, nothing is said: the proved
+        one comes."""
         if not self.run:
-            return
+            return False
         self.spare_hint()
         if not self.run.has_ended():
-            return
+            return False
         said, run = Run.text(self.run.errors), self.run
         self.run, ended = None, ENDED.search(said)
         if ended:
@@ -108,6 +109,7 @@ class Look:
             if ended[1] != "0":
                 say(f"the first look ended with status {ended[1]}")
         run.wait()
+        return bool(ended)
 
     def pause(self):
         """What it runs is in a session of its own, so each process is stopped."""

@@ -6,8 +6,8 @@ import sys
 
 from .built import Stamp, is_built, is_of_sources, is_unchanged, taken, toolchain_of
 from .crates import crates_of, weigh
-from .places import CORE, CORE_COMMANDS, INSTALL, NOT_POSSIBLE, NOT_PROVED, PROVE, ROOT, SIGNALS, TEST, TURN, WHOLE
-from .places import Failed, Stopped, say
+from .places import ALL, ALSO, CORE, CORE_COMMANDS, INSTALL, NOT_POSSIBLE, NOT_PROVED, PROVE, ROOT, SIGNALS, TEST, TURN
+from .places import WHOLE, Failed, Program, Stopped, say
 
 
 def command():
@@ -106,12 +106,18 @@ def turn_or_program(programs):
         return None, program
 
 
-def make(rt, toolchain, programs, words):
-    """Builds the last of these programs where none is built from the sources as they are. Returns the one that is."""
-    hold_standard_streams()
+def version_that_runs(rt):
+    """What the toolchain calls itself, which has to run."""
     version = version_of(rt)
     if version is None:
         raise OSError(f"the Rattle toolchain doesn't run ({rt} version)")
+    return version
+
+
+def make(rt, toolchain, programs, words):
+    """Builds the last of these programs where none is built from the sources as they are. Returns the one that is."""
+    hold_standard_streams()
+    version = version_that_runs(rt)
     program = built(programs, toolchain, version)
     if program:
         return program
@@ -121,17 +127,47 @@ def make(rt, toolchain, programs, words):
     # One may be built by now.
     program = built(programs, toolchain, version)
     if not program:
-        from .build import build
-
         program, crates = programs[-1]
-        weigh(crates)
-        os.makedirs(f"{program.home}/out", exist_ok=True)
-        stamp = taken(program, toolchain, version, crates)
-        said = build(rt, program, crates, words)
-        stamp.keep()
-        keep_line(program, said)
+        build_anew(rt, program, crates, taken(program, toolchain, version, crates), words)
     os.close(held)
     return program
+
+
+def build_anew(rt, program, crates, stamp, words):
+    """Builds a program after these crates, and keeps the stamp of what it was built from."""
+    from .build import build
+    from .plan import cores_at_hand
+
+    weigh(crates, cores_at_hand())
+    os.makedirs(f"{program.home}/out", exist_ok=True)
+    said = build(rt, program, crates, words)
+    stamp.keep()
+    keep_line(program, said)
+
+
+def prove(words):
+    """Proves and builds the program alone; with --all also what a program of one's own stands on, and the library for C;
+    or another crate, with all that it stands on."""
+    if not words:
+        program_for([PROVE])
+        return
+    program, also = (WHOLE, ALSO) if words == [ALL] else (Program(words[0]), ())
+    crates = crates_of(program, also)
+    if len(words) > 1 or not crates:
+        say(f"usage: ./lrc prove [{ALL} | CRATE], a crate that crates.txt lists")
+        sys.exit(NOT_POSSIBLE)
+    rt = command()
+    if rt is None:
+        raise lacking([(program, crates)])
+    listen()
+    hold_standard_streams()
+    version, held = version_that_runs(rt), turn()
+    stamp = taken(program, toolchain_of(rt), version, crates_of(program))
+    build_anew(rt, program, crates, stamp, [PROVE])
+    os.close(held)
+    if also:
+        status = os.spawnv(os.P_WAIT, f"{ROOT}/tools/c-library", ["c-library"])
+        sys.exit(NOT_PROVED if status else 0)
 
 
 def keep_line(program, said):
@@ -228,12 +264,11 @@ def with_odd_file_read(words):
 
 def run(words):
     """Builds where something changed, and then becomes the program."""
-    own = {TEST: test, INSTALL: put}.get(words[0]) if words else None
+    own = {TEST: test, INSTALL: put, PROVE: prove}.get(words[0]) if words else None
     if own:
         own(words[1:])
-    program = program_for(words)
-    if words[:1] == [PROVE]:
         sys.exit(0)
+    program = program_for(words)
     for it in (signal.SIGPIPE, signal.SIGXFSZ):
         signal.signal(it, signal.SIG_DFL)
     os.execv(program.file, [WHOLE.file, *with_odd_file_read(words)])

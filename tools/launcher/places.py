@@ -20,12 +20,21 @@ class Program:
     def is_there(self):
         return os.path.isfile(self.file)
 
+    def last_words(self):
+        """What the toolchain is told once all below it is proved: the launcher's own programs are built and run, of others
+        it is only said whether they are proved."""
+        if self in (WHOLE, CORE):
+            return ["run", "--jobs", "1", "--", "--help"]
+        return ["check" if os.path.isfile(f"{self.home}/src/main.rt") else "lib", "--jobs", "1"]
+
 
 # The program with all commands; and the one with these alone, which stands on fewer crates and so is built sooner.
 WHOLE, CORE = Program("lrc"), Program("lrc_quick")
 CORE_COMMANDS = ("run", "step")
 # The launcher's own commands: to prove and build alone; to test what is built; to put it into a folder.
 PROVE, TEST, INSTALL = "prove", "test", "install"
+# What `prove --all` proves beside the program: what a program of one's own stands on, and the library for C.
+ALL, ALSO = "--all", ("seats", "cevandle", "c_library")
 # What a build keeps to itself lies where no run of the toolchain looks for crates: `rt ci` refuses a second crates.txt.
 OWN = f"{ROOT}/.git" if os.path.isdir(f"{ROOT}/.git") else f"{WHOLE.home}/out"
 ROOMS = f"{OWN}/lrc-rooms"

@@ -3,14 +3,10 @@ import os
 
 # What a run of the toolchain may take, in bytes: where there is less memory, fewer go on at once.
 MEMORY_OF_A_RUN = 3_000_000_000
-# How much a run gives way to the first look; one that nothing urgent waits for, to the others; and one that has time.
-NICE, BESIDE, LATE = 5, 10, 19
-# A crate has time where so many times its own seconds lie between its way and the longest one.
-TIMES = 4
-# What each core more brings the crate that has it, as a part of the first.
+# How much each run gives way to the first look.
+NICE = 5
+# What each job more brings the crate that has it, as a part of the first.
 GAIN = 0.35
-# The program's own crate gains nothing from more jobs than this.
-MOST_JOBS_OF_PROGRAM = 2
 
 
 def cores_at_hand():
@@ -18,11 +14,11 @@ def cores_at_hand():
 
 
 def most_at_once(cores):
-    """How many runs may go on at once, by the memory that is free."""
+    """How many runs may go on at once: one for each core, and fewer if the memory that is free is too small."""
     with open("/proc/meminfo", encoding="ascii") as file:
         rows = dict(line.split(":") for line in file)
     free = int(rows["MemAvailable"].split()[0]) * 1024
-    return max(1, min(2 * cores, free // MEMORY_OF_A_RUN))
+    return max(1, min(cores, free // MEMORY_OF_A_RUN))
 
 
 def leader(waiting):
@@ -34,47 +30,64 @@ def is_ready(crate, waiting):
     return not any(below in waiting for below in crate.below)
 
 
-def urgent(waiting):
-    """The crates below the one that the longest way leads to next, and those whose own way is nearly as long."""
-    top = leader(waiting)
-    above = [crate for crate in waiting if top in crate.uses]
-    below = leader(above).below if above else []
-    return [crate for crate in waiting if crate in below or crate.way >= 0.8 * top.way]
+def speed(jobs):
+    """How many times as fast a crate is proved with so many jobs."""
+    return 1 + GAIN * (jobs - 1)
 
 
-def nice(crate, waiting):
-    """How much a crate's run gives way."""
-    if crate in urgent(waiting):
-        return NICE
-    return BESIDE if leader(waiting).way - crate.way < TIMES * crate.weight else LATE
-
-
-def jobs(crate, waiting, behind, cores):
-    """All cores that nothing else urgent needs for the crate that the longest way leads through, and one for what is
-    proved beside it, since each job more reads the libraries again. `behind`: the crates whose runs give way."""
-    if crate is not leader(waiting):
+def jobs(crate, waiting, beside, cores):
+    """How many jobs a crate's run gets beside so many others. The crate that the longest way leads through gets one more
+    than the cores that are left. All others get one, since each job reads the libraries again; so does the program's own
+    crate, which gains nothing by more."""
+    if len(waiting) == 1 or crate is not leader(waiting):
         return 1
-    others = [it for it in urgent(waiting) if it is not crate and it not in behind]
-    beside = sum(is_ready(it, waiting) for it in others)
-    most = cores if len(waiting) > 1 else MOST_JOBS_OF_PROGRAM
-    return max(1, min(most, cores - beside))
+    return max(1, min(cores, cores - beside + 1))
 
 
-def steps(left, cores):
-    """Goes through the rest of a build: the seconds until the next crate is proved, and the seconds that each other one
-    has left then. `cores` are at work on the longest ways first, and the one that leads has those that nobody else can
-    use."""
+def starting(waiting, running, cores, most):
+    """The crates that start now, each with its jobs: the longest ways first, as many as `most` allows. The program's own
+    crate, the last one, starts when all others are proved."""
+    ready = [it for it in waiting if it not in running and is_ready(it, waiting)]
+    ready = sorted(ready, key=lambda it: -it.way)[: max(0, most - len(running))]
+    return {it: jobs(it, waiting, len(running) + len(ready) - 1, cores) for it in ready}
+
+
+def steps(left, running, cores):
+    """Goes through the rest of a build, of which each crate has so many seconds `left` and those that are `running` have so
+    many jobs: the seconds until the next crate is proved, the seconds that each other one has left then, and who had how
+    many jobs."""
+    running = dict(running)
     while left:
-        ready = sorted((it for it in left if is_ready(it, left)), key=lambda it: -it.way)[:cores]
-        idle = cores - len(ready) if len(left) > 1 else MOST_JOBS_OF_PROGRAM - 1
-        speeds = {crate: 1 + GAIN * idle * (crate is ready[0]) for crate in ready}
-        step = min(left[crate] / speed for crate, speed in speeds.items())
+        running.update(starting(list(left), running, cores, cores))
+        share = min(1, cores / sum(running.values()))
+        speeds = {crate: speed(many) * share for crate, many in running.items()}
+        step = min(left[crate] / each for crate, each in speeds.items())
         left = {crate: seconds - step * speeds.get(crate, 0) for crate, seconds in left.items()}
         left = {crate: seconds for crate, seconds in left.items() if seconds > 1e-6}
-        yield step, left
+        yield step, left, dict(running)
+        running = {crate: many for crate, many in running.items() if crate in left}
 
 
-def seconds_left(waiting, spent, cores):
+def seconds_left(waiting, spent, running, cores):
     """How long the rest takes, where each crate takes the seconds of its weight less what it has had."""
     left = {crate: max(crate.weight - spent.get(crate, 0), crate.weight / 20) for crate in waiting}
-    return sum(step for step, _ in steps(left, cores))
+    return sum(step for step, _, _ in steps(left, running, cores))
+
+
+def add_up(crates, took):
+    """Adds up the longest way from each crate to the program, where each takes so long."""
+    for crate in crates:
+        crate.way = took[crate]
+    for crate in reversed(crates):
+        for used in crate.uses:
+            used.way = max(used.way, crate.way + took[used])
+
+
+def find_ways(crates, cores):
+    """Finds the longest way from each crate to the program, by what each takes with the jobs that it gets: first with one,
+    then with those that the ways so found give it."""
+    add_up(crates, {crate: crate.weight for crate in crates})
+    had = {}
+    for _, _, running in steps({crate: crate.weight for crate in crates}, {}, cores):
+        had.update(running)
+    add_up(crates, {crate: crate.weight / speed(had[crate]) for crate in crates})

@@ -3,10 +3,12 @@ import os
 import time
 
 from .places import say, write
-from .plan import GAIN, seconds_left
+from .plan import seconds_left, speed
 
 # So much of the figures' own pace is held against what is measured, in seconds: the first small crate tells little.
 HELD = 60
+# Where there is no line to be rewritten, what is at work is said after so many seconds without a word.
+SILENCE = 60
 
 
 def in_words(seconds):
@@ -22,7 +24,7 @@ class Progress:
         """A build that begins now."""
         self.crates, self.cores = crates, cores
         self.whole = sum(crate.weight for crate in crates)
-        self.start = self.told = time.monotonic()
+        self.start = self.told = self.said = time.monotonic()
         self.wanted, self.took, self.most = HELD, HELD, 0
         self.is_terminal, self.is_written = os.isatty(2), False
 
@@ -34,16 +36,17 @@ class Progress:
         """Notes what a crate took, against its weight: this machine may be slower. One of which something was kept says
         nothing of the machine."""
         if not crate.has_kept:
-            self.wanted, self.took = self.wanted + crate.weight, self.took + seconds * (1 + GAIN * (jobs - 1))
+            self.wanted, self.took = self.wanted + crate.weight, self.took + seconds * speed(jobs)
 
     def spent(self, running):
         """The seconds of its weight that each run's crate has had. `running`: for each its time and jobs."""
         pace = self.took / self.wanted
-        return {it: seconds * (1 + GAIN * (jobs - 1)) / pace for it, (seconds, jobs) in running.items()}
+        return {it: seconds * speed(jobs) / pace for it, (seconds, jobs) in running.items()}
 
     def left(self, waiting, running):
         """The seconds that are left."""
-        return self.took / self.wanted * seconds_left(waiting, self.spent(running), self.cores)
+        jobs = {it: jobs for it, (_, jobs) in running.items()}
+        return self.took / self.wanted * seconds_left(waiting, self.spent(running), jobs, self.cores)
 
     def figures(self, waiting, running):
         """A percentage, which never falls, and the minutes left."""
@@ -54,25 +57,37 @@ class Progress:
 
     def begin(self):
         """Says what is done, and how long it takes."""
-        time_of_all = in_words(seconds_left(self.crates, {}, self.cores))
+        time_of_all = in_words(seconds_left(self.crates, {}, {}, self.cores))
         say(f"proving {len(self.crates)} crates on {self.cores} cores, and building: {time_of_all} on such a machine"
             " where nothing was kept; once built, it starts at once")
 
     def show(self, waiting, running):
-        """Rewrites the line on a terminal, once a second."""
+        """Rewrites the line on a terminal, once a second. Elsewhere says after each minute without a word what is at work."""
         now = time.monotonic()
         if self.is_terminal and (not self.is_written or now >= self.told + 1):
             self.told, self.is_written = now, True
-            names = " ".join(crate.name for crate in running)
-            text = f"lrc: {self.so_far()} {self.figures(waiting, running)}: {names}"
+            text = f"lrc: {self.at_work(waiting, running)}"
             write(f"\r{text[:columns() - 1]}\x1b[K")
+        elif not self.is_terminal and now >= self.said + SILENCE:
+            self.said = now
+            say(self.at_work(waiting, running))
+
+    def at_work(self, waiting, running):
+        """How far the build is, and which crates are at work."""
+        names = " ".join(crate.name for crate in running)
+        return f"{self.so_far()} {self.figures(waiting, running)}: {names}"
 
     def proved(self, crate, waiting, running):
         """Says that a crate is proved, where there is no line to be rewritten."""
         if not self.is_terminal:
             done = len(self.crates) - len(waiting)
             figures = self.figures(waiting, running)
+            self.said = time.monotonic()
             say(f"{self.so_far()} {crate.name} is proved, {done} of {len(self.crates)}: {figures}")
+
+    def goes_on(self, waiting, running):
+        """Says after a first look how long the proof takes from there."""
+        self.say(f"the proof goes on: {self.figures(waiting, running)}; Ctrl-C keeps what is proved")
 
     def clear(self):
         """Takes the line away, so that something else can be said."""

@@ -37,7 +37,7 @@ class Run:
 
     def __init__(self, name, words, folder, nice=0, stdin=subprocess.DEVNULL, is_look=False):
         """Starts it, with what it says in a file; a first look's errors in a file of their own."""
-        self.nice, self.began, me = nice, time.monotonic(), os.getpid()
+        self.began, me = time.monotonic(), os.getpid()
         self.log = open(f"{ROOMS}/scratch/{name}.log", "w+b")
         self.errors = open(f"{ROOMS}/scratch/{name}.errors", "w+b") if is_look else self.log
         # A paused run hears of nothing less than SIGKILL; a first look has to be told, since it ends its own program.
