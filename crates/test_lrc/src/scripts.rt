@@ -1,12 +1,11 @@
 //! A caller of the reader, the printer and the draws of scripts, who knows nothing of them but their contracts.
 //!
-//! **What is only tested** here: the rows of scripts that are read, printed and drawn; which fault is answered among
-//! several on one line, and its text; the limits of scripts; that no call allocates without need.
+//! **What is only tested** here: the rows of scripts that are read, printed and drawn; the limits of scripts; that no
+//! call allocates without need. Which fault is answered among several on one line, and its text: `tests/texts`.
 //!
 //! Tests of the reader, the printer and the draws. Scripts are written with `/` for the line feed.
 
 mod drawn;
-mod faults;
 mod growths;
 mod limits;
 mod reading;
