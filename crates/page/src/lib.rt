@@ -2,7 +2,7 @@
 //! makes of the dirty words (Keleher, Cox and Zwaenepoel 1992, section 3).
 //!
 //! - Contracts see a `Page` as `Contents` (its words, its dirty marks, its access; specs/Contents) and a
-//!   `Record` as `Changes` (specs/PageChanges). How the marks lie in a machine word is specs/PageMarks.
+//!   `Record` as `PageChanges` (specs/PageChanges). How the marks lie in a machine word is specs/PageMarks.
 //! - Proved: each call is what these words say, and a harvest has the dirty words in rising order; after
 //!   any list of stores to a clean page it does to any page what they do (`CarriesStores`, specs/CarriedHarvests).
 //! - Only tested: that a refused growth changes nothing of a page, and that records cross threads.
