@@ -91,7 +91,7 @@ returns c =
     let at = goal.at.returns c in
     let records = map arc_value c.args.records.items in
     record {
-      ok = elim c.match-grant-3.branch [
+      ok = elim c.match-grant-4.branch [
         | in-Some x ↦ ap (λ (i : Inside). i.parts.value) x.self-inside-is
             ∙ ask_call_granted c.args.self.now (book_invariant_state c.parts-2.inside) c.args.processor c.args.lock c.args.block.now records
             c.requires.call (closed at.After-parts-2) c.ask.new.self c.ask.ensures.locks

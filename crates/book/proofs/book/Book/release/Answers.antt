@@ -142,7 +142,7 @@ returns c =
           ∙ ap (λ (b : BookState). tick (book_state_time_of b c.args.processor) c.args.processor) (same at.After-parts);
     } in
     record {
-      ok = elim c.match-grant-3.branch [
+      ok = elim c.match-grant-4.branch [
         | in-Some x ↦ ap (λ (i : Inside). i.parts.value) x.self-inside-is
             ∙ released_granted leaving c.release.new.self x.post.new.self x.in-Some.next (letter x.in-Some.message)
             c.release.ensures.locks x.post.ensures (sym (ap addressed_if x.in-Some.is) ∙ made at.In_ok-grant)
