@@ -22,6 +22,7 @@ pub mod ChoosingFree
 pub mod Persistence
 pub mod SearchedStates
 pub mod ShownRuns
+pub mod GivenUpRuns
 pub mod UntilSearched
 pub mod locksets
 pub mod text_walks

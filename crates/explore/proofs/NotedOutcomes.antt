@@ -14,7 +14,7 @@ use Rattle.explore.specs.NotedOutcomes.{IsNotedOutcome, noted_outcomes}
 use Rattle.explore.proofs.Equals.{equal_outcome_same, equal_rows, outcome_equal}
 
 -- what is looked up and found is among these outcomes
-noted_outcome_found : {V : Type 0} (o : ScriptOutcome) (es : List (ScriptOutcome × V)) → is_some (lookup (outcome_equal o) es) ≡ true
+pub noted_outcome_found : {V : Type 0} (o : ScriptOutcome) (es : List (ScriptOutcome × V)) → is_some (lookup (outcome_equal o) es) ≡ true
     → Has (noted_outcomes es) (explored_outcome o)
 noted_outcome_found o [] h = absurd (false≢true h)
 noted_outcome_found {V} o (e ∷ es) h = go (outcome_equal o e.0) refl (noted_outcome_found o es) h
@@ -26,7 +26,7 @@ noted_outcome_found {V} o (e ∷ es) h = go (outcome_equal o e.0) refl (noted_ou
     go false is rest at = (joined_list_has-cons (explored_outcome e.0) (noted_outcomes es) (explored_outcome o)).1 (inr (rest at))
 
 -- and what isn't found isn't
-noted_outcome_missing : {V : Type 0} (o : ScriptOutcome) (es : List (ScriptOutcome × V)) → is_some (lookup (outcome_equal o) es) ≡ false
+pub noted_outcome_missing : {V : Type 0} (o : ScriptOutcome) (es : List (ScriptOutcome × V)) → is_some (lookup (outcome_equal o) es) ≡ false
     → ¬ Has (noted_outcomes es) (explored_outcome o)
 noted_outcome_missing o [] h has = joined_list_has-nil (explored_outcome o) has
 noted_outcome_missing {V} o (e ∷ es) h has =

@@ -25,13 +25,16 @@ pub mod TextWalks
 pub mod FreeChoice
 pub mod Origins
 pub mod FoundStates
+pub mod NoFoundStates
 pub mod Nexts
 pub mod FreeRun
 pub mod FollowedStates
 pub mod StatesOfScript
 pub mod Racing
 pub mod FlatSearch
+pub mod FlatSearchEnds
 pub mod EndingWords
 pub mod UntilSearched
 pub mod Prelude
 pub mod Prefixes
+pub mod WholeRuns

@@ -7,8 +7,7 @@ use Rattle.journal.specs.declared.event.Kind.TheVariants.{Acquire, Depart, Await
 use Rattle.lrc_script.specs.Plan.{Plan}
 use Rattle.explore.specs.declared.prefixes.script_call.ScriptCall.{ScriptCall}
 use Rattle.explore.specs.declared.prefixes.script_call.ScriptCall.TheVariants.{Call}
-use Rattle.explore.specs.declared.flat_state.FlatState.{FlatState}
-use Rattle.explore.specs.Machines.{AreLawfulMachineSteps, MachineKnows}
+use Rattle.explore.specs.Machines.{AreLawfulMachineSteps}
 use Rattle.explore.specs.Prefixes.FlatBeginnings.{IsFlatBeginningWhole, IsFlatBeginningHanging}
 use Rattle.explore.specs.TextGuards.{text_guard_held_at}
 
@@ -33,7 +32,3 @@ AreRowsLockRanked rank rows = (p : ℕ) (row : Vec ScriptCall) → slice_get row
 abbrev pub RankedLocksLaw : Type 0
 RankedLocksLaw = (s : Plan) (rows : List (Vec ScriptCall)) (rank : ℕ → ℕ) (w : List Event) → AreLawfulMachineSteps s rows
     → AreRowsLockRanked rank rows → IsFlatBeginningWhole s w → (g : List Event) → ¬ IsFlatBeginningHanging s g
-
--- the machine is one to which some events of the script lead
-abbrev pub CanGetToMachine : Plan → FlatState → Type 0
-CanGetToMachine s m = (g : List Event) × MachineKnows s g m

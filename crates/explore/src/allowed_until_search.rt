@@ -3,7 +3,7 @@ ghost use Rattle.std.specs.Prelude.{◌≡◌, ◌↔◌, ℕ, List, IfOk, IsTru
 ghost use Rattle.lrc_script.specs.Prelude.{IsLawful, plan_of};
 ghost use Rattle.explore.specs.AllowedBeginnings.{TellsAllowedBeginning, allowed_beginning_events};
 ghost use Rattle.explore.specs.AllowedUntil.{IsAllowedUntil, IsAllowedUntilRun, IsAllowedUntilShowing, IsAllowedUntilShown};
-ghost use Rattle.explore.specs.AllowedUntilSearch.{IsAllowedUntilEnd, IsAllowedUntilLooked};
+ghost use Rattle.explore.specs.AllowedUntilSearch.{IsAllowedUntilEnd, IsAllowedUntilLooked, IsAllowedUntilSearched};
 ghost use Rattle.explore.specs.AllowedRoom.{allowed_room_at_most};
 ghost use Rattle.explore.specs.Machines.{AreLawfulMachineSteps};
 
@@ -61,8 +61,9 @@ fn has_allowed_until_words(
     Ok(are_allowed_words(&calls[first..], words))
 }
 
-/// Looks at so many beginnings, or until a whole run ends with these words.
-fn look_until_allowed<P: Progress>(
+/// Looks at so many of the beginnings that are pending, of which none has been looked at, or until a whole run ends with these words.
+fn look_at_pending_until<P: Progress>(
+    search: &mut AllowedSearch,
     alloc: Global,
     script: &Script,
     steps: &[Vec<ScriptCall>],
@@ -70,10 +71,10 @@ fn look_until_allowed<P: Progress>(
     most: usize,
     progress: &mut P,
 ) -> Result<AllowedUntilLooked, AllocError>
-    requires { AreLawfulMachineSteps (plan_of script.now) steps.now }
+    requires lawful { AreLawfulMachineSteps (plan_of script.now) steps.now }
+    requires searched { IsAllowedUntilSearched (plan_of script.now) words.now 0 search.old }
     ensures { IfOk result (IsAllowedUntilLooked (plan_of script.now) words.now most) }
 {
-    let mut search = AllowedSearch::new(alloc)?;
     for looked in 0..most {
         progress.looked_at(looked);
         match search.pending.pop() {
@@ -102,6 +103,22 @@ fn look_until_allowed<P: Progress>(
         beginnings: most,
         end,
     })
+}
+
+/// Looks at so many beginnings, or until a whole run ends with these words.
+fn look_until_allowed<P: Progress>(
+    alloc: Global,
+    script: &Script,
+    steps: &[Vec<ScriptCall>],
+    words: &[(usize, u32)],
+    most: usize,
+    progress: &mut P,
+) -> Result<AllowedUntilLooked, AllocError>
+    requires { AreLawfulMachineSteps (plan_of script.now) steps.now }
+    ensures { IfOk result (IsAllowedUntilLooked (plan_of script.now) words.now most) }
+{
+    let mut search = AllowedSearch::new(alloc)?;
+    look_at_pending_until(&mut search, alloc, script, steps, words, most, progress)
 }
 
 /// The run that the beginning is, with what it shows, told by this detail.

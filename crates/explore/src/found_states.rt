@@ -5,9 +5,10 @@ ghost use Rattle.journal.specs.declared.event.Event.{Event as AnEvent};
 ghost use Rattle.lrc_script.specs.Prelude.{IsLawful, Plan};
 ghost use Rattle.explore.specs.declared.flat_state.FlatState.{FlatState as AMachine};
 ghost use Rattle.explore.specs.declared.wait_code.ProcessorNumber.{ProcessorNumber as ANumber};
-ghost use Rattle.explore.specs.CallTables.{IsStateOfCalls};
+ghost use Rattle.explore.specs.CallTables.{IsCallTableOf, IsStateOfCalls};
 ghost use Rattle.explore.specs.FoundStates.{AreEventsOfMakers, AreFoundStateMakers, AreFoundStates, AreFoundStatesKept, FoundStateAdded, HasRoomForStates, IsFoundStateAt, found_states};
 ghost use Rattle.explore.specs.KeptStates.{AreOfOneSearch};
+ghost use Rattle.explore.specs.NoFoundStates.{AreNoFoundStates};
 ghost use Rattle.explore.specs.Origins.{most_origin_makers, state_origins};
 ghost use Rattle.journal.specs.declared.event.Kind.{Kind as AKind};
 ghost use Rattle.explore.specs.FollowedStates.{AreFollowedStates, IsFollowedState, IsLastNext, MayBeFollowedState, MayBeFollowedStateByEach};
@@ -92,6 +93,41 @@ fn last_next(nexts: &[Option<Kind>]) -> Option<usize>
 }
 
 impl FoundStates {
+    /// Keeps the first state, where none is kept yet. The only error is running out of memory.
+    fn keep_first(&mut self) -> Result<(), AllocError>
+        requires none { AreNoFoundStates self.old }
+        requires first { (s : Plan) × IsCallTableOf s self.old.parts.calls × MachineKnows s [] self.old.first }
+        ensures found { OnOk result ((s : Plan) → IsCallTableOf s self.old.parts.calls → MachineKnows s [] self.old.first → AreFoundStates s self.new) }
+        ensures first { OnOk result (self.new.first ≡ self.old.first) }
+        ensures few { OnOk result (length (found_states self.new) ≤ 1) }
+    {
+        let kept = self.parts.keep(self.alloc, self.first.copy()?)?;
+        self.states.insert_full(kept)?;
+        Ok(())
+    }
+
+    /// The first state alone, of a script whose calls tell this. The only error is running out of memory.
+    fn with_calls(
+        alloc: Global,
+        first: FlatState,
+        calls: CallTable,
+    ) -> Result<FoundStates, AllocError>
+        requires { (s : Plan) × IsCallTableOf s calls × MachineKnows s [] first }
+        ensures found { IfOk result (λ x. (s : Plan) → IsCallTableOf s calls → MachineKnows s [] first → AreFoundStates s x) }
+        ensures telling { IfOk result (λ x. x.first.telling ≡ first.telling) }
+        ensures few { IfOk result (λ x. length (found_states x) ≤ 1) }
+    {
+        let mut found = FoundStates {
+            alloc,
+            first,
+            parts: StateParts::new(alloc, calls),
+            states: IndexSet::with_hasher(alloc, BuildHasherDefault::new()),
+            origins: Origins::new(alloc),
+        };
+        found.keep_first()?;
+        Ok(found)
+    }
+
     /// The first state alone, of a script whose steps are these. The only error is running out of memory.
     pub fn new(
         alloc: Global,
@@ -103,17 +139,8 @@ impl FoundStates {
         ensures telling { IfOk result (λ x. x.first.telling ≡ first.telling) }
         ensures few { IfOk result (λ x. length (found_states x) ≤ 1) }
     {
-        let mut parts = StateParts::new(alloc, CallTable::of_steps(alloc, steps)?);
-        let kept = parts.keep(alloc, first.copy()?)?;
-        let mut states = IndexSet::with_hasher(alloc, BuildHasherDefault::new());
-        states.insert_full(kept)?;
-        Ok(FoundStates {
-            alloc,
-            first,
-            parts,
-            states,
-            origins: Origins::new(alloc),
-        })
+        let calls = CallTable::of_steps(alloc, steps)?;
+        FoundStates::with_calls(alloc, first, calls)
     }
 
     /// How many states there are. A script has as many at least, by the same detail.

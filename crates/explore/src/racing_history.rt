@@ -1,7 +1,6 @@
 //! Two next events that conflict, as a history whose last event is the first one that races.
 ghost use Rattle.std.specs.Prelude.{◌≡◌, IfOk, MatchOption};
-ghost use Rattle.journal.specs.Prelude.{RaceFree};
-ghost use Rattle.causes.specs.Prelude.{IsHeardAtRace};
+ghost use Rattle.journal.specs.Prelude.{IsFirstRace, RaceFree};
 ghost use Rattle.conformance.specs.Follows.{plan_sizes};
 ghost use Rattle.judge.specs.Prelude.{judged_sizes_of as judged_sizes};
 ghost use Rattle.lrc_script.specs.Prelude.{IsLawful, Plan, plan_of};
@@ -13,7 +12,6 @@ use crate::explored::RacyEvents;
 use crate::found_states::FoundStates;
 use crate::neighbours::Neighbours;
 use crate::prefixes::ScriptCall;
-use causes::{FirstRace, race};
 use journal::Event;
 use judge::{History, Sizes};
 use lrc_script::script::Script;
@@ -60,31 +58,28 @@ fn racing_history_sizes(script: &Script) -> Sizes
     }
 }
 
-/// The first race of these events, if they have one. The only error is running out of memory.
+/// The places of the two accesses of these events' first race, if they have one. The only error is running out of memory.
 pub fn racing_history_race(
     alloc: Global,
     script: &Script,
     events: &[Event],
-) -> Result<Option<FirstRace>, AllocError>
+) -> Result<Option<(usize, usize)>, AllocError>
     requires lawful { IsLawful (plan_of script.now) }
     requires begins { IsFlatBeginning (plan_of script.now) events.now }
-    ensures { IfOk result (λ o. MatchOption o (RaceFree events.now) (IsHeardAtRace events.now)) }
+    ensures { IfOk result (λ o. MatchOption o (RaceFree events.now) (λ r. IsFirstRace events.now r.0 r.1)) }
 {
     let history = History::new(racing_history_sizes(script), events).unwrap();
-    race(alloc, &history)
+    history.first_race(alloc)
 }
 
-/// The events up to their first race, which this is.
-pub fn cut_racing_history(events: Vec<Event>, race: FirstRace) -> RacyEvents
-    requires { IsHeardAtRace events.items race }
+/// The events up to their first race, whose two accesses are at these places.
+pub fn cut_racing_history(events: Vec<Event>, first: usize, second: usize) -> RacyEvents
+    requires { IsFirstRace events.items first second }
     ensures { (s : Plan) → IsFlatBeginning s events.items → IsExploredRacy s result }
 {
     let mut events = events;
-    events.truncate(race.second + 1);
-    RacyEvents {
-        events,
-        first: race.first,
-    }
+    events.truncate(second + 1);
+    RacyEvents { events, first }
 }
 
 /// The events up to the first one that races.
@@ -97,8 +92,8 @@ fn racing_history_up_to_race(
     requires racing { IsRacingBeginning (plan_of script.now) events.items }
     ensures { IfOk result (IsExploredRacy (plan_of script.now)) }
 {
-    let race = racing_history_race(alloc, script, &events)?.unwrap();
-    Ok(cut_racing_history(events, race))
+    let (first, second) = racing_history_race(alloc, script, &events)?.unwrap();
+    Ok(cut_racing_history(events, first, second))
 }
 
 /// A history in which the two events that conflict race, up to its first race. The only error is running out of memory.

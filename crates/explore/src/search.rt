@@ -1,5 +1,5 @@
 //! The search: each state of a script on one flat memory is looked at once.
-ghost use Rattle.std.specs.Prelude.{◌≡◌, ◌↔◌, ◌+◌, ◌<◌, ◌≤◌, ⊤, IfOk, OnOk, IsTrue, List, MatchOption, length, map};
+ghost use Rattle.std.specs.Prelude.{◌≡◌, ◌↔◌, ◌+◌, ◌<◌, ◌≤◌, ◌++◌, ⊤, ℕ, IfOk, IfSome, OnOk, IsTrue, List, MatchOption, Some, length, map, option_to_list};
 ghost use Rattle.std.specs.Global.{Vec as AVec};
 ghost use Rattle.base.specs.Prelude.{most_processors};
 ghost use Rattle.lrc_script.specs.Prelude.{IsLawful, Plan, plan_of};
@@ -8,7 +8,7 @@ ghost use Rattle.explore.specs.declared.prefixes.script_call.ScriptCall.{ScriptC
 ghost use Rattle.explore.specs.Prefixes.Prelude.{AreFlatBeginningsRaceFree, IsFlatBeginningHanging};
 ghost use Rattle.journal.specs.declared.event.Event.{Event as AnEvent};
 ghost use Rattle.explore.specs.FreeChoice.{AreFreeChoiceTextFacts};
-ghost use Rattle.explore.specs.Explored.{IsExplored, IsExploredHang, IsExploredHanging, IsExploredVerdict, IsRunOfShownOutcome, explored_outcome, shown_outcome};
+ghost use Rattle.explore.specs.Explored.{AreExploredOutcomes, IsExplored, IsExploredHang, IsExploredHanging, IsExploredVerdict, IsRunOfShownOutcome, explored_outcome, shown_outcome};
 ghost use Rattle.explore.specs.declared.explored.ShownOutcome.{ShownOutcome as AShownOutcome};
 ghost use Rattle.base.specs.InOrderOnce.{Has};
 ghost use Rattle.explore.specs.FoundStates.{AreFoundStates, HasRoomForStates, IsFoundStateAt, KeepsFoundStates, found_states};
@@ -20,6 +20,7 @@ ghost use Rattle.explore.specs.declared.outcome_telling.Detail.{Detail as ADetai
 ghost use Rattle.explore.specs.OutcomeTelling.{outcome_telling_of_script};
 ghost use Rattle.explore.specs.FlatSearch.{FlatSearchHasHang, IsFlatSearchedAt, IsFlatSearchedThrough, AreFlatSearchNotes, FlatSearchedUpTo, HasMoreToFlatSearch};
 ghost use Rattle.explore.specs.FlatSearch.{AreFlatSearchPlaces, IsFlatSearchHangingOpen, IsFlatSearchVerdictOpen, IsFlatSearched, MayNoteInFlatSearch};
+ghost use Rattle.explore.specs.FlatSearchEnds.{IsFlatSearchEnd};
 ghost use Rattle.explore.specs.NotedOutcomes.{IsNotedOutcome, noted_outcomes};
 
 use crate::explored::{Explored, Hang, Hanging, ScriptOutcome, ShownOutcome, Verdict};
@@ -34,10 +35,11 @@ use crate::progress::Progress;
 use crate::racing_history::racing_history;
 use crate::state_room::state_room_at_most;
 use crate::text_facts::{TextFacts, text_facts};
-use crate::whole_run::never_gets_stuck_by_text;
+use crate::whole_run::{never_gets_stuck_by_text, shown_whole_run};
 use indexmap::IndexMap;
 use lrc_script::script::Script;
 use std::alloc::{AllocError, Global};
+use std::mem;
 
 /// What a search has found so far.
 #[derive(Drop)]
@@ -47,6 +49,17 @@ pub struct Search {
     outcomes: IndexMap<ScriptOutcome, usize>,
     /// The place of a state that hangs.
     hang: Option<usize>,
+}
+
+/// How a search ended.
+#[derive(Clone, Copy)]
+pub struct SearchEnd {
+    /// How many states were found.
+    states: usize,
+    /// Two next events that conflict, if the search met such.
+    neighbours: Option<Neighbours>,
+    /// Whether all states were looked at.
+    through: bool,
 }
 
 /// Adds an outcome with the place of a state that shows it, if it is a new one. The only error is running out of memory.
@@ -80,22 +93,56 @@ fn is_search_through(neighbours: Option<Neighbours>, states: usize, most: usize)
     }
 }
 
-/// Whether the text shows that each run comes to its end, if that is of use: no two events conflict, and not all states were
-/// looked at. The only error is running out of memory.
-fn never_gets_stuck(
+/// The one run that is made where a search is given up, if it comes to its end: two events conflict or all states were looked at
+/// otherwise. The only error is running out of memory.
+fn run_of_given_up(
     alloc: Global,
     script: &Script,
     steps: &[Vec<ScriptCall>],
-    neighbours: Option<Neighbours>,
-    through: bool,
-) -> Result<bool, AllocError>
+    detail: Detail,
+    end: SearchEnd,
+) -> Result<Option<ShownOutcome>, AllocError>
     requires { AreLawfulMachineSteps (plan_of script.now) steps.now }
-    ensures { IfOk result (λ b. IsTrue b → (g : List AnEvent) → ¬ IsFlatBeginningHanging (plan_of script.now) g) }
+    ensures { IfOk result (λ o. IfSome o (IsRunOfShownOutcome (plan_of script.now) detail)) }
 {
-    match neighbours {
-        None if !through => never_gets_stuck_by_text(alloc, script, steps),
-        _ => Ok(false),
+    match end.neighbours {
+        None if !end.through => shown_whole_run(alloc, script, steps, detail),
+        _ => Ok(None),
     }
+}
+
+/// The run, if the script is known to be race-free: else this memory may show something else by its turns.
+fn run_to_tell(race_free: bool, run: Option<ShownOutcome>) -> Option<ShownOutcome>
+    ensures { (s : Plan) (d : ADetail) → IfSome run (IsRunOfShownOutcome s d) → IfSome result (IsRunOfShownOutcome s d) }
+{
+    if race_free { run } else { None }
+}
+
+/// The run, if none of these outcomes is what it shows.
+fn unnoted_run(
+    outcomes: &IndexMap<ScriptOutcome, usize>,
+    run: Option<ShownOutcome>,
+) -> Option<ShownOutcome>
+    ensures { MatchOption result (IfSome run (λ x. Has (noted_outcomes outcomes.now.entries) (shown_outcome x)))
+        (λ x. (run ≡ Some x) × ¬ Has (noted_outcomes outcomes.now.entries) (shown_outcome x)) }
+{
+    let Some(run) = run else {
+        return None;
+    };
+    if outcomes.contains_key(&run.outcome) {
+        return None;
+    }
+    Some(run)
+}
+
+/// Puts the run at the end, if it is there.
+fn push_run(shown: &mut Vec<ShownOutcome>, run: Option<ShownOutcome>) -> Result<(), AllocError>
+    ensures { OnOk result (shown.new.items ≡ shown.old.items ++ option_to_list run) }
+{
+    if let Some(run) = run {
+        shown.push(run)?;
+    }
+    Ok(())
 }
 
 /// These outcomes, each with a run that comes to the state at its place. The only error is running out of memory.
@@ -299,9 +346,95 @@ impl Search {
         }
     }
 
+    /// Looks at each state that there is, as `look_at_all` does, and says how that ended.
+    fn look_to_the_end<P: Progress>(
+        &mut self,
+        steps: &[Vec<ScriptCall>],
+        facts: &TextFacts,
+        most: usize,
+        progress: &mut P,
+    ) -> Result<SearchEnd, AllocError>
+        requires facts { AreFreeChoiceTextFacts steps.now facts.now }
+        requires room { most + most_processors ≤ most_state_origins }
+        requires searched { (s : Plan) × AreLawfulMachineSteps s steps.now × FlatSearchedUpTo s self.old steps.now 0 }
+        ensures ended { IfOk result (λ end. (s : Plan) → AreLawfulMachineSteps s steps.now → FlatSearchedUpTo s self.old steps.now 0
+            → length (found_states self.old.found) ≤ 1 → IsFlatSearchEnd s self.new steps.now most end) }
+        ensures telling { IfOk result (λ _. (s : Plan) → AreLawfulMachineSteps s steps.now → FlatSearchedUpTo s self.old steps.now 0
+            → self.new.found.first.telling ≡ self.old.found.first.telling) }
+    {
+        let neighbours = self.look_at_all(steps, facts, most, progress)?;
+        let states = self.found.len();
+        let through = is_search_through(neighbours, states, most);
+        Ok(SearchEnd {
+            states,
+            neighbours,
+            through,
+        })
+    }
+
+    /// What whole runs show that were met, and this run if it shows another outcome: each outcome once, with a run. The search has none
+    /// of them any more. The only error is running out of memory.
+    fn outcomes_and(
+        &mut self,
+        alloc: Global,
+        run: Option<ShownOutcome>,
+    ) -> Result<Vec<ShownOutcome>, AllocError>
+        requires { (s : Plan) × IsLawful s × AreFoundStates s self.old.found
+            × AreFlatSearchPlaces s (found_states self.old.found) self.old.outcomes.entries }
+        ensures outcomes { IfOk result (λ v. (s : Plan) (d : ADetail) → AreExploredOutcomes s d (noted_outcomes self.old.outcomes.entries)
+            → IfSome run (IsRunOfShownOutcome s d) → AreExploredOutcomes s d (map shown_outcome v.items)) }
+        ensures all { IfOk result (λ v. (replies : List (List ℕ)) → Has (noted_outcomes self.old.outcomes.entries) replies
+            → Has (map shown_outcome v.items) replies) }
+        ensures runs { IfOk result (λ v. (s : Plan) (d : ADetail) → AreFoundStates s self.old.found
+            → AreFlatSearchPlaces s (found_states self.old.found) self.old.outcomes.entries
+            → self.old.found.first.telling ≡ outcome_telling_of_script s d → IfSome run (IsRunOfShownOutcome s d)
+            → (x : AShownOutcome) → Has v.items x → IsRunOfShownOutcome s d x) }
+        ensures run { IfOk result (λ v. IfSome run (λ x. Has (map shown_outcome v.items) (shown_outcome x))) }
+    {
+        let outcomes = mem::replace(&mut self.outcomes, IndexMap::new(alloc));
+        let run = unnoted_run(&outcomes, run);
+        let mut shown = search_outcomes_with_runs(alloc, &self.found, outcomes)?;
+        push_run(&mut shown, run)?;
+        Ok(shown)
+    }
+
+    /// What the search has found that ended so: it gives up its outcomes. The only error is running out of memory.
+    fn answer(
+        &mut self,
+        alloc: Global,
+        script: &Script,
+        steps: &[Vec<ScriptCall>],
+        facts: &TextFacts,
+        detail: Detail,
+        end: SearchEnd,
+    ) -> Result<Explored, AllocError>
+        requires steps { AreLawfulMachineSteps (plan_of script.now) steps.now }
+        requires long { length facts.now.guarded.items ≡ plan_addresses (plan_of script.now) }
+        requires facts { AreFreeChoiceTextFacts steps.now facts.now }
+        requires ended { (most : ℕ) × IsFlatSearchEnd (plan_of script.now) self.old steps.now most end }
+        requires telling { self.old.found.first.telling ≡ outcome_telling_of_script (plan_of script.now) detail }
+        ensures { IfOk result (λ answer. (most : ℕ)
+            → IsFlatSearchEnd (plan_of script.now) self.old steps.now (state_room_at_most (plan_of script.now) detail most) end
+            → IsExplored (plan_of script.now) detail most answer) }
+    {
+        let race_free = end.through | are_all_guarded(&facts.guarded);
+        let run = run_of_given_up(alloc, script, steps, detail, end)?;
+        let never = never_gets_stuck_by_text(steps, &run);
+        let verdict = self.verdict(alloc, script, steps, end.neighbours, race_free)?;
+        let hanging = self.hanging(alloc, script, steps, end.through, never)?;
+        let outcomes = self.outcomes_and(alloc, run_to_tell(race_free, run))?;
+        Ok(Explored {
+            states: end.states,
+            verdict,
+            hanging,
+            outcomes,
+            are_all: end.through,
+        })
+    }
+
     /// Looks at all states of the script as `explore` does, from the first one on.
-    fn answer<P: Progress>(
-        mut self,
+    fn explored<P: Progress>(
+        &mut self,
         alloc: Global,
         script: &Script,
         steps: &[Vec<ScriptCall>],
@@ -313,32 +446,14 @@ impl Search {
         requires steps { AreLawfulMachineSteps (plan_of script.now) steps.now }
         requires long { length facts.now.guarded.items ≡ plan_addresses (plan_of script.now) }
         requires facts { AreFreeChoiceTextFacts steps.now facts.now }
-        requires searched { FlatSearchedUpTo (plan_of script.now) self steps.now 0 }
-        requires few { length (found_states self.found) ≤ 1 }
-        requires telling { self.found.first.telling ≡ outcome_telling_of_script (plan_of script.now) detail }
+        requires searched { FlatSearchedUpTo (plan_of script.now) self.old steps.now 0 }
+        requires few { length (found_states self.old.found) ≤ 1 }
+        requires telling { self.old.found.first.telling ≡ outcome_telling_of_script (plan_of script.now) detail }
         ensures { IfOk result (IsExplored (plan_of script.now) detail most) }
     {
         let most = state_room_at_most(script, detail, most);
-        let neighbours = self.look_at_all(steps, facts, most, progress)?;
-        let states = self.found.len();
-        let through = is_search_through(neighbours, states, most);
-        let race_free = through | are_all_guarded(&facts.guarded);
-        let verdict = self.verdict(alloc, script, steps, neighbours, race_free)?;
-        let never = never_gets_stuck(alloc, script, steps, neighbours, through)?;
-        let hanging = self.hanging(alloc, script, steps, through, never)?;
-        let Search {
-            found,
-            outcomes,
-            ..
-        } = self;
-        let outcomes = search_outcomes_with_runs(alloc, &found, outcomes)?;
-        Ok(Explored {
-            states,
-            verdict,
-            hanging,
-            outcomes,
-            are_all: through,
-        })
+        let end = self.look_to_the_end(steps, facts, most, progress)?;
+        self.answer(alloc, script, steps, facts, detail, end)
     }
 }
 
@@ -355,8 +470,8 @@ fn search_steps<P: Progress>(
     ensures { IfOk result (IsExplored (plan_of script.now) detail most) }
 {
     let facts = text_facts(alloc, script, steps)?;
-    let search = Search::new(alloc, script, steps, detail)?;
-    search.answer(alloc, script, steps, &facts, detail, most, progress)
+    let mut search = Search::new(alloc, script, steps, detail)?;
+    search.explored(alloc, script, steps, &facts, detail, most, progress)
 }
 
 /// Looks at the states of the script on one flat memory, and says whether it races, whether it can hang, and what it can

@@ -103,8 +103,8 @@ fn run_until_words(
     ensures settled { IfOk result (λ showing. IsTrue (are_ending_words_settled showing)) }
 {
     let events = found.events_to(alloc, steps, place)?;
-    if let Some(race) = racing_history_race(alloc, script, &events)? {
-        return Ok(Showing::Racy(cut_racing_history(events, race)));
+    if let Some((first, second)) = racing_history_race(alloc, script, &events)? {
+        return Ok(Showing::Racy(cut_racing_history(events, first, second)));
     }
     let replies = found.at(place)?.replies()?;
     let outcome = ScriptOutcome { replies };
@@ -138,6 +138,32 @@ fn until_showing_of(
     }
 }
 
+/// Looks at the states of the script as `explore_until` does, from the first one on, which this search has.
+fn until_by_search<P: Progress>(
+    search: &mut Search,
+    alloc: Global,
+    script: &Script,
+    steps: &[Vec<ScriptCall>],
+    facts: &TextFacts,
+    detail: Detail,
+    words: &[(usize, u32)],
+    most: usize,
+    progress: &mut P,
+) -> Result<ExploredUntil, AllocError>
+    requires steps { AreLawfulMachineSteps (plan_of script.now) steps.now }
+    requires facts { AreFreeChoiceTextFacts steps.now facts.now }
+    requires searched { FlatSearchedUpTo (plan_of script.now) search.old steps.now 0 }
+    requires few { length (found_states search.old.found) ≤ 1 }
+    requires telling { search.old.found.first.telling ≡ outcome_telling_of_script (plan_of script.now) detail }
+    ensures { IfOk result (IsExploredUntil (plan_of script.now) detail words.now most) }
+{
+    let most = state_room_at_most(script, detail, most);
+    let met = look_until(search, steps, facts, words, most, progress)?;
+    let states = search.found.len();
+    let showing = until_showing_of(alloc, script, steps, search, met, states <= most)?;
+    Ok(ExploredUntil { states, showing })
+}
+
 /// Looks at the states of the script as `explore_until` does, by its steps.
 fn until_by_steps<P: Progress>(
     alloc: Global,
@@ -152,12 +178,18 @@ fn until_by_steps<P: Progress>(
     ensures { IfOk result (IsExploredUntil (plan_of script.now) detail words.now most) }
 {
     let facts = text_facts(alloc, script, steps)?;
-    let most = state_room_at_most(script, detail, most);
     let mut search = Search::new(alloc, script, steps, detail)?;
-    let met = look_until(&mut search, steps, &facts, words, most, progress)?;
-    let states = search.found.len();
-    let showing = until_showing_of(alloc, script, steps, &search, met, states <= most)?;
-    Ok(ExploredUntil { states, showing })
+    until_by_search(
+        &mut search,
+        alloc,
+        script,
+        steps,
+        &facts,
+        detail,
+        words,
+        most,
+        progress,
+    )
 }
 
 /// Looks at the states of the script on one flat memory as `explore` does, until a whole run ends with these words, each at

@@ -8,9 +8,9 @@ use Rattle.explore.proofs.racing_history.cut_racing_history.Goals as goal
 
 pub returns : goal.returns
 returns c = λ s begins.
-    let k = c.args.race.second in
+    let k = c.args.second in
     let es = c.args.events.items in
-    let first = c.requires.race in
+    let first = c.requires in
     let lt = event_place_inside es k first.race.second first.race.second_at in
     let items = c.truncate.ensures.items in
     record {
@@ -18,5 +18,5 @@ returns c = λ s begins.
       last = k;
       is_last = ap (λ (xs : List Event). length xs) items ∙ first_race_front_length es k lt;
       race =
-          subst (λ xs. IsFirstRace xs c.args.race.first k) (sym items) (first_race_of_front es c.args.race.first k lt first);
+          subst (λ xs. IsFirstRace xs c.args.first k) (sym items) (first_race_of_front es c.args.first k lt first);
     }

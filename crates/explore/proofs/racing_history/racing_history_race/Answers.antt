@@ -1,12 +1,10 @@
-use Rattle.std.proofs.Common.{List, Option, MatchOption, ap, sym, subst, arith}
+use Rattle.std.proofs.Common.{ℕ, List, Option, MatchOption, ap, sym, subst, arith}
 use Rattle.std.specs.Prelude.{IfOk}
 use Rattle.journal.specs.declared.event.Event.{Event}
-use Rattle.journal.specs.Races.{RaceFree}
+use Rattle.journal.specs.Races.{IsFirstRace, RaceFree}
 use Rattle.journal.specs.Sizes.{Sizes}
 use Rattle.judge.specs.SizedHistory.{IsHistoryInSizes, SizedHistory}
 use Rattle.judge.specs.JudgedSizes.{AreJudgedSizesSmall, AreStreamedSizes}
-use Rattle.causes.specs.declared.racing.FirstRace.{FirstRace}
-use Rattle.causes.specs.Heard.{IsHeardAtRace}
 use Rattle.lrc_script.specs.Lawful.{IsLawful}
 use Rattle.lrc_script.specs.Plan.{Plan, plan_of}
 use Rattle.conformance.specs.Follows.{plan_sizes}
@@ -46,5 +44,5 @@ unwrap-history-requires c =
 pub returns : goal.returns
 returns c =
     let is = rw c.unwrap-history.ensures at c.new.ensures.value in
-    subst (λ j. IfOk c.race.result (λ (o : Option FirstRace). MatchOption o (RaceFree j) (IsHeardAtRace j)))
-    (ap (λ (h : SizedHistory). h.events) is) c.race.ensures
+    subst (λ j. IfOk c.first_race.result (λ (o : Option (ℕ × ℕ)). MatchOption o (RaceFree j) (λ r. IsFirstRace j r.0 r.1)))
+    (ap (λ (h : SizedHistory). h.events) is) c.first_race.ensures

@@ -1,20 +1,23 @@
-use Rattle.std.proofs.Common.{Bool, IsTrue, List, Result, Ok, Err, IfOk}
+use Rattle.std.proofs.Common.{◌≡◌, Option, Some, List, subst}
+use Rattle.std.specs.Prelude.{IfSome}
+use Rattle.lrc_script.specs.Plan.{Plan}
+use Rattle.explore.specs.declared.explored.ShownOutcome.{ShownOutcome}
+use Rattle.explore.specs.declared.outcome_telling.Detail.{Detail}
+use Rattle.explore.specs.Explored.{IsRunOfShownOutcome}
+use Rattle.explore.specs.Prefixes.FlatBeginnings.{IsFlatBeginningWhole}
 use Rattle.journal.specs.declared.event.Event.{Event}
-use Rattle.lrc_script.specs.Plan.{plan_of}
-use Rattle.explore.specs.Prefixes.FlatBeginnings.{IsFlatBeginningHanging, IsFlatBeginningWhole}
 use Rattle.explore.proofs.ranked_locks.RankedLocks.{ranked_locks_law}
 use Rattle.explore.proofs.whole_run.never_gets_stuck_by_text.Goals as goal
 
--- an answer that says less
-if_ok_map : {E : Type 0} (r : Result Bool E) (P Q : Bool → Type 0) → ((b : Bool) → P b → Q b) → IfOk r P → IfOk r Q
-if_ok_map (Ok b) P Q f h = f b h
-if_ok_map (Err e) P Q f h = tt
+-- the run that is there is whole
+whole : (s : Plan) (d : Detail) (o : Option ShownOutcome) (x : ShownOutcome) → o ≡ Some x → IfSome o (IsRunOfShownOutcome s d)
+    → (w : List Event) × IsFlatBeginningWhole s w
+whole s d o x is shown =
+    let run = subst (λ p. IfSome p (IsRunOfShownOutcome s d)) is shown in
+    (run.events, run.whole)
 
-pub returns : goal.returns
-returns c =
-    let s = plan_of c.args.script.now in
-    let ranks = c.are_locks_ranked.ensures c.if-not-are_locks_ranked.false in
-    if_ok_map c.comes_one_run_to_its_end.result (λ b. IsTrue b → (w : List Event) × IsFlatBeginningWhole s w)
-    (λ b. IsTrue b → (g : List Event) → ¬ IsFlatBeginningHanging s g)
-    (λ b whole yes. let w = whole yes in ranked_locks_law s c.args.steps.now ranks.0 w.0 c.requires ranks.1 w.1)
-    c.comes_one_run_to_its_end.ensures
+pub returns-in-Some : goal.returns-in-Some
+returns-in-Some c = λ yes s d lawful shown.
+    let ranks = c.are_locks_ranked.ensures yes in
+    let run = whole s d c.args.run.now _ c.in-Some.is shown in
+    ranked_locks_law s c.args.steps.now ranks.0 run.0 lawful ranks.1 run.1

@@ -1,0 +1,101 @@
+use Rattle.std.proofs.Common.{◌≡◌, [], ◌∷◌, ◌++◌, ◌<◌, List, length, vec_len, refl, sym, subst, ◌∙◌, inl, inr, arith}
+use Rattle.std.proofs.lemmas.Bool.{eq-eqb, eqb-true, false≢true}
+use Rattle.base.specs.InOrderOnce.{Has}
+use Rattle.base.proofs.JoinedLists.{joined_list_has-append, joined_list_has-cons}
+use Rattle.lrc_script.specs.Plan.{plan_of}
+use Rattle.explore.specs.declared.allowed_beginning.AllowedBeginning.{AllowedBeginning}
+use Rattle.explore.specs.declared.allowed_search.AllowedSearch.{AllowedSearch}
+use Rattle.explore.specs.declared.outcome_telling.Detail.TheVariants as detail
+use Rattle.explore.specs.AllowedBeginnings.{allowed_beginning_events}
+use Rattle.explore.specs.AllowedSearch.{IsAllowedSearched}
+use Rattle.explore.specs.AllowedUntilSearch.{IsAllowedUntilEnd}
+use Rattle.explore.proofs.MachineSteps.{machine_step_some_at}
+use Rattle.explore.proofs.allowed_runs.AllowedUntil.{allowed_until_never, allowed_until_next}
+use Rattle.explore.proofs.allowed_runs.SearchByRules.{rules_search_next, rules_search_one_more, rules_search_seen_many}
+use Rattle.explore.proofs.allowed_until_search.look_at_pending_until.Goals.{then-is_empty, else-is_empty}
+use Rattle.explore.proofs.allowed_until_search.look_at_pending_until.Goals as goal
+
+-- where no beginning is counted there is none
+none_left : (bs : List AllowedBeginning) → length bs ≡ 0 → bs ≡ []
+none_left [] is = refl
+none_left (b ∷ bs) is = absurd (omega arith)
+
+-- the one that is taken was there
+taken : (bs rest : List AllowedBeginning) (b : AllowedBeginning) → bs ≡ rest ++ b ∷ [] → Has bs b
+taken bs rest b is =
+    subst (λ cs. Has cs b) (sym is) ((joined_list_has-append rest (b ∷ []) b).1 (inr ((joined_list_has-cons b [] b).1 (inl refl))))
+
+pub has_allowed_until_words-requires-clause-told : goal.has_allowed_until_words-requires-clause-told
+has_allowed_until_words-requires-clause-told g c =
+    let b = c.in-Some.beginning in
+    c.loop-looked.invariant.searched.known b (taken c.loop-looked.search.pending.items c.pop.new.self.items b c.in-Some.ensures.items)
+
+pub returns-then-branch : goal.returns-then-branch
+returns-then-branch g c =
+    let s = plan_of c.args.script.now in
+    let b = c.in-Some.beginning in
+    let has = taken c.loop-looked.search.pending.items c.pop.new.self.items b c.in-Some.ensures.items in
+    let within = c.loop-looked-test.true in
+    record {
+      looked_at = rules_search_one_more s detail.Words c.loop-looked.looked c.loop-looked.search b c.loop-looked.invariant.searched has;
+      few = omega (arith, within);
+      end = (c.loop-looked.invariant.searched.known b has, c.in_ok-has_allowed_until_words-in-Some.ensures.0 c.if-branch.true);
+    }
+
+pub look_at-requires-clause-told : goal.look_at-requires-clause-told
+look_at-requires-clause-told g c =
+    let b = c.in-Some.beginning in
+    c.loop-looked.invariant.searched.known b (taken c.loop-looked.search.pending.items c.pop.new.self.items b c.in-Some.ensures.items)
+
+pub loop-looked-preserved : goal.loop-looked-preserved
+loop-looked-preserved g c =
+    let s = plan_of c.args.script.now in
+    let b = c.in-Some.beginning in
+    let left : AllowedSearch = record { pending = c.pop.new.self; outcomes = c.loop-looked.search.outcomes } in
+    record {
+      searched = rules_search_next s detail.Words c.loop-looked.looked b c.pop.new.self.items c.loop-looked.search left c.look_at.new.self
+          c.loop-looked.invariant.searched c.in-Some.ensures.items refl refl c.in_ok-look_at-in-Some.ensures;
+      none = allowed_until_next s c.args.words.now (allowed_beginning_events b) left c.look_at.new.self c.requires.lawful.lawful c.in_ok-look_at-in-Some.ensures
+          (λ ends. false≢true (sym c.if-branch.false ∙ c.in_ok-has_allowed_until_words-in-Some.ensures.1 ends)) c.loop-looked.invariant.none;
+    }
+
+pub returns-in-None : goal.returns-in-None
+returns-in-None g c =
+    let s = plan_of c.args.script.now in
+    let x = c.loop-looked.search in
+    let within = c.loop-looked-test.true in
+    let empty : vec_len x.pending ≡ 0 = c.in-None.ensures.cases.0 in
+    record {
+      looked_at = rules_search_seen_many s detail.Words c.loop-looked.looked x c.loop-looked.invariant.searched;
+      few = omega (arith, within);
+      end = allowed_until_never s c.args.words.now c.loop-looked.looked x c.loop-looked.invariant.searched c.loop-looked.invariant.none
+          (none_left x.pending.items (omega (arith, empty)));
+    }
+
+pub returns : goal.returns
+returns g c =
+    let s = plan_of c.args.script.now in
+    let x = c.loop-looked.search in
+    let past = c.loop-looked-test.false in
+    let reached : c.loop-looked.looked ≡ c.args.most = omega (arith, past) in
+    let searched = subst (λ n. IsAllowedSearched s detail.Words n x) reached c.loop-looked.invariant.searched in
+    record {
+      looked_at = rules_search_seen_many s detail.Words c.args.most x searched;
+      few = omega arith;
+      end = elim c.if-is_empty.branch [
+        | then-is_empty w ↦
+            (let zero_long : vec_len x.pending ≡ 0 = eqb-true (vec_len x.pending) 0 (sym c.is_empty.ensures ∙ w.if-is_empty.true) in
+            subst (IsAllowedUntilEnd s c.args.words.now c.args.most) (sym w.end-is)
+            (allowed_until_never s c.args.words.now c.args.most x searched c.loop-looked.invariant.none (none_left x.pending.items (omega (arith, zero_long)))))
+        | else-is_empty w ↦
+            (let some = machine_step_some_at x.pending.items 0 (more x.pending.items
+            (λ none. let zero_long : vec_len x.pending ≡ 0 = omega (arith, none) in
+            false≢true (sym w.if-is_empty.false ∙ c.is_empty.ensures ∙ eq-eqb (vec_len x.pending) 0 zero_long))) in
+            subst (IsAllowedUntilEnd s c.args.words.now c.args.most) (sym w.end-is)
+            (rules_search_one_more s detail.Words c.args.most x some.0 searched (0, some.1)))
+      ];
+    }
+  where
+    more : (bs : List AllowedBeginning) → (length bs ≡ 0 → ⊥) → 0 < length bs
+    more [] isnt = absurd (isnt refl)
+    more (b ∷ bs) isnt = omega arith
