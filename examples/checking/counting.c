@@ -1,11 +1,11 @@
 /*
- * counting: two threads add to a counter, and log it by logger.h as a trace for `lrc check --lax`.
+ * counting: two threads add to a counter, and log it by logger.h as a trace for `lrc check`.
  *
  *     counting right    each addition is made under the lock
  *     counting forgot   processor 1 forgets the lock once: the program races
  *     counting stale    processor 1 keeps a copy of the counter from before, and doesn't renew it at the lock
  *
- *     cc -pthread -o counting counting.c && ./counting forgot | lrc check --lax
+ *     cc -pthread -o counting counting.c && ./counting forgot | lrc check
  */
 #define _GNU_SOURCE
 #include "logger.h"
@@ -23,7 +23,6 @@ static int forgets, is_stale;
 
 static void *first(void *unused)
 {
-    trace_thread(0);
     STORE(COUNTER, words[COUNTER], 10);
     SET(0, started);
     LOCK(0, lock);
@@ -38,7 +37,6 @@ static void *first(void *unused)
 
 static void *second(void *unused)
 {
-    trace_thread(1);
     trace_wait(&one);
     AWAIT(0, started);
     uint32_t copy = 10;
@@ -55,7 +53,7 @@ static void *second(void *unused)
 
 int main(int argc, char **argv)
 {
-    void *(*const bodies[])(void *) = {first, second};
+    trace_body *const bodies[] = {first, second};
 
     if (argc != 2 || (strcmp(argv[1], "right") && strcmp(argv[1], "forgot") && strcmp(argv[1], "stale"))) {
         fprintf(stderr, "usage: counting right|forgot|stale\n");

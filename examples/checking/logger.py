@@ -1,5 +1,5 @@
 #!/usr/bin/env python3
-"""logger.py: logs what threads do, as a trace for `lrc check --lax`. The class Trace is for any program.
+"""logger.py: logs what threads do, as a trace for `lrc check`. The class Trace is for any program, which imports it.
 
     logger.py right    two threads add to a counter, each under the lock
     logger.py forgot   processor 1 forgets the lock once: the program races
@@ -7,7 +7,7 @@
 
 An access and its line are made together under one mutex, so the trace's order is the order in which it all happened, as
 each model wants it. Each line ends with the place in the source as its label. A thread's start and end are hand-overs:
-log them as flags.
+`start` and `join` log them as flags.
 """
 import sys
 import threading
@@ -26,19 +26,23 @@ class Trace:
         numbers = [processors, 1, words, locks] + [flags] * (flags > 0)
         print("cluster", *numbers, file=file)
 
-    def line(self, processor, *words):
-        """Prints an event's line, with the caller's place as its label. The guard is held."""
+    @staticmethod
+    def place():
+        """The place in the source that called the class."""
         frame = sys._getframe(1)
         while frame.f_code.co_filename == __file__ and "self" in frame.f_locals:
             frame = frame.f_back
-        label = f"{Path(frame.f_code.co_filename).name}:{frame.f_lineno}"
-        print("event", self.events, processor, *words, f" {label}", file=self.file)
+        return f"{Path(frame.f_code.co_filename).name}:{frame.f_lineno}"
+
+    def line(self, processor, *words, label=None):
+        """Prints an event's line, with the caller's place as its label, if no other is given. The guard is held."""
+        print("event", self.events, processor, *words, f" {label or self.place()}", file=self.file)
         self.events += 1
 
-    def note(self, processor, *words):
+    def note(self, processor, *words, label=None):
         """Logs an event that is no access."""
         with self.guard:
-            self.line(processor, *words)
+            self.line(processor, *words, label=label)
 
     def load(self, processor, address, cache=None):
         """The word at the address, or that of a cache that stands before it."""
@@ -62,19 +66,52 @@ class Trace:
         self.note(processor, "release", lock)
         self.locks[lock].release()
 
+    def condition(self, lock):
+        """A condition variable under this lock. To notify it needs no line."""
+        return threading.Condition(self.locks[lock])
+
+    def wait(self, processor, lock, condition, timeout=None):
+        """Waits for a condition under the lock, which the wait frees and takes again: whether it came in time."""
+        self.note(processor, "release", lock)
+        came = condition.wait(timeout)
+        with self.guard:
+            self.line(processor, "ask", lock)
+            self.line(processor, "acquire", lock)
+        return came
+
     def wait_for_all(self, processor):
         self.note(processor, "arrive")
         self.barrier.wait()
         self.note(processor, "depart")
 
-    def set(self, processor, flag):
-        self.note(processor, "set", flag)
+    def set(self, processor, flag, label=None):
+        self.note(processor, "set", flag, label=label)
         self.flags[flag].set()
 
-    def wait_for(self, processor, flag):
-        self.note(processor, "watch", flag)
+    def wait_for(self, processor, flag, label=None):
+        self.note(processor, "watch", flag, label=label)
         self.flags[flag].wait()
-        self.note(processor, "await", flag)
+        self.note(processor, "await", flag, label=label)
+
+    def start(self, processor, child, flag, body, *words):
+        """Starts a thread as processor `child`: body(*words). Flag `flag` hands its start on, and `flag + 1` its end."""
+        label = self.place()
+        self.set(processor, flag)
+
+        def run():
+            self.wait_for(child, flag, label)
+            body(*words)
+            self.set(child, flag + 1, label)
+
+        thread = threading.Thread(target=run)
+        thread.start()
+        return thread, flag + 1
+
+    def join(self, processor, started):
+        """Waits for the end of what `start` answered."""
+        thread, flag = started
+        thread.join()
+        self.wait_for(processor, flag)
 
 
 COUNTER, RESULT = 0, 1

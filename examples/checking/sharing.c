@@ -1,12 +1,12 @@
 /*
  * sharing: a table under a read-write lock, whose two readers meet at a barrier of their own, logged by logger.h as a
- * trace for `lrc check --lax`.
+ * trace for `lrc check`.
  *
  *     sharing right    each reads under the lock
  *     sharing forgot   processor 2 forgets the lock: it races with the writer
  *     sharing apart    the readers don't meet: processor 1 races with processor 2
  *
- *     cc -pthread -o sharing sharing.c && ./sharing apart | lrc check --lax
+ *     cc -pthread -o sharing sharing.c && ./sharing apart | lrc check
  */
 #define _GNU_SOURCE
 #include "logger.h"
@@ -31,7 +31,6 @@ static void write_table(uint32_t value)
 
 static void *writer(void *unused)
 {
-    trace_thread(0);
     write_table(7);
     trace_raise(&turns[0]);
     trace_wait(&turns[2]);
@@ -52,7 +51,6 @@ static void read_table(int reader, int takes_the_lock)
 
 static void *one(void *unused)
 {
-    trace_thread(1);
     trace_wait(&turns[0]);
     read_table(1, 1);
     trace_raise(&turns[1]);
@@ -66,7 +64,6 @@ static void *one(void *unused)
 
 static void *other(void *unused)
 {
-    trace_thread(2);
     trace_wait(&turns[1]);
     read_table(2, !forgets);
     trace_raise(&turns[2]);
@@ -79,7 +76,7 @@ static void *other(void *unused)
 
 int main(int argc, char **argv)
 {
-    void *(*const bodies[])(void *) = {writer, one, other};
+    trace_body *const bodies[] = {writer, one, other};
 
     if (argc != 2 || (strcmp(argv[1], "right") && strcmp(argv[1], "forgot") && strcmp(argv[1], "apart"))) {
         fprintf(stderr, "usage: sharing right|forgot|apart\n");

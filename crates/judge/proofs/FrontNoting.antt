@@ -20,7 +20,7 @@ use Rattle.judge.specs.LaxWellFormed.{LaxAllowed}
 use Rattle.judge.specs.FrontTells.{FrontTellsLastOf, FrontTellsFlagSet, front_tells_holder_after, front_tells_flag_set_after}
 
 -- one event and no other
-front_noting_one_away : (e : Event) (p : ℕ) → e.processor ≢ p → (m : ℕ) (f : Event) → EventAt (e ∷ []) m f → f.processor ≢ p
+pub front_noting_one_away : (e : Event) (p : ℕ) → e.processor ≢ p → (m : ℕ) (f : Event) → EventAt (e ∷ []) m f → f.processor ≢ p
 front_noting_one_away e p isnt m f at is = elim (slice_push_cases [] e m f at) [
   | inl none ↦ absurd (omega (arith, none.0))
   | inr same ↦ isnt (ap (λ (x : Event). x.processor) same.1 ∙ is)
@@ -62,7 +62,7 @@ front_noting_lasts_next j e last place within is old p = elim (cases_eq p e.proc
     next = slice_set last e.processor (Some now)
 
 -- a count of one more event
-front_noting_count_one : (is : Kind → Bool) (e : Event) (q : ℕ)
+pub front_noting_count_one : (is : Kind → Bool) (e : Event) (q : ℕ)
     → event_count is (e ∷ []) q ≡ cond ((e.processor == q) && is e.kind) 1 0
 front_noting_count_one is e q = go ((e.processor == q) && is e.kind) refl
   where
@@ -123,7 +123,7 @@ front_noting_holders_next s j p (Acquire m) l o allowed was q = elim (cases_eq m
   | inl is ↦ subst (λ b. (cond b (Some p) o ≡ Some q) ↔ Holds (j ++ event p (Acquire m) ∷ []) q l)
       (sym (eq-eqb m l is))
       (subst (λ n. (Some p ≡ Some q) ↔ Holds (j ++ event p (Acquire m) ∷ []) q n) is
-      (front_noting_holder_acquired j p q m allowed.1))
+      (front_noting_holder_acquired j p q m allowed))
   | inr isnt ↦ subst (λ b. (cond b (Some p) o ≡ Some q) ↔ Holds (j ++ event p (Acquire m) ∷ []) q l)
       (sym (ne_eqb m l isnt))
       (front_noting_holder_kept j (event p (Acquire m)) q l o (λ is. isnt (same_acquire is)) (λ is. absurd cc) (was q))

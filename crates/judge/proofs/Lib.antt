@@ -1,4 +1,5 @@
 pub mod Refusing
+pub mod AsksStoodFor
 pub mod SizesJudged
 pub mod VecItems
 pub mod LongerSparseTables

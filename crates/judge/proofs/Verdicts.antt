@@ -16,7 +16,7 @@ use Rattle.judge.specs.declared.why.Why.{Why}
 use Rattle.judge.specs.declared.why.Why.TheVariants.{NoSuchProcessor, OutOfRange, Waits, AsksWhatItHolds, NotAsked}
 use Rattle.judge.specs.declared.why.Why.TheVariants.{HeldBy, AskedEarlier, NotHeld, NotArrived, NotSet}
 use Rattle.judge.specs.LaxWellFormed.{LaxAllowed, MayFollowOrLax}
-use Rattle.judge.specs.Why.{WhyAskedBehind, IsFirstTrueWhy, WhyIsInTurn, IsWhyVerdict, IsWhy, WhyWaitsFor, number, why_rank}
+use Rattle.judge.specs.Why.{WhyAskedBehind, IsFirstTrueWhy, WhyIsInTurn, IsWhyVerdict, IsWhy, WhyMayTake, WhyWaitsFor, number, why_rank}
 use Rattle.judge.specs.FrontTells.{FrontTellsFirstAsk, FrontTellsFlagSet, FrontTellsNobodyAsks}
 use Rattle.judge.proofs.Refusing.{refusing_lax_allowed}
 
@@ -132,10 +132,20 @@ module _ (lax : Bool) (s : Sizes) (j : List Event) (p : ℕ) where
       least (AskedEarlier q i) w = absurd (let e = w.1 in cc)
       least _ w = omega arith
 
--- takings of a processor that waits for them
+-- who may take, and not lax, waits for it
+pub verdict_may_waits : (lax : Bool) (j : List Event) (p : ℕ) (k : Kind) → lax ≡ false → WhyMayTake lax j p k → WhyWaitsFor j p k
+verdict_may_waits lax j p k strict (inl waits) = waits
+verdict_may_waits lax j p k strict (inr unasked) = absurd (false≢true (sym strict ∙ unasked.0))
+
+-- a departure is waited for
+pub verdict_may_depart : (lax : Bool) (j : List Event) (p : ℕ) → WhyMayTake lax j p Depart → WhyWaitsFor j p Depart
+verdict_may_depart lax j p (inl waits) = waits
+verdict_may_depart lax j p (inr unasked) = absurd (false≢true unasked.1)
+
+-- takings of a processor that waits for them, or needs not
 module _ (lax : Bool) (s : Sizes) (j : List Event) (p : ℕ) where
   -- what is refused of it is refused for what it lacks
-  verdict_lacks : (k : Kind) (v : Why) → IsTrue (event_takes k) → WhyIsInTurn s j (event p k) → WhyWaitsFor j p k
+  verdict_lacks : (k : Kind) (v : Why) → IsTrue (event_takes k) → WhyIsInTurn s j (event p k) → WhyMayTake lax j p k
       → IsWhy lax s j (event p k) v → 5 ≤ why_rank v
   verdict_lacks k NoSuchProcessor takes turn waits w =
       absurd (let le = verdict_in_turn lax s j (event p k) NoSuchProcessor turn w in omega arith)
@@ -148,7 +158,7 @@ module _ (lax : Bool) (s : Sizes) (j : List Event) (p : ℕ) where
   verdict_lacks k NotAsked takes turn waits w = absurd (w.1 waits)
   verdict_lacks k _ takes turn waits w = omega arith
 
-  pub verdict_held_by : (l q : ℕ) → WhyIsInTurn s j (event p (Acquire l)) → WhyWaitsFor j p (Acquire l) → Holds j q l
+  pub verdict_held_by : (l q : ℕ) → WhyIsInTurn s j (event p (Acquire l)) → WhyMayTake lax j p (Acquire l) → Holds j q l
       → IsFirstTrueWhy lax s j (event p (Acquire l)) (HeldBy q)
   verdict_held_by l q turn waits holds =
       record {
@@ -169,7 +179,7 @@ module _ (lax : Bool) (s : Sizes) (j : List Event) (p : ℕ) where
       least NotHeld w = absurd (let e = w.1 in cc)
       least (NotArrived r) w = omega arith
       least NotSet w = omega arith
-      least v w = absurd (let le = verdict_lacks Depart v refl turn waits w in omega arith)
+      least v w = absurd (let le = verdict_lacks Depart v refl turn (inl waits) w in omega arith)
 
       least_number : (v : Why) → IsWhy lax s j (event p Depart) v → 8 ≡ why_rank v → q ≤ number v
       least_number (NotArrived r) w same = elim (cases_lt r q) [
@@ -199,7 +209,7 @@ module _ (lax : Bool) (s : Sizes) (j : List Event) (p : ℕ) where
       go true = (waits.place, last, enough)
       go false = (waits.place, last, enough)
 
-  pub verdict_not_set : (f : ℕ) → WhyIsInTurn s j (event p (Await f)) → WhyWaitsFor j p (Await f) → (¬ FrontTellsFlagSet j f)
+  pub verdict_not_set : (f : ℕ) → WhyIsInTurn s j (event p (Await f)) → WhyMayTake lax j p (Await f) → (¬ FrontTellsFlagSet j f)
       → IsFirstTrueWhy lax s j (event p (Await f)) NotSet
   verdict_not_set f turn waits unset =
       record {
@@ -215,9 +225,9 @@ module _ (lax : Bool) (s : Sizes) (j : List Event) (p : ℕ) where
       least NotSet w = omega arith
       least v w = absurd (let le = verdict_lacks (Await f) v refl turn waits w in omega arith)
 
-  pub verdict_awaits_set : (f : ℕ) → WhyIsInTurn s j (event p (Await f)) → WhyWaitsFor j p (Await f) → FrontTellsFlagSet j f
+  pub verdict_awaits_set : (f : ℕ) → WhyIsInTurn s j (event p (Await f)) → WhyMayTake lax j p (Await f) → FrontTellsFlagSet j f
       → MayFollowOrLax lax s j (event p (Await f))
-  verdict_awaits_set f turn waits set = verdict_may_in lax s j (event p (Await f)) turn (go lax)
+  verdict_awaits_set f turn may set = verdict_may_in lax s j (event p (Await f)) turn (go lax may)
     where
       watched : (a : Kind) → awaited_next a ≡ Some (Await f) → a ≡ Watch f
       watched (Ask l) is = absurd (let e = same_Some (Acquire l) (Await f) is in cc)
@@ -225,12 +235,18 @@ module _ (lax : Bool) (s : Sizes) (j : List Event) (p : ℕ) where
       watched (Watch g) is = let e = same_Some (Await g) (Await f) is in cc
       watched _ is = absurd (none-some (Await f) is)
 
-      last : LastIs j p waits.place (Watch f)
-      last = subst (LastIs j p waits.place) (watched waits.kind waits.awaits) waits.last
+      last : (waits : WhyWaitsFor j p (Await f)) → LastIs j p waits.place (Watch f)
+      last waits = subst (LastIs j p waits.place) (watched waits.kind waits.awaits) waits.last
 
-      go : (lax : Bool) → VerdictAllows lax s j p (Await f)
-      go true = (waits.place, set.0, set.1, last, set.2)
-      go false = (waits.place, set.0, set.1, last, set.2)
+      go : (lax : Bool) → WhyMayTake lax j p (Await f) → VerdictAllows lax s j p (Await f)
+      go true _ = set
+      go false (inl waits) = (waits.place, set.0, set.1, last waits, set.2)
+      go false (inr unasked) = absurd (false≢true unasked.0)
+
+-- an acquire of a lock that nobody holds, lax
+pub verdict_granted_lax : (s : Sizes) (j : List Event) (p l : ℕ) → WhyIsInTurn s j (event p (Acquire l)) → ((q : ℕ) → ¬ Holds j q l)
+    → MayFollowOrLax true s j (event p (Acquire l))
+verdict_granted_lax s j p l turn free = verdict_may_in true s j (event p (Acquire l)) turn free
 
 -- acquires
 module _ (s : Sizes) (j : List Event) (p l : ℕ) (turn : WhyIsInTurn s j (event p (Acquire l)))
@@ -243,9 +259,6 @@ module _ (s : Sizes) (j : List Event) (p l : ℕ) (turn : WhyIsInTurn s j (event
 
   verdict_last_ask : LastIs j p waits.place (Ask l)
   verdict_last_ask = subst (LastIs j p waits.place) (verdict_asked waits.kind waits.awaits) waits.last
-
-  pub verdict_granted_lax : MayFollowOrLax true s j (event p (Acquire l))
-  verdict_granted_lax = verdict_may_in true s j (event p (Acquire l)) turn ((waits.place, verdict_last_ask), free)
 
   -- its ask is the first that is open
   pub verdict_granted : (i : ℕ) → FrontTellsFirstAsk j l p i → MayFollowOrLax false s j (event p (Acquire l))
@@ -289,7 +302,7 @@ module _ (s : Sizes) (j : List Event) (p l : ℕ) (turn : WhyIsInTurn s j (event
       least NotHeld w = omega arith
       least (NotArrived r) w = omega arith
       least NotSet w = omega arith
-      least v w = absurd (let le = verdict_lacks false s j p (Acquire l) v refl turn waits w in omega arith)
+      least v w = absurd (let le = verdict_lacks false s j p (Acquire l) v refl turn (inl waits) w in omega arith)
 
       least_place : (v : Why) → IsWhy false s j (event p (Acquire l)) v → 6 ≡ why_rank v → i ≤ number v
       least_place (AskedEarlier r k) w same =
@@ -331,8 +344,11 @@ verdict_awaited_takes Arrive k is = subst (λ b. IsTrue (event_takes b)) (same_S
 verdict_awaited_takes (Watch f) k is = subst (λ b. IsTrue (event_takes b)) (same_Some (Await f) k is) refl
 verdict_awaited_takes _ k is = absurd (none-some k is)
 
-pub verdict_waits_takes : (j : List Event) (p : ℕ) (k : Kind) → WhyWaitsFor j p k → IsTrue (event_takes k)
-verdict_waits_takes j p k waits = verdict_awaited_takes waits.kind k waits.awaits
+pub verdict_may_takes : (lax : Bool) (j : List Event) (p : ℕ) (k : Kind) → WhyMayTake lax j p k → IsTrue (event_takes k)
+verdict_may_takes lax j p k (inl waits) = verdict_awaited_takes waits.kind k waits.awaits
+verdict_may_takes lax j p (Acquire l) (inr unasked) = refl
+verdict_may_takes lax j p (Await f) (inr unasked) = refl
+verdict_may_takes lax j p _ (inr unasked) = absurd (false≢true unasked.1)
 
 -- an event of a processor that waits for it, or for nothing, is in its turn
 pub verdict_turn_for : (s : Sizes) (j : List Event) (e : Event) (k : Kind) → e.processor < s.processors

@@ -1,5 +1,5 @@
 -- What each reason says of an event and of what stands before it.
-use Rattle.std.specs.Prelude.{ℕ, ◌≡◌, ◌≢◌, ◌<◌, ◌≤◌, Bool, false, IsTrue, Option, Some, MatchOption, List, take}
+use Rattle.std.specs.Prelude.{ℕ, ◌≡◌, ◌≢◌, ◌<◌, ◌≤◌, ◌⊎◌, Bool, true, false, IsTrue, Option, Some, MatchOption, List, is_some, take}
 use Rattle.journal.specs.declared.event.Event.{Event}
 use Rattle.journal.specs.declared.event.Kind.{Kind}
 use Rattle.journal.specs.declared.event.Kind.TheVariants.{Ask, Acquire, Release, Depart, Set, Await}
@@ -11,7 +11,7 @@ use Rattle.judge.specs.declared.why.Why.{Why}
 use Rattle.judge.specs.declared.why.Why.TheVariants.{NoSuchProcessor, OutOfRange, Waits, AsksWhatItHolds, NotAsked}
 use Rattle.judge.specs.declared.why.Why.TheVariants.{HeldBy, AskedEarlier, NotHeld, NotArrived, NotSet}
 use Rattle.judge.specs.declared.ill_formed.IllFormed.{IllFormed}
-use Rattle.judge.specs.LaxWellFormed.{MayFollowOrLax, WellFormedOrLax}
+use Rattle.judge.specs.LaxWellFormed.{MayFollowOrLax, WellFormedOrLax, lax_ask_of}
 
 -- p's last event is one after which it waits, for this
 pub record WhyWaitsFor (j : List Event) (p : ℕ) (k : Kind) : Type 0 where
@@ -20,6 +20,10 @@ pub record WhyWaitsFor (j : List Event) (p : ℕ) (k : Kind) : Type 0 where
   pub last : LastIs j p place kind
   pub awaits : awaited_next kind ≡ Some k
 
+-- p waits for this, or, lax, it stands for its ask or watch, too
+abbrev pub WhyMayTake : Bool → List Event → ℕ → Kind → Type 0
+WhyMayTake lax j p k = WhyWaitsFor j p k ⊎ ((lax ≡ true) × IsTrue (is_some (lax_ask_of k)))
+
 -- p's ask of l is open, and q's at the earlier place i is too
 pub record WhyAskedBehind (j : List Event) (p l q i : ℕ) : Type 0 where
   pub place : ℕ
@@ -27,13 +31,13 @@ pub record WhyAskedBehind (j : List Event) (p l q i : ℕ) : Type 0 where
   pub earlier : LastIs j q i (Ask l)
   pub before : i < place
 
--- the reason is true of the event e after j; lax, the order of asks is none
+-- the reason is true of the event e after j; lax, the order of asks is none, and neither is an ask or a watch that isn't there
 abbrev pub IsWhy : Bool → Sizes → List Event → Event → Why → Type 0
 IsWhy lax s j e NoSuchProcessor = s.processors ≤ e.processor
 IsWhy lax s j e OutOfRange = ¬ WellFormedKindInRange s e.kind
 IsWhy lax s j e (Waits k) = WhyWaitsFor j e.processor k × (e.kind ≢ k)
 IsWhy lax s j e AsksWhatItHolds = (l : ℕ) × (e.kind ≡ Ask l) × Holds j e.processor l
-IsWhy lax s j e NotAsked = IsTrue (event_takes e.kind) × (¬ WhyWaitsFor j e.processor e.kind)
+IsWhy lax s j e NotAsked = IsTrue (event_takes e.kind) × (¬ WhyMayTake lax j e.processor e.kind)
 IsWhy lax s j e (HeldBy q) = (l : ℕ) × (e.kind ≡ Acquire l) × Holds j q l
 IsWhy lax s j e (AskedEarlier q i) = (l : ℕ) × (e.kind ≡ Acquire l) × WhyAskedBehind j e.processor l q i × (lax ≡ false)
 IsWhy lax s j e NotHeld = (l : ℕ) × (e.kind ≡ Release l) × (¬ Holds j e.processor l)

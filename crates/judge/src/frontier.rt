@@ -8,9 +8,9 @@ ghost use Rattle.journal.specs.Sizes.{Sizes as TheSizes};
 ghost use Rattle.journal.specs.WellFormed.{WellFormedKindInRange};
 ghost use Rattle.journal.specs.Prelude.{Holds, event, event_arrives, event_departs};
 ghost use Rattle.judge.specs.Prelude.{AreStreamedSizes, FrontTellsFirstAsk, WhyIsInTurn, IsWhyVerdict, LaxMayFollow, FrontTellsNobodyAsks, FrontTellsHistory};
-ghost use Rattle.judge.specs.Prelude.{WhyWaitsFor, front_tells_holder_after, front_tells_flag_set_after, judged_sizes_of, most_judged_events, most_judged_processors};
+ghost use Rattle.judge.specs.Prelude.{WhyMayTake, WhyWaitsFor, front_tells_holder_after, front_tells_flag_set_after, judged_sizes_of, most_judged_events, most_judged_processors};
 
-use crate::kinds::{is_same_kind, kind_awaited_after};
+use crate::kinds::{is_lax_without_ask, is_same_kind, kind_awaited_after};
 use crate::sizes::{MOST_JUDGED_PROCESSORS, Sizes};
 use crate::why::Why;
 use journal::{Event, Kind};
@@ -155,13 +155,13 @@ impl Frontier {
         first
     }
 
-    /// Why the lock is not granted to the processor, whose ask of it is open.
+    /// Why the lock is not granted to the processor, whose ask of it is open, or doesn't have to be.
     fn not_granted(&self, processor: usize, lock: usize, lax: bool) -> Option<Why>
         requires lock { lock < vec_len self.now.holders }
         requires tells { (j : List Event) × FrontTellsHistory j self.now }
         ensures { (j : List Event) → FrontTellsHistory j self.now
             → WhyIsInTurn (judged_sizes_of self.now.sizes) j (event processor (Acquire lock))
-            → WhyWaitsFor j processor (Acquire lock)
+            → WhyMayTake lax j processor (Acquire lock)
             → IsWhyVerdict lax (judged_sizes_of self.now.sizes) j (event processor (Acquire lock)) result }
     {
         if let Some(holder) = self.holders[lock] {
@@ -196,11 +196,11 @@ impl Frontier {
         None
     }
 
-    /// Why the event, which its processor waits for, may not come next.
+    /// Why the event, which its processor waits for or doesn't have to, may not come next.
     fn not_let_on(&self, event: Event, lax: bool) -> Option<Why>
         requires { (j : List Event) × FrontTellsHistory j self.now × WhyIsInTurn (judged_sizes_of self.now.sizes) j event }
         ensures { (j : List Event) → FrontTellsHistory j self.now → WhyIsInTurn (judged_sizes_of self.now.sizes) j event
-            → WhyWaitsFor j event.processor event.kind
+            → WhyMayTake lax j event.processor event.kind
             → IsWhyVerdict lax (judged_sizes_of self.now.sizes) j event result }
     {
         match event.kind {
@@ -217,11 +217,11 @@ impl Frontier {
         }
     }
 
-    /// Why the event may not come next, whose processor waits for nothing.
+    /// Why the event may not come next, whose processor waits for nothing, and which it has to wait for if it takes.
     fn not_free(&self, event: Event) -> Option<Why>
         requires { (j : List Event) × FrontTellsHistory j self.now × WhyIsInTurn (judged_sizes_of self.now.sizes) j event }
         ensures { (j : List Event) → FrontTellsHistory j self.now → WhyIsInTurn (judged_sizes_of self.now.sizes) j event
-            → ¬ WhyWaitsFor j event.processor event.kind → (lax : Bool)
+            → (lax : Bool) → ¬ WhyMayTake lax j event.processor event.kind
             → IsWhyVerdict lax (judged_sizes_of self.now.sizes) j event result }
     {
         match event.kind {
@@ -256,7 +256,7 @@ impl Frontier {
     }
 
     /// Why the event may not come next; None where it may. `lax` leaves out that a lock's asks are granted in their
-    /// order.
+    /// order, and that an acquire or an await comes after its ask or watch.
     pub fn may_follow(&self, event: Event, lax: bool) -> Option<Why>
         requires { (j : List Event) × FrontTellsHistory j self.now }
         ensures { (j : List Event) → FrontTellsHistory j self.now
@@ -276,7 +276,13 @@ impl Frontier {
                     Some(Why::Waits(kind))
                 }
             }
-            None => self.not_free(event),
+            None => {
+                if lax && is_lax_without_ask(event.kind) {
+                    self.not_let_on(event, true)
+                } else {
+                    self.not_free(event)
+                }
+            }
         }
     }
 

@@ -19,7 +19,7 @@ pub struct IllFormed {
 }
 
 /// The first event of a history that may not follow what stands before it, and why; None where each may. `lax` leaves
-/// out that a lock's asks are granted in their order, and nothing else.
+/// out that a lock's asks are granted in their order, and that an acquire or an await comes after its ask or watch.
 ///
 /// Nothing is asked of the events' own numbers, which may be out of range. It takes memory in the order of the locks and
 /// flags, and time in the order of the events times the processors. The only error is running out of memory.

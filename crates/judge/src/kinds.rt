@@ -1,6 +1,7 @@
 //! What a processor waits for.
-ghost use Rattle.std.specs.Prelude.{◌≡◌, ◌↔◌, IsTrue};
+ghost use Rattle.std.specs.Prelude.{◌≡◌, ◌↔◌, IsTrue, is_some};
 ghost use Rattle.journal.specs.Prelude.{awaited_next};
+ghost use Rattle.judge.specs.Prelude.{lax_ask_of};
 
 use journal::Kind;
 
@@ -14,6 +15,13 @@ pub(crate) fn kind_awaited_after(kind: Kind) -> Option<Kind>
         Kind::Watch(flag) => Some(Kind::Await(flag)),
         _ => None,
     }
+}
+
+/// Whether, lax, an event of this kind stands for its ask or watch, too, if its processor has not asked or watched for it.
+pub(crate) fn is_lax_without_ask(kind: Kind) -> bool
+    ensures { result ≡ is_some (lax_ask_of kind) }
+{
+    matches!(kind, Kind::Acquire(_) | Kind::Await(_))
 }
 
 /// Whether the two kinds are the same.

@@ -1,9 +1,14 @@
 //! Laws of what may come next, as contracts of functions that do nothing: the check proves each by its name.
-ghost use Rattle.judge.specs.Prelude.{LaxLaw, ModelAnswersStayLaw, HistoryRangeLaw, ModelsAgreeLaw, WhyLaw};
+ghost use Rattle.judge.specs.Prelude.{LaxAskLaw, LaxLaw, ModelAnswersStayLaw, HistoryRangeLaw, ModelsAgreeLaw, WhyLaw};
 
 /// A well formed history is well formed whatever the order in which a lock's asks are granted.
 pub fn lax_law()
     ensures { LaxLaw }
+{}
+
+/// Lax, an acquire or an await without its ask or watch is judged as with that right before it.
+pub fn lax_ask_law()
+    ensures { LaxAskLaw }
 {}
 
 /// An event of which a reason is true may not come next.

@@ -2,7 +2,8 @@
 //! count what they bring.
 //!
 //! **What contracts see.** `WellFormedNext` and `WellFormed` of journal's specs/WellFormed: each event may follow what
-//! stands before it. `WellFormedOrLax` of specs/LaxWellFormed is the same but for the order in which a lock's asks are granted.
+//! stands before it. `WellFormedOrLax` of specs/LaxWellFormed is the same but for the order in which a lock's asks are granted,
+//! and for asks and watches that aren't there.
 //! `IsWhy` of specs/Why says of each reason what it means. What fetches count is `FetchesCountGaps` of journal's
 //! specs/FetchesCountGaps. A `History` is a `SizedHistory` of specs/SizedHistory: sizes, and events whose numbers are within them.
 //!
@@ -58,7 +59,9 @@ pub use gaps::Gaps;
 pub use history::History;
 pub use ill_formed::{IllFormed, first_ill_formed};
 pub use kept_stores::KeptStores;
-pub use laws::{history_range_law, lax_law, models_agree_law, owed_stays_law, why_law};
+pub use laws::{
+    history_range_law, lax_ask_law, lax_law, models_agree_law, owed_stays_law, why_law,
+};
 pub use miscounted::{Miscounted, first_miscounted, miscount};
 pub use models::MemoryModel;
 pub use nearest_races::NearestRaces;

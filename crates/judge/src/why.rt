@@ -14,7 +14,7 @@ pub enum Why {
     /// It asks for a lock that its processor holds.
     AsksWhatItHolds,
     /// It acquires, departs or awaits, and its processor's last event is not the ask, arrival or watch that goes with
-    /// it.
+    /// it. Lax, this is told of a departure alone.
     NotAsked,
     /// It acquires a lock that this processor holds.
     HeldBy(usize),

@@ -1,5 +1,5 @@
 -- What the program's words give.
-use Rattle.std.specs.Prelude.{ℕ, ◌≡◌, ◌||◌, ◌<◌, ◌≤◌, ◌-◌, ◌^◌, ◌⊎◌, Bool, true, false, List, [], ◌∷◌, Option, Some, None, IfSome, codes, cond, map, option_map, replicate, string_bytes}
+use Rattle.std.specs.Prelude.{ℕ, ◌≡◌, ◌||◌, ◌<◌, ◌≤◌, ◌-◌, ◌^◌, ◌⊎◌, Bool, true, false, List, [], ◌∷◌, Option, Some, None, IfSome, codes, cond, map, not, option_map, replicate, string_bytes}
 use Rattle.std.specs.Option.{option_map_or}
 use Rattle.std.specs.Str.{bytes_eq}
 use Rattle.std.specs.Str.Parse.{IsNumeral, digits_value, without_leading_plus}
@@ -15,7 +15,7 @@ use Rattle.clap.specs.declared.error.Error.{Error}
 use Rattle.clap.specs.declared.error.kind.ErrorKind.TheVariants.{ArgumentConflict, OutOfMemory, ValueValidation}
 use Rattle.base.specs.Limits.{most_processors}
 use Rattle.lrc_script.specs.LineReading.{parts_of_read_line}
-use Rattle.lrc_options.specs.Clashes.{do_options_clash_together, is_option_in_words}
+use Rattle.lrc_options.specs.Clashes.{do_options_clash_together, is_option_in_words, is_own_model}
 use Rattle.lrc_options.specs.FinalWords.{AreFinalWordsWritten}
 use Rattle.lrc_options.specs.Ranges.{AreProcessorsWritten, IsOptionRangeWritten, most_trace_processors}
 use Rattle.lrc_options.specs.declared.ranges.EventRange.{EventRange}
@@ -139,8 +139,15 @@ step_option_rules locks = with_rule (flagged_option_rules (codes "step") seed_op
 abbrev pub lax_option_rule : Rule
 lax_option_rule = flag_option_rule (codes "lax")
 
+abbrev pub strict_option_rule : Rule
+strict_option_rule = flag_option_rule (codes "strict")
+
+abbrev pub unfinished_option_rule : Rule
+unfinished_option_rule = flag_option_rule (codes "unfinished")
+
 abbrev pub judged_option_rules : App → ValueParser → App
-judged_option_rules a models = with_rule (with_rule a (model_option_rule models)) lax_option_rule
+judged_option_rules a models =
+    with_rule (with_rule (with_rule (with_rule a (model_option_rule models)) strict_option_rule) lax_option_rule) unfinished_option_rule
 
 -- `lrc explain` of a script
 abbrev pub told_option_rules : ValueParser → App
@@ -277,11 +284,20 @@ option_rule_named_detail name = cond (bytes_eq name (codes "loads")) outcome_det
 abbrev pub option_rule_detail_given : List Row → OutcomeDetail
 option_rule_detail_given rows = option_map_or option_rule_named_detail (first_of (codes "outcomes") rows) outcome_detail.Words
 
+-- whether a trace is judged lax: if that is asked for, and under every model but this memory's own unless it is judged strictly
+pub record IsLaxByOptionRules (rows : List Row) (lax : Bool) : Type 0 where
+  pub asked : Bool
+  pub strict : Bool
+  pub asked_is : IsFlagByOptionRule (one_of (codes "lax") rows) asked
+  pub strict_is : IsFlagByOptionRule (one_of (codes "strict") rows) strict
+  pub lax_is : lax ≡ (asked || not (strict || is_own_model rows))
+
 -- the options that the rows of `check` give
 pub record AreOptionsByRulesOfTrace (rows : List Row) (o : TraceOptions) : Type 0 where
   pub file : option_map (λ f. string_bytes f) o.file ≡ first_of (codes "FILE") rows
   pub model : o.model ≡ option_rule_model_given rows
-  pub lax : IsFlagByOptionRule (one_of (codes "lax") rows) o.lax
+  pub lax : IsLaxByOptionRules rows o.lax
+  pub unfinished : IsFlagByOptionRule (one_of (codes "unfinished") rows) o.unfinished
   pub race_is_error : IsFlagByOptionRule (one_of (codes "race-is-error") rows) o.race_is_error
   pub locksets : o.locksets ≡ option_rule_locksets_given rows
   pub json : IsFlagByOptionRule (one_of (codes "json") rows) o.json
@@ -344,7 +360,8 @@ pub record AreOptionsByRulesOfExplain (rows : List Row) (o : ExplainOptions) : T
 pub record AreOptionsByRulesOfTell (rows : List Row) (o : TellOptions) : Type 0 where
   pub file : option_map (λ f. string_bytes f) o.file ≡ first_of (codes "FILE") rows
   pub model : o.model ≡ option_rule_model_given rows
-  pub lax : IsFlagByOptionRule (one_of (codes "lax") rows) o.lax
+  pub lax : IsLaxByOptionRules rows o.lax
+  pub unfinished : IsFlagByOptionRule (one_of (codes "unfinished") rows) o.unfinished
   pub showing : AreOptionsByRulesOfShowing rows o.showing
 
 -- a run of a script is to be explained, or with `--trace` a trace is to be told

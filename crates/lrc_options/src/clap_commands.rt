@@ -11,7 +11,7 @@ ghost use Rattle.lrc_options.specs.OptionRules.{judged_option_rules, locksets_op
 use crate::help::{
     ABOUT, AFTER, AFTER_RUN_AND_STEP, EVENTS, EXPLAIN, EXPLORE, HTML, JOURNAL, JSON, LAX, LOCKSETS,
     MODEL, MOST, OUTCOMES, PROCESSORS, RACE_IS_ERROR, SAMPLE, SCHEDULE, SCRIPT, SCRIPT_FILE, SEED,
-    SEEDS, STATE, SVG, TRACE, TRACE_FILE, TRACED, TRIES, UNTIL, VERSION,
+    SEEDS, STATE, STRICT, SVG, TRACE, TRACE_FILE, TRACED, TRIES, UNFINISHED, UNTIL, VERSION,
 };
 use crate::options::Commands;
 use clap::builder::ValueParser;
@@ -275,7 +275,9 @@ fn clap_judged_command<'a>(
         → IfOk result (IsCommandByOptionRules (judged_option_rules a (vp.Names models.entry))) }
 {
     let command = with_clap_arg(command, clap_model_arg(alloc, models));
-    with_clap_arg(command, clap_flag_arg(alloc, "lax", LAX))
+    let command = with_clap_arg(command, clap_flag_arg(alloc, "strict", STRICT));
+    let command = with_clap_arg(command, clap_flag_arg(alloc, "lax", LAX));
+    with_clap_arg(command, clap_flag_arg(alloc, "unfinished", UNFINISHED))
 }
 
 /// `lrc explain` of a script alone.

@@ -1,7 +1,7 @@
 //! Which options exclude each other.
 ghost use Rattle.std.specs.Prelude.{◌≡◌, codes, is_some};
 ghost use Rattle.clap.specs.Words.{first_of, found_of, rows_of};
-ghost use Rattle.lrc_options.specs.Clashes.{do_options_clash_together, does_trace_clash, do_seed_and_schedule_clash, has_clashing_page_option};
+ghost use Rattle.lrc_options.specs.Clashes.{do_lax_and_strict_clash, do_options_clash_together, does_trace_clash, do_seed_and_schedule_clash, has_clashing_page_option};
 ghost use Rattle.lrc_options.specs.Clashes.{has_clashing_script_option, has_clashing_trace_option, is_from_words, is_option_in_words, is_own_model};
 
 use clap::ArgMatches;
@@ -19,6 +19,13 @@ fn seed_clashes_with_schedule(matches: &ArgMatches<'_>) -> bool
     ensures { result ≡ do_seed_and_schedule_clash (rows_of (found_of matches.now)) }
 {
     is_given(matches, "seed") && is_given(matches, "schedule")
+}
+
+/// Whether a trace is to be judged both lax and strictly.
+fn lax_clashes_with_strict(matches: &ArgMatches<'_>) -> bool
+    ensures { result ≡ do_lax_and_strict_clash (rows_of (found_of matches.now)) }
+{
+    is_in_words(matches, "lax") && is_in_words(matches, "strict")
 }
 
 /// Whether a value comes from the words, and isn't a default.
@@ -64,13 +71,17 @@ fn trace_option_clash(matches: &ArgMatches<'_>) -> Option<&'static str>
         Some("the argument '--model <NAME>' cannot be used without '--trace'")
     } else if is_in_words(matches, "lax") {
         Some("the argument '--lax' cannot be used without '--trace'")
+    } else if is_in_words(matches, "strict") {
+        Some("the argument '--strict' cannot be used without '--trace'")
+    } else if is_in_words(matches, "unfinished") {
+        Some("the argument '--unfinished' cannot be used without '--trace'")
     } else {
         None
     }
 }
 
 /// Whether the trace is to be judged by this memory's own model.
-fn is_lazy_release(matches: &ArgMatches<'_>) -> bool
+pub(crate) fn is_lazy_release(matches: &ArgMatches<'_>) -> bool
     ensures { result ≡ is_own_model (rows_of (found_of matches.now)) }
 {
     match matches.get_str("model") {
@@ -109,6 +120,9 @@ pub(crate) fn option_clash_of(name: &str, matches: &ArgMatches<'_>) -> Option<&'
 {
     if seed_clashes_with_schedule(matches) {
         return Some("the argument '--seed <N>' cannot be used with '--schedule <S>'");
+    }
+    if lax_clashes_with_strict(matches) {
+        return Some("the argument '--lax' cannot be used with '--strict'");
     }
     if name != "explain" {
         return None;

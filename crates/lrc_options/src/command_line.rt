@@ -1,9 +1,9 @@
 //! Reads the program's words.
-ghost use Rattle.std.specs.Prelude.{◌≡◌, ℕ, Bool, List, IfOk, IfErr, MatchOption, OnOk, false, is_some, map, option_map, string_bytes, codes};
+ghost use Rattle.std.specs.Prelude.{◌≡◌, ◌||◌, ℕ, Bool, List, IfOk, IfErr, MatchOption, OnOk, false, is_some, map, not, option_map, string_bytes, codes};
 ghost use Rattle.std.specs.Option.{option_map_or};
 ghost use Rattle.std.specs.Str.{bytes_eq};
 ghost use Rattle.clap.specs.Words.{first_of, one_of, rows_of, found_of};
-ghost use Rattle.lrc_options.specs.OptionRules.{IsNumberReadByOptionRule, IsNumberByOptionRule, IsSeedByOptionRule, IsFlagByOptionRule, IsOneOfFlagsByOptionRule, AreOptionsAskedByRules, AreOptionsByRulesOfScript};
+ghost use Rattle.lrc_options.specs.OptionRules.{IsNumberReadByOptionRule, IsNumberByOptionRule, IsSeedByOptionRule, IsFlagByOptionRule, IsLaxByOptionRules, IsOneOfFlagsByOptionRule, AreOptionsAskedByRules, AreOptionsByRulesOfScript};
 ghost use Rattle.lrc_options.specs.declared.ranges.EventRange.{EventRange};
 ghost use Rattle.lrc_options.specs.OptionRules.{AreEventsByOptionRule, AreOptionsByRulesOfExplain, AreOptionsByRulesOfExplore, AreUntilWordsByOptionRule, AreProcessorsByOptionRule, AreOptionsByRulesOfSample};
 ghost use Rattle.lrc_options.specs.OptionRules.{AreOptionsByRulesOfShowing, AreOptionsByRulesOfTell, IsExplanationAskedByOptionRules, IsShowingUnreadByOptionRules};
@@ -14,7 +14,7 @@ ghost use Rattle.lrc_options.specs.OptionRules.{AreOptionsGivenByRules, AreOptio
 use crate::clap_commands::{
     DETAILS, LOCKS, LOCKSET_WORDS, MODELS, MOST_SEED, MOST_TRIES, clap_lrc_command,
 };
-use crate::clashes::{is_in_words, option_clash_of};
+use crate::clashes::{is_in_words, is_lazy_release, option_clash_of};
 use crate::final_words::final_words;
 use crate::misuse::{misuse_by_exclusion, misuse_by_unread_value, with_misuse_tip};
 use crate::options::{
@@ -185,11 +185,43 @@ fn command_line_until(
     }
 }
 
-/// Whether what only this memory asks is to be left out.
-fn command_line_is_lax(matches: &ArgMatches<'_>) -> bool
+/// Whether it is asked for by name that a trace is judged lax.
+fn command_line_asks_for_lax(matches: &ArgMatches<'_>) -> bool
     ensures { IsFlagByOptionRule (one_of (codes "lax") (rows_of (found_of matches.now))) result }
 {
     matches.get_flag("lax")
+}
+
+/// Whether a trace is to be judged strictly.
+fn command_line_is_strict(matches: &ArgMatches<'_>) -> bool
+    ensures { IsFlagByOptionRule (one_of (codes "strict") (rows_of (found_of matches.now))) result }
+{
+    matches.get_flag("strict")
+}
+
+/// Whether a trace is judged lax, where that is asked for or not, and where it is to be judged strictly or by this memory's own
+/// model or not.
+fn is_judged_lax(asked: bool, strict: bool, own: bool) -> bool
+    ensures { result ≡ (asked || not (strict || own)) }
+{
+    asked || !(strict || own)
+}
+
+/// Whether what only this memory asks is to be left out: if that is asked for, and under every model but this memory's own
+/// unless the trace is to be judged strictly.
+fn command_line_is_lax(matches: &ArgMatches<'_>) -> bool
+    ensures { IsLaxByOptionRules (rows_of (found_of matches.now)) result }
+{
+    let asked = command_line_asks_for_lax(matches);
+    let strict = command_line_is_strict(matches);
+    is_judged_lax(asked, strict, is_lazy_release(matches))
+}
+
+/// Whether a trace may end in the midst of a line.
+fn command_line_is_unfinished(matches: &ArgMatches<'_>) -> bool
+    ensures { IsFlagByOptionRule (one_of (codes "unfinished") (rows_of (found_of matches.now))) result }
+{
+    matches.get_flag("unfinished")
 }
 
 /// Whether a race is to end the judging.
@@ -345,6 +377,7 @@ fn command_line_tell_options(
         file,
         model: command_line_model(matches),
         lax: command_line_is_lax(matches),
+        unfinished: command_line_is_unfinished(matches),
         showing,
     })
 }
@@ -396,6 +429,7 @@ fn command_line_trace_options(
         file,
         model: command_line_model(matches),
         lax: command_line_is_lax(matches),
+        unfinished: command_line_is_unfinished(matches),
         race_is_error: command_line_ends_at_race(matches),
         locksets: command_line_locksets(matches),
         json: command_line_wants_json(matches),
@@ -491,9 +525,9 @@ fn command_line_answer(alloc: Global, name: &str, matches: &ArgMatches<'_>) -> R
 /// Reads the words, the program's name first: `lrc run [FILE] [--tries N] [--lock KIND] [--journal]`,
 /// `lrc step [FILE] [--seed N | --schedule S] [--lock KIND] [--journal]`,
 /// `lrc explain [FILE] [--seed N | --schedule S] [--lock KIND] [--svg | --html] [--state] [--events A..B] [--processors P,..]`,
-/// `lrc explain [FILE] --trace [--model NAME] [--lax]` with the same to say what is shown,
+/// `lrc explain [FILE] --trace [--model NAME] [--strict] [--lax] [--unfinished]` with the same to say what is shown,
 /// `lrc sample [FILE] [--seeds N] [--lock KIND] [--json]`, `lrc explore [FILE] [--most N] [--until A=V,..] [--outcomes WHAT] [--json]` or
-/// `lrc check [FILE] [--model NAME] [--lax] [--race-is-error] [--locksets WHICH] [--json]`.
+/// `lrc check [FILE] [--model NAME] [--strict] [--lax] [--unfinished] [--race-is-error] [--locksets WHICH] [--json]`.
 /// Help names the commands that the program has; the words of the others are read all the same.
 ///
 /// # Errors

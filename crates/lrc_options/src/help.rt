@@ -130,7 +130,8 @@ write; 5 usage, or the file can't be read; 7 the search was given up.";
 /// What a trace is, and what is printed of it.
 pub(crate) const TRACE: &str =
     "A trace is a script's line `cluster P N W L [G]`, and the lines `event I B ..` that --journal prints,
-numbered from 0: each event in order, and nothing else.
+numbered from 0: each event in order. What stands behind two spaces on a line is its label; a line that is
+empty or begins with # is passed over. An `acquire` or `await` without its `ask` or `watch` stands for both.
 
 What a load has to answer under each model; the other events are judged alike:
   race-free               up to the first race the latest store of its past; from there on it isn't judged
@@ -142,7 +143,7 @@ What is printed:
   events N                N events were judged: all, or those up to the lie and with it
   model NAME              but for lazy-release
   faithful                such a memory can make each of them, but for what isn't judged:
-    unjudged counts order   with --lax: the counts of fetches, and the order of a lock's asks
+    unjudged counts order   under lazy-release with --lax: the counts of fetches, and the order of a lock's asks
     unjudged N loads        under race-free: N loads from the first race on
     verdict race-free       or `racy`, and then the two events of the first race, and what would have ordered them
     unprotected A: ..       with --locksets: two accesses of word A that hold no lock in common, and two that
@@ -153,6 +154,8 @@ What is printed:
                           race, if it has one by then:
     event I B ..            the event
     because ..              why; where a load may answer stores of others, their events follow
+  waits ..                at the end of a trace: who waits for what, and in a circle for each other
+  unfinished line N       with --unfinished: the trace ends in the midst of line N
 
 Statuses: 0 faithful, racy or not; 2 no trace; 4 a limit, out of memory, or a failed write; 5 usage, or
 the file can't be read; 6 unfaithful; 8 a race, with --race-is-error alone.";
@@ -197,8 +200,14 @@ pub(crate) const PROCESSORS: &str =
 pub(crate) const TRACED: &str =
     "FILE is no script, but a trace from any system: tells it up to its first lie, as `lrc check` judges it";
 
+pub(crate) const STRICT: &str =
+    "judges what only this memory asks, too: asks and watches are written, and a lock goes to the first ask";
+
 pub(crate) const LAX: &str =
-    "leaves out what only this memory asks: the order of a lock's asks, and counts of fetches";
+    "leaves that out, and counts of fetches, as all models but lazy-release do";
+
+pub(crate) const UNFINISHED: &str =
+    "the trace may end in the midst of a line: what stands before that is judged";
 
 pub(crate) const MODEL: &str = "what the loads of the trace owe";
 

@@ -7,7 +7,7 @@ use clap::{ArgMatches, Command, Error};
 use std::alloc::{AllocError, Global};
 
 /// Each command with each option that it has. Of the commands that have an option the first one is named.
-const OPTIONS: [(&str, &str); 30] = [
+const OPTIONS: [(&str, &str); 34] = [
     ("run", "--tries"),
     ("run", "--lock"),
     ("run", "--journal"),
@@ -32,12 +32,16 @@ const OPTIONS: [(&str, &str); 30] = [
     ("explore", "--outcomes"),
     ("explore", "--json"),
     ("check", "--model"),
+    ("check", "--strict"),
     ("check", "--lax"),
     ("check", "--race-is-error"),
     ("check", "--locksets"),
     ("check", "--json"),
     ("explain", "--model"),
+    ("explain", "--strict"),
     ("explain", "--lax"),
+    ("check", "--unfinished"),
+    ("explain", "--unfinished"),
 ];
 
 /// A command that was given an option that it lacks, and a command that has it.
@@ -114,8 +118,8 @@ fn misused_command_has_option(name: &str, option: &str) -> bool {
 
 /// The first command that has the option.
 fn misused_option_owner(option: &str) -> Option<&'static str> {
-    for (command, own) in OPTIONS {
-        if own == option {
+    for (command, own) in &OPTIONS {
+        if *own == option {
             return Some(command);
         }
     }

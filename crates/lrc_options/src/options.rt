@@ -68,8 +68,10 @@ pub struct TellOptions {
     pub file: Option<String>,
     /// What the loads of the trace owe.
     pub model: TraceModel,
-    /// Whether what only this memory asks is left out.
+    /// Whether what only this memory asks is left out: unless the trace is to be judged strictly, or by this memory's model.
     pub lax: bool,
+    /// Whether the trace may end in the midst of a line, before which it is judged then.
+    pub unfinished: bool,
     /// What of the trace is shown, and how.
     pub showing: ShowOptions,
 }
@@ -120,8 +122,10 @@ pub struct TraceOptions {
     pub file: Option<String>,
     /// What the loads of the trace owe.
     pub model: TraceModel,
-    /// Whether what only this memory asks is left out.
+    /// Whether what only this memory asks is left out: unless the trace is to be judged strictly, or by this memory's model.
     pub lax: bool,
+    /// Whether the trace may end in the midst of a line, before which it is judged then.
+    pub unfinished: bool,
     /// Whether judging ends with a race, and the exit status tells it.
     pub race_is_error: bool,
     /// Which words are told that need a lock and have none; None if nothing is told of locks.

@@ -8,14 +8,14 @@ use Rattle.judge.proofs.Verdicts.{verdict_asks_free, verdict_asks_held, verdict_
 use Rattle.judge.proofs.frontier.Frontier.not_free.Goals as goal
 
 pub returns-then-holds : goal.returns-then-holds
-returns-then-holds c = λ j tells turn idle lax.
+returns-then-holds c = λ j tells turn lax idle.
     let s = judged_sizes_of c.args.self.now.sizes in
     let e = c.args.event in
     verdict_by_kind lax s j e (Ask c.in-Ask.lock) (Some AsksWhatItHolds) c.in-Ask.is turn
     (λ now. verdict_asks_held lax s j e.processor c.in-Ask.lock now ((c.if-holds.ensures j tells).0 refl))
 
 pub returns-else-holds : goal.returns-else-holds
-returns-else-holds c = λ j tells turn idle lax.
+returns-else-holds c = λ j tells turn lax idle.
     let s = judged_sizes_of c.args.self.now.sizes in
     let e = c.args.event in
     verdict_by_kind lax s j e (Ask c.in-Ask.lock) None c.in-Ask.is turn
@@ -23,14 +23,14 @@ returns-else-holds c = λ j tells turn idle lax.
     (λ holds. false≢true ((c.if-holds.ensures j tells).1 holds)))
 
 pub returns-then-holds-2 : goal.returns-then-holds-2
-returns-then-holds-2 c = λ j tells turn idle lax.
+returns-then-holds-2 c = λ j tells turn lax idle.
     let s = judged_sizes_of c.args.self.now.sizes in
     let e = c.args.event in
     verdict_by_kind lax s j e (Release c.in-Release.lock) None c.in-Release.is turn
     (λ now. verdict_releases_held lax s j e.processor c.in-Release.lock now ((c.if-holds-2.ensures j tells).0 refl))
 
 pub returns-else-holds-2 : goal.returns-else-holds-2
-returns-else-holds-2 c = λ j tells turn idle lax.
+returns-else-holds-2 c = λ j tells turn lax idle.
     let s = judged_sizes_of c.args.self.now.sizes in
     let e = c.args.event in
     verdict_by_kind lax s j e (Release c.in-Release.lock) (Some NotHeld) c.in-Release.is turn
@@ -38,7 +38,7 @@ returns-else-holds-2 c = λ j tells turn idle lax.
     (λ holds. false≢true ((c.if-holds-2.ensures j tells).1 holds)))
 
 pub returns-in_default : goal.returns-in_default
-returns-in_default c = λ j tells turn idle lax.
+returns-in_default c = λ j tells turn lax idle.
     let e = c.args.event in
     calls lax (judged_sizes_of c.args.self.now.sizes) j e turn c.in_default.not-Ask c.in_default.not-Release
     (verdict_quiet_kind e.kind c.in_default.not-Acquire c.in_default.not-Depart c.in_default.not-Await)

@@ -12,7 +12,7 @@ use Rattle.judge.specs.JudgedSizes.{judged_sizes_of}
 use Rattle.judge.specs.FrontTells.{FrontTellsFirstAsk, FrontTellsHistory}
 use Rattle.judge.specs.Why.{IsFirstTrueWhy}
 use Rattle.judge.proofs.VecItems.{vec_item_read}
-use Rattle.judge.proofs.Verdicts.{verdict_behind, verdict_granted, verdict_granted_lax, verdict_held_by, verdict_some_ask}
+use Rattle.judge.proofs.Verdicts.{verdict_behind, verdict_granted, verdict_granted_lax, verdict_held_by, verdict_may_waits, verdict_some_ask}
 use Rattle.judge.proofs.frontier.Frontier.not_granted.Goals as goal
 
 -- nobody holds a lock of which no holder is kept
@@ -26,43 +26,43 @@ holder_read : (x : Frontier) (l : ℕ) {o : Option ℕ} → l < vec_len x.holder
 holder_read x l {o = o} lt read = vec_item_read x.holders.items l o None (omega (arith, lt, x.holders.ok.0)) read
 
 pub returns-in-Some : goal.returns-in-Some
-returns-in-Some c = λ j tells turn waits.
-    verdict_held_by c.args.lax (judged_sizes_of c.args.self.now.sizes) j c.args.processor c.args.lock c.in-Some.holder turn waits
+returns-in-Some c = λ j tells turn may.
+    verdict_held_by c.args.lax (judged_sizes_of c.args.self.now.sizes) j c.args.processor c.args.lock c.in-Some.holder turn may
     ((tells.holders c.args.lock c.in-Some.holder).0 (holder_read c.args.self.now c.args.lock c.requires.lock c.index.ensures ∙ c.in-Some.is))
 
 pub returns-then-lax : goal.returns-then-lax
-returns-then-lax c = λ j tells turn waits.
+returns-then-lax c = λ j tells turn may.
     let s = judged_sizes_of c.args.self.now.sizes in
     let p = c.args.processor in
     let l = c.args.lock in
     subst (λ b. MayFollowOrLax b s j (event p (Acquire l))) (sym c.if-lax.true)
-    (verdict_granted_lax s j p l turn waits (nobody j c.args.self.now l tells (holder_read c.args.self.now l c.requires.lock c.index.ensures ∙ c.in_default.is)))
+    (verdict_granted_lax s j p l turn (nobody j c.args.self.now l tells (holder_read c.args.self.now l c.requires.lock c.index.ensures ∙ c.in_default.is)))
 
 pub returns-in_err-first : goal.returns-in_err-first
-returns-in_err-first c = λ j tells turn waits.
+returns-in_err-first c = λ j tells turn may.
     let s = judged_sizes_of c.args.self.now.sizes in
     let p = c.args.processor in
     let l = c.args.lock in
-    absurd (verdict_some_ask s j p l turn waits (nobody j c.args.self.now l tells (holder_read c.args.self.now l c.requires.lock c.index.ensures ∙ c.in_default.is))
+    absurd (verdict_some_ask s j p l turn (verdict_may_waits c.args.lax j p (Acquire l) c.if-lax.false may) (nobody j c.args.self.now l tells (holder_read c.args.self.now l c.requires.lock c.index.ensures ∙ c.in_default.is))
     (c.in_err-first.ensures j tells))
 
 pub returns-then-first-processor : goal.returns-then-first-processor
-returns-then-first-processor c = λ j tells turn waits.
+returns-then-first-processor c = λ j tells turn may.
     let s = judged_sizes_of c.args.self.now.sizes in
     let p = c.args.processor in
     let l = c.args.lock in
     let first = c.in_ok-first.ensures j tells in
     subst (λ b. MayFollowOrLax b s j (event p (Acquire l))) (sym c.if-lax.false)
-    (verdict_granted s j p l turn waits (nobody j c.args.self.now l tells (holder_read c.args.self.now l c.requires.lock c.index.ensures ∙ c.in_default.is)) c.in_ok-first.place
+    (verdict_granted s j p l turn (verdict_may_waits c.args.lax j p (Acquire l) c.if-lax.false may) (nobody j c.args.self.now l tells (holder_read c.args.self.now l c.requires.lock c.index.ensures ∙ c.in_default.is)) c.in_ok-first.place
     (subst (λ q. FrontTellsFirstAsk j l q c.in_ok-first.place) c.if-first-processor.true first))
 
 pub returns-else-first-processor : goal.returns-else-first-processor
-returns-else-first-processor c = λ j tells turn waits.
+returns-else-first-processor c = λ j tells turn may.
     let s = judged_sizes_of c.args.self.now.sizes in
     let p = c.args.processor in
     let l = c.args.lock in
     let q = c.in_ok-first.first in
     let i = c.in_ok-first.place in
     subst (λ b. IsFirstTrueWhy b s j (event p (Acquire l)) (AskedEarlier q i)) (sym c.if-lax.false)
-    (verdict_behind s j p l turn waits (nobody j c.args.self.now l tells (holder_read c.args.self.now l c.requires.lock c.index.ensures ∙ c.in_default.is)) q i c.if-first-processor.false
+    (verdict_behind s j p l turn (verdict_may_waits c.args.lax j p (Acquire l) c.if-lax.false may) (nobody j c.args.self.now l tells (holder_read c.args.self.now l c.requires.lock c.index.ensures ∙ c.in_default.is)) q i c.if-first-processor.false
     (c.in_ok-first.ensures j tells))
