@@ -8,6 +8,7 @@ pub mod Prelude
 pub mod OrderedTurns
 pub mod CutInstructions
 pub mod Draws
+pub mod DrawnRuns
 pub mod RunEnds
 pub mod OpenBlocks
 pub mod WantedAccess

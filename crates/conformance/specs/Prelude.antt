@@ -4,7 +4,8 @@ pub use Rattle.conformance.specs.Follows.{plan_sizes}
 pub use Rattle.conformance.specs.RecomputedLaws.{OnlyRecomputedLaw, RaceFreeRecomputedLaw, RecomputedLaw}
 pub use Rattle.conformance.specs.OrderedTurns.{IsEndByOrderedTurns, IsHaltByOrderedTurns, IsReportByOrderedTurns, IsStuckByOrderedTurns, ordered_turns_of_seed}
 pub use Rattle.conformance.specs.CutInstructions.{HasCutInstruction, HasNoCutInstruction}
-pub use Rattle.conformance.specs.Draws.{Drawing, drawing_of, draws_lowered, next_drawing}
+pub use Rattle.conformance.specs.Draws.{Drawing, drawing_of, draws_turns_about, draws_walk, next_drawing}
+pub use Rattle.conformance.specs.DrawnRuns.{HasArrivedAtDrawnEnd, IsRunOfDraws, drawing_after_of, drawn_tries_of, drawn_turns_of}
 pub use Rattle.conformance.specs.RunEnds.{IsRunEnd, IsRunJournalSoFar}
 pub use Rattle.conformance.specs.RoundOrders.{round_order_drawn, round_order_generator, round_ordered, round_order}
 pub use Rattle.conformance.specs.ScriptReports.{ScriptReportHasRace, IsScriptReport, ScriptReportHasHistory}

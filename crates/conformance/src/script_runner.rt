@@ -3,7 +3,7 @@ ghost use Rattle.std.specs.Prelude.{ℕ, ◌≡◌, ◌<◌, IfErr, IfOk, List, 
 ghost use Rattle.std.specs.Thread.{IsSync};
 ghost use Rattle.lrc_script.specs.Prelude.{IsLawful, plan_of};
 ghost use Rattle.conformance.specs.Prelude.{IsEndByOrderedTurns, IsRunEnd, IsReportByOrderedTurns, IsScriptReport, IsScheduleFault, IsStuckByOrderedTurns};
-ghost use Rattle.conformance.specs.Prelude.{ordered_turns_of_seed, schedule_orders};
+ghost use Rattle.conformance.specs.Prelude.{IsRunOfDraws, ordered_turns_of_seed, schedule_orders};
 ghost use Rattle.conformance.specs.declared.cause.Cause.TheVariants as cause;
 
 use crate::cause::RunFault;
@@ -111,7 +111,8 @@ pub trait ScriptRunner {
             (IsEndByOrderedTurns (plan_of script.now) (schedule_orders (plan_of script.now) schedule.now.turns.items)) }
         ensures fault { IfErr result (IsScheduleFault (plan_of script.now) schedule.now.turns.items) };
 
-    /// Runs the script by turns that the seed draws, as far as it goes, and answers them as a schedule.
+    /// Runs the script by turns that the seed draws, as far as it goes, and answers them as a schedule. For each turn the
+    /// processors are tried in the order of the next draw, and the first that gets on has it.
     fn step_drawn<R: Wait>(
         &self,
         rt: &R,
@@ -123,5 +124,6 @@ pub trait ScriptRunner {
         requires { IsLawful (plan_of script.now) }
         ensures drawn { drawn (plan_of script.now) lock seed result }
         ensures turns { IfOk result (λ run. IsEndByOrderedTurns (plan_of script.now)
-            (schedule_orders (plan_of script.now) run.schedule.turns.items) run.ended) };
+            (schedule_orders (plan_of script.now) run.schedule.turns.items) run.ended) }
+        ensures draws { IfOk result (λ run. IsRunOfDraws (plan_of script.now) seed run.schedule.turns.items run.ended) };
 }

@@ -1,5 +1,5 @@
 -- What comes of processors that took their turns from the start on.
-use Rattle.std.proofs.Common.{ℕ, zero, suc, ◌≡◌, ◌==◌, cond, ◌+◌, Option, Some, None, List, [], ◌∷◌, ◌++◌, length, map, replicate, refl, sym, ap, ap₂, subst, subst₂, ◌∙◌, append_assoc, append-nil, arith}
+use Rattle.std.proofs.Common.{ℕ, zero, suc, ◌≡◌, ◌==◌, cond, ◌+◌, inl, inr, Option, Some, None, List, [], ◌∷◌, ◌++◌, length, map, replicate, refl, sym, ap, ap₂, subst, subst₂, ◌∙◌, append_assoc, append-nil, arith}
 use Rattle.std.specs.Prelude.{All, slice_get}
 use Rattle.std.specs.List.{flat_map}
 use Rattle.std.proofs.lemmas.Option.{get_or_from_slice_get, slice_get_within}
@@ -19,26 +19,35 @@ use Rattle.conformance.specs.declared.ended.Ended.TheVariants.{Halted, Whole}
 use Rattle.conformance.specs.declared.ended.Halt.{Halt}
 use Rattle.conformance.specs.declared.progress.TurnProgress.{TurnProgress}
 use Rattle.conformance.specs.declared.progress.TurnProgress.TheVariants.{Next, Passed}
+use Rattle.conformance.specs.DrawnRuns.{HasArrivedAtDrawnEnd, HaveArrivedByDrawnTries, IsRunOfDraws, drawing_after_of, drawn_tries_of}
 use Rattle.conformance.specs.OrderedTurns.{IsEndByOrderedTurns, IsHaltByOrderedTurns, IsReportByOrderedTurns, ordered_turns_of_seed}
 use Rattle.conformance.specs.RunEnds.{IsRunEnd}
 use Rattle.conformance.specs.ScheduleTexts.{schedule_orders}
 use Rattle.conformance.specs.OpenBlocks.{open_block_handed_in}
 use Rattle.conformance.specs.ScriptTurns.{AreReachedByScriptTurns, AreScriptTurns, ScriptTurnStage, ScriptTurnsEndWith, script_turn_blocks_from, script_turn_stage, script_turns_of}
 use Rattle.lrc_run.specs.FollowedEnds.{FollowedEndHasBlocks, IsFollowedEndAfter, IsFollowedEndHaltWith, IsFollowedEndReportAfter}
+use Rattle.lrc_run.specs.DrawnTurns.{HaveArrivedAtRunSteps, HaveWandered}
 use Rattle.lrc_run.specs.RunSteps.{AreAtRunSteps}
 use Rattle.lrc_run.specs.RunTurns.{AreRunTurnsTaken, AreRunTurnsBy, HasSeenAllRunTurns, HaveGoneOnInRunTurns}
 use Rattle.lrc_run.proofs.EndingBlocks.{ending_blocks_from_front}
 use Rattle.lrc_run.proofs.Halting.{halted_all}
 use Rattle.lrc_run.proofs.CallsInBlock.{calls_in_block_own_kinds}
 use Rattle.lrc_run.proofs.StepsAfterTurns.{step_after_turn_begin}
-use Rattle.lrc_run.proofs.TurnStages.{AllGoOnInTurnStages, AreTurnStagesInHand, AreTurnStageEventsOfThese, turn_stages_in_hand_new, turn_stages_in_hand_rounds, turn_stages_in_hand_taken, turn_stages_nothing_at_start, turn_stages_these_front, turn_stages_of_rounds, turn_stage_of, turn_stages_of_taken, turn_stage_from, turn_stages, turn_stages_start, turn_stages_nothing_made, turn_stages_made_then}
+use Rattle.lrc_run.proofs.TurnStages.{AllGoOnInTurnStages, AreTurnStagesInHand, AreTurnStageEventsOfThese, turn_stages_in_hand_new, turn_stages_in_hand_rounds, turn_stages_in_hand_taken, turn_stages_nothing_at_start, turn_stages_these_front, turn_stages_of_rounds, turn_stage_of, turn_stages_of_taken, turn_stage_from, turn_stages, turn_stages_start, turn_stages_nothing_made, turn_stages_made-append}
 use Rattle.lrc_run.proofs.TurnWays.{turn_way_seen_same, turn_ways_taken}
 
--- the turns from the start on make the history that goes on from what each has seen at their end
+-- turns from the start on, and then rounds: what history and stages the turns make, and the rounds of these
+pub record AreEndsByTurnsMade (s : Plan) (turns rest : List ℕ) (between : List ScriptTurnStage) (h : List Event) (end : List ScriptTurnStage)
+    : Type 0 where
+  pub middle : List Event
+  pub first : AreScriptTurns s turns [] (replicate s.processors (script_turn_stage (Next 0) [] [])) middle between
+  pub last : AreScriptTurns s rest middle between h end
+
+-- they make the history that goes on from what each has seen at their end
 ends_by_turns_from_start : {s : Plan} {c : SharedCluster} {turns : List ℕ} {seed : Option ℕ} (h : List Event)
     {ms ns : List Local} {all : List TurnProgress} → c.sizes ≡ plan_sizes s → IsNewCluster c ms
     → (by : AreRunTurnsBy c s turns seed ms ns all) → AllGoOnInTurnStages ns h → AreTurnStageEventsOfThese s.processors h
-    → AreScriptTurns s (turns ++ script_turns_of (ordered_turns_of_seed s seed) by.gone.count) [] (replicate s.processors (script_turn_stage (Next 0) [] [])) h (turn_stages ns all)
+    → AreEndsByTurnsMade s turns (script_turns_of (ordered_turns_of_seed s seed) by.gone.count) (turn_stages by.between by.half) h (turn_stages ns all)
 ends_by_turns_from_start {s = s} {c = c} {turns = turns} {seed = seed} h {ms = ms} {ns = ns} {all = all} sizes new by goes these =
     let n = s.processors in
     let orders = ordered_turns_of_seed s seed in
@@ -53,12 +62,22 @@ ends_by_turns_from_start {s = s} {c = c} {turns = turns} {seed = seed} h {ms = m
     let last = turn_stages_of_rounds orders k ns all sizes between held by.gone.rounds goes these in
     let first = turn_stages_of_taken by.between by.half sizes way hand by.first last.goes_on
     (turn_stages_these_front n h last.front last.rest last.is these) in
-    let whole = turn_stages_made_then (script_turns_of orders k) by.between last first in
-    let few = turn_stages_these_front n h whole.front whole.rest whole.is these in
-    let none = turn_stages_nothing_at_start c ms whole.front new whole.goes_on (subst (λ i. AreTurnStageEventsOfThese i whole.front) (sym same) few) in
-    let P : List Event → List ScriptTurnStage → Type 0 =
-    λ es xs. AreScriptTurns s (turns ++ script_turns_of orders k) es xs h (turn_stages ns all) in
-    subst₂ P none (turn_stages_start ms n many (turn_stages_nothing_made c ms new)) whole.turns
+    let few = turn_stages_these_front n last.front first.front first.rest first.is
+    (turn_stages_these_front n h last.front last.rest last.is these) in
+    let none = turn_stages_nothing_at_start c ms first.front new first.goes_on (subst (λ i. AreTurnStageEventsOfThese i first.front) (sym same) few) in
+    let P : List Event → List ScriptTurnStage → Type 0 = λ es xs. AreScriptTurns s turns es xs last.front (turn_stages by.between by.half) in
+    record {
+      middle = last.front;
+      first = subst₂ P none (turn_stages_start ms n many (turn_stages_nothing_made c ms new)) first.turns;
+      last = last.turns;
+    }
+
+-- all of them
+ends_by_turns_all_made : (s : Plan) (turns rest : List ℕ) (between : List ScriptTurnStage) (h : List Event) (end : List ScriptTurnStage)
+    → AreEndsByTurnsMade s turns rest between h end
+    → AreScriptTurns s (turns ++ rest) [] (replicate s.processors (script_turn_stage (Next 0) [] [])) h end
+ends_by_turns_all_made s turns rest between h end made =
+    turn_stages_made-append s turns rest [] made.middle h (replicate s.processors (script_turn_stage (Next 0) [] [])) between end made.first made.last
 
 -- and then they are the cluster's still, and processor 0 has seen all
 ends_by_turns_in_hand : (s : Plan) (c : SharedCluster) (turns : List ℕ) (seed : Option ℕ) (ms ns : List Local) (all : List TurnProgress)
@@ -69,12 +88,12 @@ ends_by_turns_in_hand s c turns seed ms ns all new by =
     turn_stages_in_hand_rounds s (ordered_turns_of_seed s seed) by.gone.count by.half all held by.gone.rounds
 
 -- so many are the script's processors
-ends_by_turns_many : (s : Plan) (c : SharedCluster) (ms : List Local) (n : ℕ) → c.sizes ≡ plan_sizes s → IsNewCluster c ms → n ≡ length ms
+pub ends_by_turns_many : (s : Plan) (c : SharedCluster) (ms : List Local) (n : ℕ) → c.sizes ≡ plan_sizes s → IsNewCluster c ms → n ≡ length ms
     → n ≡ s.processors
 ends_by_turns_many s c ms n sizes new many = many ∙ new.all ∙ ap (λ (x : Sizes). x.processors) sizes
 
 -- new processors took these turns, and went round then
-pub ends_by_turns_taken : {s : Plan} {c : SharedCluster} {turns : List ℕ} {seed : Option ℕ} {ms between ns : List Local}
+abbrev pub ends_by_turns_taken : {s : Plan} {c : SharedCluster} {turns : List ℕ} {seed : Option ℕ} {ms between ns : List Local}
     (start : List TurnProgress) {half all : List TurnProgress} (n : ℕ) → c.sizes ≡ plan_sizes s → IsNewCluster c ms
     → n ≡ length ms → start ≡ replicate n (Next 0) → AreRunTurnsTaken s.sections turns ms between start half
     → HaveGoneOnInRunTurns c s seed between ns half all → AreRunTurnsBy c s turns seed ms ns all
@@ -149,7 +168,8 @@ ends_by_turns_told {s = s} {c = c} {turns = turns} {seed = seed} rounds {ms = ms
       record {
         rounds = rounds;
         front = ends.front;
-        turns = subst P (sym are) (ends_by_turns_from_start ends.front sizes new by ends.goes_on these);
+        turns = subst P (sym are) (ends_by_turns_all_made s turns (script_turns_of (ordered_turns_of_seed s seed) by.gone.count)
+            (turn_stages by.between by.half) ends.front (turn_stages ns all) (ends_by_turns_from_start ends.front sizes new by ends.goes_on these));
         ends = ends_by_turns_from_history all (long ∙ sym many) ends;
       };
 }
@@ -224,3 +244,65 @@ ends_by_turns (Halted halt) lawful sizes way told after =
 pub ends_by_turns_of_script : (s : Plan) (orders : ℕ → List ℕ) (e : Ended) → IsEndByOrderedTurns s orders e → IsRunEnd s e
 ends_by_turns_of_script s orders (Whole report) by = by.report
 ends_by_turns_of_script s orders (Halted halt) by = (by.journal, by.least)
+
+-- the blocks with which a run ended that has come so far, and its history
+pub record HasEndByTurnsBlocks (s : Plan) (ns : List Local) : Type 0 where
+  pub kinds : List Kind
+  pub history : List Event
+  pub blocks : FollowedEndHasBlocks s ns kinds history
+  pub well_formed : WellFormed (plan_sizes s) history
+
+ends_by_turns_blocks : (s : Plan) (ns : List Local) (all : List TurnProgress) (e : Ended) → HasSeenAllRunTurns ns 0 → IsFollowedEndAfter s ns all e
+    → HasEndByTurnsBlocks s ns
+ends_by_turns_blocks s ns all (Whole report) ahead after = record {
+  kinds = map load_of report.shown.items;
+  history = after.0.is.history;
+  blocks = after.0.ends ahead;
+  well_formed = after.0.is.tells.well_formed;
+}
+ends_by_turns_blocks s ns all (Halted halt) ahead after = record {
+  kinds = [];
+  history = after.0.is.history;
+  blocks = after.0.ends;
+  well_formed = after.0.is.well_formed;
+}
+
+-- where all have arrived after these turns, they have by the script's turns
+ends_by_turns_arrived : {s : Plan} {c : SharedCluster} {turns : List ℕ} {seed : Option ℕ} {ms between ns : List Local} (start : List TurnProgress)
+    {half all : List TurnProgress} (n : ℕ) (e : Ended) → c.sizes ≡ plan_sizes s → IsNewCluster c ms → n ≡ length ms → start ≡ replicate n (Next 0)
+    → AreRunTurnsTaken s.sections turns ms between start half → HaveGoneOnInRunTurns c s seed between ns half all
+    → HaveArrivedAtRunSteps s.sections half → IsFollowedEndAfter s ns all e → HaveArrivedByDrawnTries s turns
+ends_by_turns_arrived {s = s} {c = c} {turns = turns} {seed = seed} {ms = ms} {ns = ns} start {all = all} n e sizes new many is taken gone arrived after =
+    let by = ends_by_turns_taken start n sizes new many is taken gone in
+    let ahead = (ends_by_turns_in_hand s c turns seed ms ns all new by).ahead in
+    let end = ends_by_turns_blocks s ns all e ahead after in
+    let rest = ending_blocks_from_front end.blocks in
+    let these = turn_stages_these_front s.processors end.history end.blocks.front rest.0 rest.1 (λ k e at. (end.well_formed k e at).processor) in
+    let made = ends_by_turns_from_start end.blocks.front sizes new by end.blocks.goes_on these in
+    record {
+      history = made.middle;
+      stages = turn_stages by.between by.half;
+      turns = made.first;
+      arrived = λ p section x its here.
+          let is = turn_stage_from by.between by.half p x here in
+          let P : ScriptTurnStage → Type 0 = λ y. HasArrivedAtDrawnEnd section y.progress in
+          subst P (sym is.is) (arrived p section is.at its is.at_is);
+    }
+
+-- new processors took the turns that a seed draws, and went round then
+pub ends_by_turns_of_draws : {s : Plan} {c : SharedCluster} {seed : ℕ} {turns : List ℕ} {ms between ns : List Local}
+    (start : List TurnProgress) {half all : List TurnProgress} (n : ℕ) (e : Ended) → IsLawful s → c.sizes ≡ plan_sizes s → IsNewCluster c ms
+    → n ≡ length ms → start ≡ replicate n (Next 0) → HaveWandered s seed turns ms between start half
+    → HaveGoneOnInRunTurns c s None between ns half all → IsFollowedEndAfter s ns all e → IsRunOfDraws s seed turns e
+ends_by_turns_of_draws {s = s} {c = c} {seed = seed} {turns = turns} {ms = ms} {between = between} {ns = ns} start {half = half} {all = all} n e lawful sizes new many is drawn gone after = record {
+  places = drawn.places;
+  turns_are = drawn.turns_are;
+  tried = elim drawn.tried [
+    | inl out ↦ inl (ends_by_turns_arrived start n e sizes new many is out.0 gone out.1 after, ended (drawn_tries_of s seed drawn.places) out.0)
+    | inr whole ↦ inr (ended (drawn_tries_of s seed drawn.places ++ (drawing_after_of s seed drawn.places).order) whole)
+  ];
+}
+  where
+    ended : (ps : List ℕ) → AreRunTurnsTaken s.sections ps ms between start half → IsEndByOrderedTurns s (schedule_orders s ps) e
+    ended ps taken = ends_by_turns e lawful sizes gone.way (ends_by_turns_of_schedule s c ps ms ns all sizes new
+        (ends_by_turns_taken start n sizes new many is taken gone)) after

@@ -18,6 +18,7 @@ use Rattle.cluster.specs.CuttingCalls.{IsCuttingCall}
 use Rattle.cluster.specs.ProcessorRefusals.{processor_refusal_of_flush}
 use Rattle.lrc_run.specs.RunCalls.{run_calls, HasRunCallsAndFetches, SeesNoFewerRunCalls, AreRunCallsTried, HasRunCallsOfInstruction, IsRunCallBegun}
 use Rattle.lrc_run.proofs.CallsInBlock.{calls_in_block_none}
+use Rattle.lrc_run.proofs.RunCuts.{run_cut_has_no_event}
 use Rattle.lrc_run.proofs.MoreCalls.{makes_more_calls_then, makes_more_calls_beginning_by, makes_more_calls_closing, makes_more_calls_instruction_by, makes_more_calls_but, sees_more_calls_after, sees_more_calls_refused, sees_more_calls_same, makes_more_calls_same_wanted}
 
 -- a call that begins an instruction
@@ -36,11 +37,16 @@ pub instruction_call_done : {A : Type 0} {first : Option Refused} {many : ℕ} {
 instruction_call_done k i m n (Ok x) plain flat are call = makes_more_calls_instruction_by k i m n are (makes_more_calls_closing k m n (Ok x) plain flat refl call)
 instruction_call_done k i m n (Err e) plain flat are call = tt
 
--- a call that makes just the instruction's events does it
-pub instruction_call_tried : {A : Type 0} (kinds : List Kind) (i : Instruction) (m n : Local) (r : Result A Refused)
-    → AreEventsOfInstruction i kinds → AreRunCallsTried m n r (λ _. kinds) → OnOk r (HasRunCallsOfInstruction m n i)
-instruction_call_tried kinds i m n (Ok x) are tries = record { kinds = kinds; are = are; makes = makes_more_calls_but tries }
-instruction_call_tried kinds i m n (Err e) are tries = tt
+-- a call that makes just the instruction's event does it
+pub instruction_call_tried : {A : Type 0} (k : Kind) (i : Instruction) (m n : Local) (r : Result A Refused)
+    → AreEventsOfInstruction i (k ∷ []) → AreRunCallsTried m n r (λ _. k ∷ []) → OnOk r (HasRunCallsOfInstruction m n i)
+instruction_call_tried k i m n (Ok x) are tries = record {
+  kinds = k ∷ [];
+  are = are;
+  makes = makes_more_calls_but tries;
+  cut = λ is. absurd (run_cut_has_no_event i k [] are is);
+}
+instruction_call_tried k i m n (Err e) are tries = tt
 
 -- whoever cuts has seen no less
 instruction_call_cut_sees : (refused : Option Refused) (m n : Local) → IsCuttingCall m n refused → SeesNoFewerRunCalls m n
@@ -74,6 +80,7 @@ instruction_call_cut_does {refused} m n call = record {
     wanted = makes_more_calls_same_wanted m n call.same call.calls_are;
     uncut = λ none. absurd (none refl);
   };
+  cut = λ _. record { answer = refused; call = call };
 }
 
 pub instruction_call_cut_done : {A : Type 0} (m n : Local) (r : Result A Refused) → IsCuttingCall m n (result_err r)
@@ -89,6 +96,7 @@ instruction_calls_add_done a v m n (Ok x) run_calls =
       kinds = Load a run_calls.0 ∷ Store a ((run_calls.0 + v) % 2 ^ 32) ∷ [];
       are = (run_calls.0, refl);
       makes = makes_more_calls_but run_calls.1;
+      cut = λ is. absurd (cc);
     }
 instruction_calls_add_done a v m n (Err e) run_calls = tt
 

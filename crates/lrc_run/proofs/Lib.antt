@@ -1,5 +1,8 @@
 pub mod CallsInBlock
+pub mod RunCuts
 pub mod MoreCalls
+pub mod VainLooks
+pub mod DrawnPlaces
 pub mod AddedCalls
 pub mod InstructionCalls
 pub mod StepsAfterTurns

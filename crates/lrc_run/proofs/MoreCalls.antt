@@ -30,6 +30,7 @@ use Rattle.cluster.specs.TakingCalls.{IsTakingCallLate, IsTakingCallDone, IsTaki
 use Rattle.conformance.specs.CutInstructions.{HasCutInstruction}
 use Rattle.conformance.specs.WantedAccess.{FetchesAreWanted}
 use Rattle.conformance.proofs.WantedFetches.{wanted_fetches-append, wanted_fetch_one}
+use Rattle.lrc_run.proofs.RunCuts.{run_cut_has_no_event, run_cuts_none_more, run_cuts_one_more}
 use Rattle.lrc_run.specs.RunCalls.{AreRunCallsWanted, run_calls, HasRunCallsAndFetches, HasRunCallsUnless, HasRunCallsOfLoads, AreRunCallsNoted, SeesNoFewerRunCalls, AreRunCallsTried, HasRunCallsOfInstruction, IsRunCallBegun, IsRunCallUnderway, IsRunCallOfTake, HasRunCallsOfAll, HasRunCallsOfWalk}
 use Rattle.lrc_run.proofs.CallsInBlock.{calls_in_block_when_empty, calls_in_block_closed, calls_in_block_none, calls_in_block_taken, calls_in_block_then}
 
@@ -209,7 +210,7 @@ makes_more_calls_beginning_by k last i m n are next run_calls =
 pub makes_more_calls_instruction_by : (k : Kind) (i : Instruction) (m n : Local) → AreEventsOfInstruction i (k ∷ [])
     → HasRunCallsAndFetches m n (k ∷ []) × (n.block ≡ []) × (n.awaits ≡ awaited_next k) → HasRunCallsOfInstruction m n i
 makes_more_calls_instruction_by k i m n are run_calls =
-    record { kinds = k ∷ []; are = are; makes = makes_more_calls_but run_calls.0 }
+    record { kinds = k ∷ []; are = are; makes = makes_more_calls_but run_calls.0; cut = λ is. absurd (run_cut_has_no_event i k [] are is) }
 
 -- of two kinds that are no fetches the last one isn't
 makes_more_calls_no_fetch_last : (first last : Kind) → NoInstructionFetches (first ∷ last ∷ []) → is_fetch last ≡ false
@@ -239,7 +240,7 @@ sees_more_calls_take_enters m = waits (not (processor_refusal_is_waiting m))
     waits false e = spent (processor_refusal_is_spent m) e
 
 -- a take that comes too early entered, and left all as it found it
-sees_more_calls_take_inside : (m n : Local) (f : Option Refused) → processor_refusal_or_spent (processor_refusal_of_take m) m ≡ f → IsTakingCall m n (Some NotYet)
+pub sees_more_calls_take_inside : (m n : Local) (f : Option Refused) → processor_refusal_or_spent (processor_refusal_of_take m) m ≡ f → IsTakingCall m n (Some NotYet)
     → IsProcessorCallRefusedInside 1 IsTakingCallLate m n NotYet
 sees_more_calls_take_inside m n (Some x) is call =
     let out : Some NotYet ≡ Some x = (call.outside x is).0 in absurd (sees_more_calls_take_enters m (is ∙ sym out))
@@ -293,6 +294,7 @@ makes_more_calls_its_way l m n i true begun took = record {
   makes = makes_more_calls_but (makes_more_calls_then l m n (begun.first ∷ []) (begun.last ∷ []) begun.makes
       (makes_more_calls_one m n begun.last (makes_more_calls_last_no_fetch i begun.first begun.last begun.are) took.same took.sees taken last
       took.uncut));
+  cut = λ is. absurd (run_cut_has_no_event i begun.first (begun.last ∷ []) begun.are is);
 }
   where
     last : calls n ≡ calls m ++ event m.number begun.last ∷ []
@@ -316,7 +318,12 @@ makes_more_calls_its_way l m n i false begun took = record {
 
 -- no instruction is done yet
 pub makes_more_calls_all_none : (m n : Local) → n ≡ m → HasRunCallsOfAll m n []
-makes_more_calls_all_none m n e = record { kinds = []; are = refl; makes = makes_more_calls_but (makes_more_calls_none m n e) }
+makes_more_calls_all_none m n e = record {
+  kinds = [];
+  are = refl;
+  makes = makes_more_calls_but (makes_more_calls_none m n e);
+  cuts = record { number = ap (λ (x : Local). x.number) e; uncut = ap (λ (x : Local). x.own_cut) e };
+}
 
 -- more instructions have the cut still
 makes_more_calls_cut_more : (is : List Instruction) (i : Instruction) → HasCutInstruction is → HasCutInstruction (is ++ i ∷ [])
@@ -335,6 +342,7 @@ makes_more_calls_all_more l m n is i all one = record {
   kinds = all.kinds ++ one.kinds;
   are = instructions-push is i all.kinds one.kinds all.are one.are;
   makes = makes_more_calls_but_then l m n all.kinds one.kinds (makes_more_calls_cut_more is i) (makes_more_calls_last_cut is i) all.makes one.makes;
+  cuts = run_cuts_one_more l m n is i all.cuts (record { number = one.makes.same.number; cut = one.cut; others = one.makes.uncut });
 }
 
 -- a section and then a barrier
@@ -345,6 +353,8 @@ makes_more_calls_walk_by l m n section all last = record {
   makes = let P : List Kind → Type 0 = λ ks. HasRunCallsUnless (HasCutInstruction section) l n (all.kinds ++ ks) in
       let last_cut : Barrier ≡ Cut → HasCutInstruction section = λ is. absurd (cc) in
       subst P last.are (makes_more_calls_but_then l m n all.kinds last.kinds (λ has. has) last_cut all.makes last.makes);
+  cuts = run_cuts_none_more l m n section all.cuts
+      (record { number = last.makes.same.number; uncut = last.makes.uncut (λ is. cc) });
 }
 
 pub makes_more_calls_walk_where : {A E : Type 0} (l m n : Local) (section : List Instruction) (r : Result A E) → HasRunCallsOfAll l m section

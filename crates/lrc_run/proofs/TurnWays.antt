@@ -23,6 +23,7 @@ use Rattle.conformance.specs.ScriptTurns.{script_turn_instruction}
 use Rattle.lrc_run.specs.RunSteps.{AreAtRunSteps, IsAtRunStep}
 use Rattle.lrc_run.specs.RunTurns.{AreRunTurnRounds, AreRunTurnsSeenAhead, AreRunTurnsSeenOn, AreRunTurnsTaken, AreRunTurns, HasSeenAllRunTurns, HaveGoneOnInRunTurns, SeesRunTurnsOf, IsRunTurnAlone, IsTurnOfRun, HasOnlySeenRunTurns, RunTurnMakes}
 use Rattle.lrc_run.specs.RunCalls.{IsRunCallUnderway, HasRunCallsUnless, SeesNoFewerRunCalls, IsRunCallOfTake, new_at_run_call}
+use Rattle.lrc_run.proofs.RunCuts.{run_cuts_none_more}
 use Rattle.lrc_run.proofs.CallsInBlock.{calls_in_block_seen}
 use Rattle.lrc_run.proofs.MoreCalls.{sees_more_calls_same_processor, sees_more_calls_same, sees_more_calls_then, makes_more_calls_same_wanted}
 use Rattle.lrc_run.proofs.StepsAfterTurns.{step_after_turn_instruction, step_after_turn_look, step_after_turn_turned}
@@ -98,6 +99,7 @@ turn_way_seen_at l m n section (Next k) is on = (
     kinds = is.0.kinds;
     are = is.0.are;
     makes = turn_way_makes_seen l m n is.0.kinds is.0.makes on;
+    cuts = run_cuts_none_more l m n _ is.0.cuts (record { number = on.same.number; uncut = on.uncut });
   },
   is.1,
 )
@@ -128,7 +130,12 @@ turn_way_seen_at l m n section (Waits k) is on =
       is.1,
     )
 turn_way_seen_at l m n section Passed is on =
-    record { kinds = is.kinds; are = is.are; makes = turn_way_makes_seen l m n _ is.makes on }
+    record {
+      kinds = is.kinds;
+      are = is.are;
+      makes = turn_way_makes_seen l m n _ is.makes on;
+      cuts = run_cuts_none_more l m n section is.cuts (record { number = on.same.number; uncut = on.uncut });
+    }
 
 pub turn_way_seen : (c : SharedCluster) (sections : List (List Instruction)) (ms ns : List Local) (all : List TurnProgress)
     → AreAtRunSteps c sections ms all → AreRunTurnsSeenOn ms ns → AreAtRunSteps c sections ns all

@@ -1,11 +1,15 @@
+pub mod RunCuts
 pub mod RunCalls
+pub mod LooksInVain
 pub mod WaitingInstructions
 pub mod RunSteps
 pub mod RunTurns
 pub mod DrawnOrders
+pub mod DrawnTurns
 pub mod FollowedEnds
 pub mod ReportLaws
 pub mod FailedOutcomes
 pub mod ScheduledTurns
 pub mod Threads
+pub mod ClusterRuns
 pub mod Prelude

@@ -18,6 +18,7 @@ use Rattle.cluster.specs.ProcessorCalls.{IsSameProcessorOfCall}
 use Rattle.cluster.specs.NewClusters.{SharedCluster}
 use Rattle.cluster.specs.TakingCalls.{IsTakingCallLate, taking_call_added}
 use Rattle.conformance.specs.CutInstructions.{HasCutInstruction}
+use Rattle.lrc_run.specs.RunCuts.{HasMadeRunCuts, IsRunCut}
 use Rattle.conformance.specs.OpenBlocks.{OpenBlockNotesAll, OpenBlock, open_block_handed_in, open_block_noted, open_block}
 use Rattle.conformance.specs.WantedAccess.{FetchesAreWanted}
 
@@ -119,11 +120,12 @@ abbrev pub AreRunCallsTried : {A : Type 0} → Local → Local → Result A Refu
 AreRunCallsTried old new (Ok x) kinds = HasRunCallsAndFetches old new (kinds x)
 AreRunCallsTried old new (Err e) kinds = MakesNoRunCalls old new
 
--- it has done this instruction, and cut nothing off but by a cut
+-- it has done this instruction, which is a call of its own if it is a cut, and cut nothing off but by a cut
 pub record HasRunCallsOfInstruction (old new : Local) (i : Instruction) : Type 0 where
   pub kinds : List Kind
   pub are : AreEventsOfInstruction i kinds
   pub makes : HasRunCallsUnless (i ≡ Cut) old new kinds
+  pub cut : i ≡ Cut → IsRunCut old new
 
 -- it has begun this instruction by a call that waits, handed its block in, and awaits the event that ends it
 pub record IsRunCallBegun (old new : Local) (i : Instruction) : Type 0 where
@@ -162,12 +164,14 @@ pub record HasRunCallsOfAll (old new : Local) (is : List Instruction) : Type 0 w
   pub kinds : List Kind
   pub are : AreEventsOfInstructions is kinds
   pub makes : HasRunCallsUnless (HasCutInstruction is) old new kinds
+  pub cuts : HasMadeRunCuts old new is
 
 -- it has done its section, and passed the closing barrier
 pub record HasRunCallsOfWalk (old new : Local) (section : List Instruction) : Type 0 where
   pub kinds : List Kind
   pub are : AreEventsOfInstructions section kinds
   pub makes : HasRunCallsUnless (HasCutInstruction section) old new (kinds ++ Arrive ∷ Depart ∷ [])
+  pub cuts : HasMadeRunCuts old new section
 
 -- it has loaded these words
 abbrev pub HasRunCallsOfLoads : Local → Local → List (ℕ × ℕ) → Type 0

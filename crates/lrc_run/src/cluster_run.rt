@@ -1,8 +1,9 @@
 //! Runs of scripts with each processor on a thread of its own.
-ghost use Rattle.std.specs.Prelude.{◌≡◌, ◌^◌, ◌<◌, ◌≤◌, IfOk};
+ghost use Rattle.std.specs.Prelude.{◌≡◌, ◌≢◌, ◌^◌, ◌<◌, ◌≤◌, IfErr, IfOk};
 ghost use Rattle.lrc_script.specs.Prelude.{IsLawful, plan_of};
 ghost use Rattle.conformance.specs.Prelude.{plan_sizes};
-ghost use Rattle.lrc_run.specs.Prelude.{IsScriptReport, AreThreadResults};
+ghost use Rattle.conformance.specs.declared.cause.Cause.TheVariants as cause;
+ghost use Rattle.lrc_run.specs.Prelude.{AreThreadResults, HaveRunCallsOfWalks, IsClusterReport, IsClusterRun, IsScriptReport};
 
 mod threads;
 
@@ -29,7 +30,8 @@ pub fn run<R: Threads + Wait + Sync, G: Gate + Sync>(
 ) -> Result<Report, RunFault>
     requires tries { 0 < tries }
     requires lawful { IsLawful (plan_of script.now) }
-    ensures { IfOk result (λ report. IsScriptReport (plan_of script.now) report) }
+    ensures report { IfOk result (λ report. IsScriptReport (plan_of script.now) report) }
+    ensures ran { IsClusterRun (plan_of script.now) tries result }
 {
     run_with::<BookLock, R, G>(rt, alloc, script, gate, tries)
 }
@@ -52,12 +54,31 @@ pub fn run_with<T: BookTurn + Send + Drop, R: Threads + Wait + Sync, G: Gate + S
     requires tries { 0 < tries }
     requires lawful { IsLawful (plan_of script.now) }
     requires entries { T.ENTRIES ≤ 2 ^ 40 }
-    ensures { IfOk result (λ report. IsScriptReport (plan_of script.now) report) }
+    ensures report { IfOk result (λ report. IsScriptReport (plan_of script.now) report) }
+    ensures ran { IsClusterRun (plan_of script.now) tries result }
 {
-    let (cluster, outcomes) = run_all::<T, R, G>(rt, alloc, script, gate, tries).map_err(
-        outside_cluster_run,
-    )?;
-    let processors = all_or_run_fault(alloc, outcomes)?;
+    let (cluster, outcomes) = run_all_or_fault::<T, R, G>(rt, alloc, script, gate, tries)?;
+    match all_or_run_fault(alloc, outcomes) {
+        Ok(processors) => conclude_cluster_run(rt, alloc, cluster, processors, script),
+        Err(fault) => Err(fault),
+    }
+}
+
+/// The report of processors that have all walked their sections.
+fn conclude_cluster_run<T: BookTurn + Drop, R: Wait>(
+    rt: &R,
+    alloc: Global,
+    cluster: Cluster<T>,
+    processors: Vec<Processor<T>>,
+    script: &Script,
+) -> Result<Report, RunFault>
+    requires lawful { IsLawful (plan_of script.now) }
+    requires sizes { cluster.sizes ≡ plan_sizes (plan_of script.now) }
+    requires walked { HaveRunCallsOfWalks cluster (plan_of script.now).sections processors.items }
+    ensures report { IfOk result (λ report. IsScriptReport (plan_of script.now) report) }
+    ensures cluster { IfOk result (IsClusterReport (plan_of script.now)) }
+    ensures err { IfErr result (λ fault. fault.cause ≢ cause.Stuck) }
+{
     match conclude_run_ending(rt, alloc, cluster, processors, script) {
         Ok(report) => Ok(report),
         Err(refused) => Err(outside_cluster_run(Cause::Refused(refused))),
@@ -65,14 +86,36 @@ pub fn run_with<T: BookTurn + Send + Drop, R: Threads + Wait + Sync, G: Gate + S
 }
 
 /// A cause outside of the threads, which names processor 0.
-fn outside_cluster_run(cause: Cause) -> RunFault {
+fn outside_cluster_run(cause: Cause) -> RunFault
+    ensures { result.cause ≡ cause }
+{
     RunFault {
         processor: 0,
         cause,
     }
 }
 
-/// The script's cluster, and what came of its processors when all threads have ended.
+/// The script's cluster, and what came of its processors when all threads have ended. A fault names processor 0.
+fn run_all_or_fault<T: BookTurn + Send + Drop, R: Threads + Wait + Sync, G: Gate + Sync>(
+    rt: &R,
+    alloc: Global,
+    script: &Script,
+    gate: &G,
+    tries: u64,
+) -> Result<(Cluster<T>, Vec<Result<Processor<T>, Cause>>), RunFault>
+    requires lawful { IsLawful (plan_of script.now) }
+    requires entries { T.ENTRIES ≤ 2 ^ 40 }
+    ensures sizes { IfOk result (λ r. r.0.sizes ≡ plan_sizes (plan_of script.now)) }
+    ensures err { IfErr result (λ fault. fault.cause ≢ cause.Stuck) }
+    ensures outcomes { IfOk result (λ r. AreThreadResults tries r.0 (plan_of script.now).sections r.1.items) }
+{
+    match run_all::<T, R, G>(rt, alloc, script, gate, tries) {
+        Ok(all) => Ok(all),
+        Err(cause) => Err(outside_cluster_run(cause)),
+    }
+}
+
+/// The same. The only faults are what a cluster and the threads' memory are refused.
 fn run_all<T: BookTurn + Send + Drop, R: Threads + Wait + Sync, G: Gate + Sync>(
     rt: &R,
     alloc: Global,
@@ -83,7 +126,8 @@ fn run_all<T: BookTurn + Send + Drop, R: Threads + Wait + Sync, G: Gate + Sync>(
     requires lawful { IsLawful (plan_of script.now) }
     requires entries { T.ENTRIES ≤ 2 ^ 40 }
     ensures sizes { IfOk result (λ r. r.0.sizes ≡ plan_sizes (plan_of script.now)) }
-    ensures outcomes { IfOk result (λ r. AreThreadResults r.0 (plan_of script.now).sections r.1.items) }
+    ensures err { IfErr result (λ why. why ≢ cause.Stuck) }
+    ensures outcomes { IfOk result (λ r. AreThreadResults tries r.0 (plan_of script.now).sections r.1.items) }
 {
     let (cluster, processors) = Cluster::<T>::new(
         alloc,

@@ -13,10 +13,12 @@
 //! a take that came too early found its processor not ready by it. If a run by turns says that it can't go on, its history
 //! is a deadlock: each processor waits, and none is ready.
 //! By a schedule, given or answered of turns that were drawn, the same holds of its turns and of the rounds behind them.
+//! Drawn turns are those that the seed draws, each from its own order. A `cut` of a script is a call of its processor. A run
+//! that says Stuck has looked as often as it was asked, or was told that what it waits for can't come.
 //!
 //! **What is only tested** (in `test_lrc`): that no run is refused needlessly, and that its threads get on side by
-//! side; that the gate is asked before each instruction; that nobody sleeps for ever; when a full block is handed in; and in
-//! which orders turns are drawn, but for the first.
+//! side; that the gate is asked before each instruction; that nobody sleeps for ever; when a full block is handed in; and
+//! which lock a run had.
 #![tactic(auto)]
 
 mod cluster_run;

@@ -22,6 +22,17 @@ use std::thread::Threads;
 pub struct OnCluster;
 
 impl ScriptRunner for OnCluster {
+    ghost use Rattle.std.specs.Prelude.{IfOk};
+    ghost use Rattle.lrc_run.specs.ClusterRuns.{IsClusterEnd, IsClusterReport, IsClusterRun};
+
+    ghost ran = { λ s _ tries came. IsClusterRun s tries came };
+
+    ghost stepped = { λ s _ _ came. IfOk came (IsClusterReport s) };
+
+    ghost followed = { λ s _ _ came. IfOk came (IsClusterEnd s) };
+
+    ghost drawn = { λ s _ _ came. IfOk came (λ run. IsClusterEnd s run.ended) };
+
     fn run<R: Threads + Wait + Sync>(
         &self,
         rt: &R,

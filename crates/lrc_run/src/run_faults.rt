@@ -1,5 +1,6 @@
 //! What came of all processors of a run.
-ghost use Rattle.std.specs.Prelude.{◌≡◌, ◌⊎◌, IfErr, IfNone, IfOk, IfSome, Ok, map};
+ghost use Rattle.std.specs.Prelude.{◌≡◌, ◌≢◌, ◌⊎◌, IfErr, IfNone, IfOk, IfSome, Ok, map};
+ghost use Rattle.conformance.specs.declared.cause.Cause.TheVariants as cause;
 ghost use Rattle.lrc_run.specs.Prelude.{is_failed_outcome_stuck, IsFaultOfFailedOutcome, IsFirstFailedOutcome, NoOutcomeFailed, NoOutcomeFailedSo};
 
 use conformance::{Cause, RunFault};
@@ -66,13 +67,17 @@ pub(crate) fn all_or_run_fault<X: Drop>(
     outcomes: Vec<Result<X, Cause>>,
 ) -> Result<Vec<X>, RunFault>
     ensures ok { IfOk result (λ all. map Ok all.items ≡ outcomes.items) }
-    ensures err { IfErr result (λ fault. IsFaultOfFailedOutcome outcomes.items fault ⊎ NoOutcomeFailed outcomes.items) }
+    ensures err { IfErr result (λ fault. IsFaultOfFailedOutcome outcomes.items fault
+        ⊎ (NoOutcomeFailed outcomes.items × (fault.cause ≢ cause.Stuck))) }
 {
     if let Some(fault) = run_fault_of(outcomes.as_slice()) {
         return Err(fault);
     }
-    all_without_run_fault(alloc, outcomes).map_err(|error| RunFault {
-        processor: 0,
-        cause: Cause::from(error),
-    })
+    match all_without_run_fault(alloc, outcomes) {
+        Ok(all) => Ok(all),
+        Err(error) => Err(RunFault {
+            processor: 0,
+            cause: Cause::from(error),
+        }),
+    }
 }

@@ -9,7 +9,7 @@ ghost use Rattle.conformance.specs.declared.cause.Cause.TheVariants as cause;
 ghost use Rattle.conformance.specs.declared.progress.TurnProgress.TheVariants as progress;
 ghost use Rattle.conformance.specs.Prelude.{IsEndByOrderedTurns, IsReportByOrderedTurns, IsStuckByOrderedTurns, round_order_drawn, round_order_generator, ordered_turns_of_seed};
 ghost use Rattle.lrc_run.specs.Prelude.{AreDrawnOrderProcessors, AreAtRunSteps, AreRunTurnsSeenAhead, AreRunTurns, HaveGoneOnInRunTurns, IsFollowedEndAfter};
-ghost use Rattle.lrc_run.specs.Prelude.{IsTurnOfRun, IsRunTurnDeadlockSeen};
+ghost use Rattle.lrc_run.specs.Prelude.{IsClusterEnd, IsClusterReport, IsTurnOfRun, IsRunTurnDeadlockSeen};
 
 mod catching_up;
 mod drawn;
@@ -46,6 +46,7 @@ pub fn step<R: Wait>(
 ) -> Result<Report, RunFault>
     requires { IsLawful (plan_of script.now) }
     ensures turns { IfOk result (IsReportByOrderedTurns (plan_of script.now) (ordered_turns_of_seed (plan_of script.now) seed)) }
+    ensures cluster { IfOk result (IsClusterReport (plan_of script.now)) }
     ensures stuck { IfErr result (λ fault. fault.cause ≡ cause.Stuck
         → IsStuckByOrderedTurns (plan_of script.now) (ordered_turns_of_seed (plan_of script.now) seed) fault.processor) }
 {
@@ -62,6 +63,7 @@ pub fn step_with<T: BookTurn + Drop, R: Wait>(
     requires entries { T.ENTRIES ≤ 2 ^ 40 }
     requires lawful { IsLawful (plan_of script.now) }
     ensures turns { IfOk result (IsReportByOrderedTurns (plan_of script.now) (ordered_turns_of_seed (plan_of script.now) seed)) }
+    ensures cluster { IfOk result (IsClusterReport (plan_of script.now)) }
     ensures stuck { IfErr result (λ fault. fault.cause ≡ cause.Stuck
         → IsStuckByOrderedTurns (plan_of script.now) (ordered_turns_of_seed (plan_of script.now) seed) fault.processor) }
 {
@@ -83,6 +85,7 @@ pub fn step_as_far<R: Wait>(
 ) -> Result<Ended, RunFault>
     requires { IsLawful (plan_of script.now) }
     ensures end { IfOk result (IsEndByOrderedTurns (plan_of script.now) (ordered_turns_of_seed (plan_of script.now) seed)) }
+    ensures cluster { IfOk result (IsClusterEnd (plan_of script.now)) }
     ensures err { IfErr result (λ fault. fault.cause ≢ cause.Stuck) }
 {
     step_as_far_with::<BookLock, R>(rt, alloc, script, seed)
@@ -98,6 +101,7 @@ pub fn step_as_far_with<T: BookTurn + Drop, R: Wait>(
     requires entries { T.ENTRIES ≤ 2 ^ 40 }
     requires lawful { IsLawful (plan_of script.now) }
     ensures end { IfOk result (IsEndByOrderedTurns (plan_of script.now) (ordered_turns_of_seed (plan_of script.now) seed)) }
+    ensures cluster { IfOk result (IsClusterEnd (plan_of script.now)) }
     ensures err { IfErr result (λ fault. fault.cause ≢ cause.Stuck) }
 {
     let (cluster, mut processors) = run_steps_cluster::<T>(alloc, script)?;
@@ -122,6 +126,7 @@ fn run_steps_result<T: BookTurn + Drop, R: Wait>(
     requires whole { passed ≡ true → All (λ x. x ≡ progress.Passed) all.now }
     requires stuck { passed ≡ false → IsRunTurnDeadlockSeen processors.items }
     ensures end { IfOk result (IsFollowedEndAfter (plan_of script.now) processors.items all.now) }
+    ensures cluster { IfOk result (IsClusterEnd (plan_of script.now)) }
     ensures err { IfErr result (λ fault. fault.cause ≢ cause.Stuck) }
 {
     if passed {

@@ -1,7 +1,9 @@
 //! A processor's way through its section.
-ghost use Rattle.std.specs.Prelude.{◌≡◌, IfOk, OnOk};
+ghost use Rattle.std.specs.Prelude.{◌≡◌, IfErr, IfOk, OnOk, false};
 ghost use Rattle.cluster.specs.Prelude.{IsSameProcessorOfCall};
-ghost use Rattle.lrc_run.specs.Prelude.{HasRunCallsOfInstruction, IsRunCallOfTake, HasRunCallsOfWalk};
+ghost use Rattle.conformance.specs.declared.cause.Cause.TheVariants as cause;
+ghost use Rattle.lrc_run.specs.Prelude.{HasGivenUpInstruction, HasGivenUpWalk, HasLookedAgain, HasRunCallsOfInstruction, HasRunCallsOfWalk, IsRunCallOfTake};
+ghost use Rattle.lrc_run.specs.Prelude.{IsToldNoneComes};
 
 mod walk_access;
 mod walk_instruction;
@@ -31,10 +33,15 @@ pub(crate) fn walk<T: BookTurn, R: Wait, G: Gate>(
     requires own { processor.old.lock ≡ cluster.now.lock }
     ensures same { IsSameProcessorOfCall processor.old processor.new }
     ensures ok { OnOk result (HasRunCallsOfWalk processor.old processor.new section.now) }
+    ensures stuck { IfErr result (λ why. why ≡ cause.Stuck
+        → HasGivenUpWalk course.now.tries processor.old processor.new section.now) }
 {
     for (index, instruction) in section.iter().enumerate() {
         course.gate.pass(processor.number(), index + 1)?;
-        perform(rt, cluster, processor, *instruction, course.tries)?;
+        match perform(rt, cluster, processor, *instruction, course.tries) {
+            Ok(()) => {}
+            Err(cause) => return Err(cause),
+        }
     }
     perform(rt, cluster, processor, Instruction::Barrier, course.tries)
 }
@@ -51,6 +58,8 @@ fn perform<T: BookTurn, R: Wait>(
     requires own { processor.old.lock ≡ cluster.now.lock }
     ensures same { IsSameProcessorOfCall processor.old processor.new }
     ensures ok { OnOk result (HasRunCallsOfInstruction processor.old processor.new instruction) }
+    ensures stuck { IfErr result (λ why. why ≡ cause.Stuck
+        → HasGivenUpInstruction tries processor.old processor.new instruction) }
 {
     if begin_walk_instruction(rt, cluster, processor, instruction)? {
         return Ok(());
@@ -58,9 +67,14 @@ fn perform<T: BookTurn, R: Wait>(
     if end(rt, cluster, processor)? {
         return Ok(());
     }
-    for _ in 1..tries {
-        if look_again(rt, cluster, processor)? {
-            return Ok(());
+    for looks in 1..tries {
+        match look_again(rt, cluster, processor) {
+            Ok(taken) => {
+                if taken {
+                    return Ok(());
+                }
+            }
+            Err(cause) => return Err(cause),
         }
     }
     Err(Cause::Stuck)
@@ -76,9 +90,12 @@ fn look_again<T: BookTurn, R: Wait>(
     requires own { processor.old.lock ≡ cluster.now.lock }
     ensures same { IsSameProcessorOfCall processor.old processor.new }
     ensures ok { IfOk result (λ taken. IsRunCallOfTake processor.old processor.new taken) }
+    ensures looked { IfOk result (λ taken. taken ≡ false → HasLookedAgain processor.old processor.new) }
+    ensures stuck { IfErr result (λ why. why ≡ cause.Stuck → IsToldNoneComes processor.old processor.new) }
 {
     match cluster.wait(rt, processor)? {
         Waited::MayHaveCome => Ok(end(rt, cluster, processor)?),
-        Waited::Stuck | Waited::Deserted => Err(Cause::Stuck),
+        Waited::Stuck => Err(Cause::Stuck),
+        Waited::Deserted => Err(Cause::Stuck),
     }
 }

@@ -3,7 +3,7 @@ ghost use Rattle.std.specs.Prelude.{◌≡◌, ◌≤◌, [], IfOk, IfSome, leng
 ghost use Rattle.std.specs.Thread.{IsSend, IsSync};
 ghost use Rattle.lrc_script.specs.Prelude.{plan_sections};
 ghost use Rattle.cluster.specs.Prelude.{IsNewCluster};
-ghost use Rattle.lrc_run.specs.Prelude.{AreThreadResults, AreThreadResultsOf, AreThreadsStarted, IsThreadResultOf, HasRunCallsOfWalk};
+ghost use Rattle.lrc_run.specs.Prelude.{AreThreadResults, AreThreadResultsOf, AreThreadsStarted, IsThreadResultOf, IsWalkResult};
 
 use crate::course::Course;
 use crate::gate::Gate;
@@ -20,18 +20,19 @@ use std::thread::{Promise, PromisedHandle, Scope, Threads, scope, scope_env};
 /// What came of a processor: itself, past the closing barrier, or why it went no further.
 type ThreadResult<T> = Result<Processor<T>, Cause>;
 
-/// What a thread promises: the processor that it gives back was this one, and has walked this section.
+/// What a thread promises: the processor that it gives back was this one, and has walked this section; and if it is stuck,
+/// it has looked in vain as often as this.
 #[derive(Drop)]
 struct SectionWalked<T: BookTurn> {
     was: Snapshot<Processor<T>>,
     section: Snapshot<Vec<Instruction>>,
+    tries: Snapshot<u64>,
 }
 
 impl<T: BookTurn> Promise<Result<Processor<T>, Cause>> for SectionWalked<T> {
-    ghost use Rattle.std.specs.Prelude.{IfOk};
-    ghost use Rattle.lrc_run.specs.RunCalls.{HasRunCallsOfWalk};
+    ghost use Rattle.lrc_run.specs.Threads.{IsWalkResult};
 
-    ghost kept_by = { λ p r. IfOk r (λ m. HasRunCallsOfWalk p.was.value m p.section.value.items) };
+    ghost kept_by = { λ p r. IsWalkResult p.tries.value p.was.value p.section.value.items r };
 }
 
 /// A processor's thread, if it could be started. Contracts see it as what it was started with.
@@ -50,6 +51,7 @@ impl<T: BookTurn> Model for Thread<T> {
     ghost view = { λ t. option_map (λ h. record {
       processor = h.promise.was.value;
       section = h.promise.section.value.items;
+      tries = h.promise.tries.value;
     }) t.handle };
 }
 
@@ -75,7 +77,7 @@ fn run_thread_result<T: BookTurn, R: Wait, G: Gate>(
     section: &[Instruction],
 ) -> ThreadResult<T>
     requires own { processor.lock ≡ cluster.now.lock }
-    ensures { IfOk result (λ m. HasRunCallsOfWalk processor m section.now) }
+    ensures { IsWalkResult course.now.tries processor section.now result }
 {
     let number = processor.number();
     match walk(rt, cluster, &mut processor, course, section) {
@@ -119,11 +121,12 @@ fn start_run_thread<
     section: &'x Vec<Instruction>,
 ) -> Thread<T>
     requires own { processor.lock ≡ cluster.now.lock }
-    ensures { IfSome result (λ e. (e.processor ≡ processor) × (e.section ≡ section.now.items)) }
+    ensures { IfSome result (λ e. (e.processor ≡ processor) × (e.section ≡ section.now.items) × (e.tries ≡ course.now.tries)) }
 {
     let promise = SectionWalked {
         was: Snapshot::of(&processor),
         section: Snapshot::of(section),
+        tries: Snapshot::of(&course.tries),
     };
     let number = processor.number();
     let section = section.as_slice();
@@ -131,7 +134,7 @@ fn start_run_thread<
         promise,
         move || -> ThreadResult<T>
             requires own { processor.lock ≡ cluster.now.lock }
-            ensures { IfOk result (λ m. HasRunCallsOfWalk processor m section.entry.now) }
+            ensures { IsWalkResult course.entry.now.tries processor section.entry.now result }
         { run_thread_result(rt, cluster, processor, course, section) },
     );
     let handle = started.ok();
@@ -160,7 +163,7 @@ fn start_run_threads<
     requires new { IsNewCluster cluster.now processors.items }
     requires sections { length sections.now ≡ vec_len processors }
     requires room { (threads.items ≡ []) × (vec_len processors ≤ vec_capacity threads) }
-    ensures { AreThreadsStarted processors.items (plan_sections sections.now) result.items }
+    ensures { AreThreadsStarted course.now.tries processors.items (plan_sections sections.now) result.items }
 {
     for processor in processors {
         let section = &sections[threads.len()];
@@ -188,7 +191,7 @@ pub(super) fn run_all_threads<
 ) -> Result<Vec<ThreadResult<T>>, AllocError>
     requires new { IsNewCluster cluster.now processors.items }
     requires sections { length sections.now ≡ vec_len processors }
-    ensures { IfOk result (λ outcomes. AreThreadResults cluster.now (plan_sections sections.now)
+    ensures { IfOk result (λ outcomes. AreThreadResults course.now.tries cluster.now (plan_sections sections.now)
         outcomes.items) }
 {
     let threads = Vec::with_capacity(alloc, processors.len())?;
@@ -203,7 +206,7 @@ pub(super) fn run_all_threads<
             requires threads { (threads.items ≡ []) × (vec_len processors ≤ vec_capacity threads) }
             requires outcomes { (outcomes.items ≡ [])
                 × (vec_len processors ≤ vec_capacity outcomes) }
-            ensures { AreThreadResults cluster.entry.now (plan_sections sections.entry.now) result.items }
+            ensures { AreThreadResults course.entry.now.tries cluster.entry.now (plan_sections sections.entry.now) result.items }
         {
             let threads = start_run_threads(
                 scope, rt, cluster, processors, course, sections, threads,

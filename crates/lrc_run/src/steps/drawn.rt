@@ -1,11 +1,13 @@
 //! All processors by turns on one thread, by turns that are drawn.
-ghost use Rattle.std.specs.Prelude.{◌≡◌, ◌≢◌, ◌<◌, ◌≤◌, ◌^◌, ◌++◌, ◌∷◌, [], IfErr, IfOk, IfSome, List, OnOk, false, length, slice_index_or, true, vec_len};
+ghost use Rattle.std.specs.Prelude.{◌≡◌, ◌≢◌, ◌<◌, ◌≤◌, ◌^◌, ◌++◌, ◌∷◌, [], IfErr, IfOk, IfSome, List, OnOk, false, length, slice_index_or, true, vec_len, ℕ};
 ghost use Rattle.lrc_script.specs.Prelude.{IsLawful, plan_of};
+ghost use Rattle.lrc_script.specs.declared.script.Instruction.{Instruction as AnInstruction};
 ghost use Rattle.conformance.specs.declared.cause.Cause.TheVariants as cause;
-ghost use Rattle.conformance.specs.Prelude.{IsEndByOrderedTurns, plan_sizes, schedule_orders};
+ghost use Rattle.conformance.specs.Prelude.{HasArrivedAtDrawnEnd, IsEndByOrderedTurns, IsRunOfDraws, draws_turns_about, draws_walk, next_drawing, plan_sizes, schedule_orders};
 ghost use Rattle.conformance.specs.declared.progress.TurnProgress.{TurnProgress as AProgress};
 ghost use Rattle.cluster.specs.Copies.Prelude.{Local};
-ghost use Rattle.lrc_run.specs.Prelude.{AreAtRunSteps, AreRunTurnsSeenAhead, AreRunTurnsTaken, IsTurnOfRun, drawn_order_chosen};
+ghost use Rattle.lrc_run.specs.Prelude.{AreAtRunSteps, AreDrawnOrderProcessors, AreRunTurnsTaken, HasDrawnNoTurn, HasDrawnTurn, HaveArrivedAtRunSteps, HaveWandered, IsClusterEnd};
+ghost use Rattle.lrc_run.specs.Prelude.{drawn_order_chosen, drawn_order_tried, pace_drawing};
 
 use super::pace::Pace;
 use super::{beginnings, go_round, outside, run_step_at, run_steps_cluster, run_steps_result};
@@ -30,6 +32,8 @@ pub fn step_drawn<R: Wait>(
     requires { IsLawful (plan_of script.now) }
     ensures end { IfOk result (λ run. IsEndByOrderedTurns (plan_of script.now)
         (schedule_orders (plan_of script.now) run.schedule.turns.items) run.ended) }
+    ensures draws { IfOk result (λ run. IsRunOfDraws (plan_of script.now) seed run.schedule.turns.items run.ended) }
+    ensures cluster { IfOk result (λ run. IsClusterEnd (plan_of script.now) run.ended) }
     ensures err { IfErr result (λ fault. fault.cause ≢ cause.Stuck) }
 {
     step_drawn_with::<BookLock, R>(rt, alloc, script, seed)
@@ -46,6 +50,8 @@ pub fn step_drawn_with<T: BookTurn + Drop, R: Wait>(
     requires lawful { IsLawful (plan_of script.now) }
     ensures end { IfOk result (λ run. IsEndByOrderedTurns (plan_of script.now)
         (schedule_orders (plan_of script.now) run.schedule.turns.items) run.ended) }
+    ensures draws { IfOk result (λ run. IsRunOfDraws (plan_of script.now) seed run.schedule.turns.items run.ended) }
+    ensures cluster { IfOk result (λ run. IsClusterEnd (plan_of script.now) run.ended) }
     ensures err { IfErr result (λ fault. fault.cause ≢ cause.Stuck) }
 {
     let (cluster, mut processors) = run_steps_cluster::<T>(alloc, script)?;
@@ -76,6 +82,8 @@ fn wander<T: BookTurn, R: Wait>(
     ensures way { OnOk result (AreAtRunSteps cluster.now (plan_of script.now).sections processors.new.items
         all.new.items) }
     ensures taken { IfOk result (λ turns. AreRunTurnsTaken (plan_of script.now).sections turns.items
+        processors.old.items processors.new.items all.old.items all.new.items) }
+    ensures drawn { IfOk result (λ turns. HaveWandered (plan_of script.now) seed turns.items
         processors.old.items processors.new.items all.old.items all.new.items) }
     ensures err { IfErr result (λ fault. fault.cause ≢ cause.Stuck) }
 {
@@ -108,12 +116,18 @@ fn go_on<T: BookTurn, R: Wait>(
     requires way { AreAtRunSteps cluster.now (plan_of script.now).sections processors.old.items
         all.old.items }
     requires some { 0 < pace.old.turns }
+    requires below { AreDrawnOrderProcessors cluster.now.sizes.processors pace.old.order.items }
     ensures way { OnOk result (AreAtRunSteps cluster.now (plan_of script.now).sections processors.new.items
         all.new.items) }
     ensures taken { OnOk result ((first : List Local) (start : List AProgress)
         → AreRunTurnsTaken (plan_of script.now).sections turns.old.items first processors.old.items start all.old.items
         → AreRunTurnsTaken (plan_of script.now).sections turns.new.items first processors.new.items start all.new.items) }
-    ensures fixed { OnOk result (pace.new.turns ≡ pace.old.turns) }
+    ensures on { IfOk result (λ on. on ≡ true → HasDrawnTurn (plan_of script.now).sections pace.old pace.new
+        turns.old.items turns.new.items processors.old.items processors.new.items all.old.items all.new.items) }
+    ensures off { IfOk result (λ on. on ≡ false → HasDrawnNoTurn (plan_of script.now).sections pace.old
+        turns.old.items turns.new.items processors.old.items processors.new.items all.old.items all.new.items) }
+    ensures below { OnOk result (AreDrawnOrderProcessors cluster.now.sizes.processors pace.new.order.items) }
+    ensures fixed { OnOk result ((pace.new.turns ≡ pace.old.turns) × (pace.new.walks ≡ pace.old.walks)) }
     ensures err { IfErr result (λ fault. fault.cause ≢ cause.Stuck) }
 {
     if have_arrived(script, all.as_slice()) {
@@ -133,7 +147,12 @@ fn note_drawn_step(turns: &mut Vec<usize>, pace: &mut Pace, place: usize) -> Res
     requires place { place < vec_len pace.old.order }
     requires turns { 0 < pace.old.turns }
     ensures turns { OnOk result (turns.new.items ≡ turns.old.items ++ slice_index_or pace.old.order.items place 0 ∷ []) }
-    ensures fixed { pace.new.turns ≡ pace.old.turns }
+    ensures order { OnOk result (pace.new.order.items
+        ≡ (next_drawing pace.old.walks pace.old.turns place (pace_drawing pace.old)).order) }
+    ensures generator { OnOk result (pace.new.generator
+        ≡ (next_drawing pace.old.walks pace.old.turns place (pace_drawing pace.old)).generator) }
+    ensures below { OnOk result ((n : ℕ) → AreDrawnOrderProcessors n pace.old.order.items → AreDrawnOrderProcessors n pace.new.order.items) }
+    ensures fixed { (pace.new.turns ≡ pace.old.turns) × (pace.new.walks ≡ pace.old.walks) }
     ensures err { IfErr result (λ fault. fault.cause ≢ cause.Stuck) }
 {
     let noted = match turns.push(pace.order[place]) {
@@ -146,24 +165,35 @@ fn note_drawn_step(turns: &mut Vec<usize>, pace: &mut Pace, place: usize) -> Res
     }
 }
 
-/// About how many turns the script takes: one for each instruction, and one for the closing barrier.
+/// About how many turns the script takes: one for each instruction, one for the closing barrier, and one more.
 fn turns_of(script: &Script) -> usize
-    ensures { 0 < result }
+    requires { IsLawful (plan_of script.now) }
+    ensures { result ≡ draws_turns_about (plan_of script.now).sections }
 {
     let mut turns: usize = 1;
-    for section in script.sections.iter() {
-        turns = turns.saturating_add(section.len() + 1);
+    for p in 0..script.sections.len() {
+        turns += script.sections[p].len() + 1;
     }
     turns
 }
 
 /// Whether each processor has arrived at the closing barrier. How they depart makes no difference to what they show.
-fn have_arrived(script: &Script, all: &[TurnProgress]) -> bool {
-    script.sections.iter().zip(all).all(|(section, progress)| has_arrived(section.len(), *progress))
+fn have_arrived(script: &Script, all: &[TurnProgress]) -> bool
+    requires { length all.now ≤ vec_len script.now.sections }
+    ensures { result ≡ true → HaveArrivedAtRunSteps (plan_of script.now).sections all.now }
+{
+    for p in 0..all.len() {
+        if !has_arrived(script.sections[p].len(), all[p]) {
+            return false;
+        }
+    }
+    true
 }
 
 /// Whether a processor with so many instructions has.
-fn has_arrived(instructions: usize, progress: TurnProgress) -> bool {
+fn has_arrived(instructions: usize, progress: TurnProgress) -> bool
+    ensures { result ≡ true → (section : List AnInstruction) → length section ≡ instructions → HasArrivedAtDrawnEnd section progress }
+{
     match progress {
         TurnProgress::Next(_) => false,
         TurnProgress::Waits(instruction) => instruction >= instructions,
@@ -184,45 +214,20 @@ fn first_on<T: BookTurn, R: Wait>(
     requires sizes { cluster.now.sizes ≡ plan_sizes (plan_of script.now) }
     requires way { AreAtRunSteps cluster.now (plan_of script.now).sections processors.old.items
         all.old.items }
+    requires below { AreDrawnOrderProcessors cluster.now.sizes.processors order.now }
     ensures way { OnOk result (AreAtRunSteps cluster.now (plan_of script.now).sections processors.new.items
         all.new.items) }
+    ensures tried { IfOk result (λ place. AreRunTurnsTaken (plan_of script.now).sections (drawn_order_tried order.now place)
+        processors.old.items processors.new.items all.old.items all.new.items) }
     ensures taken { IfOk result (λ place. AreRunTurnsTaken (plan_of script.now).sections (drawn_order_chosen order.now place)
         processors.old.items processors.new.items all.old.items all.new.items) }
     ensures place { IfOk result (λ place. IfSome place (λ k. k < length order.now)) }
     ensures err { IfErr result (λ fault. fault.cause ≢ cause.Stuck) }
 {
     for place in 0..order.len() {
-        if tried_at(rt, cluster, processors, all, script, order[place])? {
+        if run_step_at(rt, cluster, processors, all, script, order[place])? {
             return Ok(Some(place));
         }
     }
     Ok(None)
-}
-
-/// The turn of processor `p`, if there is one: whether it got on.
-fn tried_at<T: BookTurn, R: Wait>(
-    rt: &R,
-    cluster: &Cluster<T>,
-    processors: &mut Vec<Processor<T>>,
-    all: &mut Vec<TurnProgress>,
-    script: &Script,
-    p: usize,
-) -> Result<bool, RunFault>
-    requires lawful { IsLawful (plan_of script.now) }
-    requires sizes { cluster.now.sizes ≡ plan_sizes (plan_of script.now) }
-    requires way { AreAtRunSteps cluster.now (plan_of script.now).sections processors.old.items
-        all.old.items }
-    ensures way { OnOk result (AreAtRunSteps cluster.now (plan_of script.now).sections processors.new.items
-        all.new.items) }
-    ensures turn { IfOk result (λ moved. moved ≡ true → IsTurnOfRun (plan_of script.now).sections p
-        processors.old.items processors.new.items all.old.items all.new.items) }
-    ensures vain { IfOk result (λ moved. moved ≡ false → AreRunTurnsSeenAhead processors.old.items processors.new.items
-        × (all.new.items ≡ all.old.items)) }
-    ensures err { IfErr result (λ fault. fault.cause ≢ cause.Stuck) }
-{
-    if p >= processors.len() {
-        return Ok(false);
-    }
-    let moved = run_step_at(rt, cluster, processors, all, script, p)?;
-    Ok(moved)
 }

@@ -1,6 +1,7 @@
 //! Which processor is tried first for the next turn, where turns are drawn.
-ghost use Rattle.std.specs.Prelude.{◌≡◌, ◌<◌, ◌==◌, ◌%◌, IfOk, OnOk, vec_len};
-ghost use Rattle.conformance.specs.Prelude.{Drawing, drawing_of, next_drawing};
+ghost use Rattle.std.specs.Prelude.{◌≡◌, ◌<◌, IfOk, OnOk, ℕ, vec_len};
+ghost use Rattle.conformance.specs.Prelude.{drawing_of, draws_walk, next_drawing};
+ghost use Rattle.lrc_run.specs.Prelude.{AreDrawnOrderProcessors, pace_drawing};
 
 use super::{new_list, rise};
 use crate::orders::order;
@@ -36,7 +37,8 @@ impl Pace {
     ) -> Result<Pace, AllocError>
         ensures order { IfOk result (λ pace. pace.order.items ≡ (drawing_of seed processors).order) }
         ensures generator { IfOk result (λ pace. pace.generator ≡ (drawing_of seed processors).generator) }
-        ensures walks { IfOk result (λ pace. pace.walks ≡ (seed % 2 == 0)) }
+        ensures below { IfOk result (λ pace. AreDrawnOrderProcessors processors pace.order.items) }
+        ensures walks { IfOk result (λ pace. pace.walks ≡ draws_walk seed) }
         ensures turns { IfOk result (λ pace. pace.turns ≡ turns) }
     {
         let mut list = new_list(alloc, processors)?;
@@ -55,7 +57,12 @@ impl Pace {
     pub(crate) fn go_on(&mut self, place: usize) -> Result<(), AllocError>
         requires place { place < vec_len self.old.order }
         requires turns { 0 < self.old.turns }
-        ensures { self.new.turns ≡ self.old.turns }
+        ensures order { OnOk result (self.new.order.items
+            ≡ (next_drawing self.old.walks self.old.turns place (pace_drawing self.old)).order) }
+        ensures generator { OnOk result (self.new.generator
+            ≡ (next_drawing self.old.walks self.old.turns place (pace_drawing self.old)).generator) }
+        ensures below { OnOk result ((n : ℕ) → AreDrawnOrderProcessors n self.old.order.items → AreDrawnOrderProcessors n self.new.order.items) }
+        ensures fixed { (self.new.turns ≡ self.old.turns) × (self.new.walks ≡ self.old.walks) }
     {
         if self.walks {
             order(&mut self.generator, &mut self.order);

@@ -3,7 +3,7 @@ ghost use Rattle.std.specs.Prelude.{◌≡◌, ◌≢◌, ◌<◌, ◌≤◌, �
 ghost use Rattle.lrc_script.specs.Prelude.{IsLawful, plan_of};
 ghost use Rattle.conformance.specs.Prelude.{IsEndByOrderedTurns, IsScheduleFault, plan_sizes, schedule_orders};
 ghost use Rattle.conformance.specs.declared.schedule.Misfit.TheVariants as misfit;
-ghost use Rattle.lrc_run.specs.Prelude.{AreAtRunSteps, AreRunTurnsTaken, IsScheduledTurnFault, IsTurnOfRun};
+ghost use Rattle.lrc_run.specs.Prelude.{AreAtRunSteps, AreRunTurnsTaken, IsClusterEnd, IsScheduledTurnFault, IsTurnOfRun};
 
 use super::{beginnings, go_round, have_passed, run_step_at, run_steps_cluster, run_steps_result};
 use cluster::{BookLock, BookTurn, Cluster, Processor};
@@ -26,6 +26,7 @@ pub fn step_scheduled<R: Wait>(
     requires { IsLawful (plan_of script.now) }
     ensures end { IfOk result
         (IsEndByOrderedTurns (plan_of script.now) (schedule_orders (plan_of script.now) schedule.now.turns.items)) }
+    ensures cluster { IfOk result (IsClusterEnd (plan_of script.now)) }
     ensures fault { IfErr result (IsScheduleFault (plan_of script.now) schedule.now.turns.items) }
 {
     step_scheduled_with::<BookLock, R>(rt, alloc, script, schedule)
@@ -42,6 +43,7 @@ pub fn step_scheduled_with<T: BookTurn + Drop, R: Wait>(
     requires lawful { IsLawful (plan_of script.now) }
     ensures end { IfOk result
         (IsEndByOrderedTurns (plan_of script.now) (schedule_orders (plan_of script.now) schedule.now.turns.items)) }
+    ensures cluster { IfOk result (IsClusterEnd (plan_of script.now)) }
     ensures fault { IfErr result (IsScheduleFault (plan_of script.now) schedule.now.turns.items) }
 {
     let (cluster, mut processors) = run_steps_cluster::<T>(alloc, script)?;

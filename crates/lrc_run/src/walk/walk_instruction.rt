@@ -1,6 +1,6 @@
 //! The instructions of a script. One that waits is begun by one call, and ended by a take that finds what it
 //! waits for.
-ghost use Rattle.std.specs.Prelude.{◌≡◌, IfOk, OnOk, [], not};
+ghost use Rattle.std.specs.Prelude.{◌≡◌, ◌+◌, IfOk, OnOk, [], not};
 ghost use Rattle.cluster.specs.Prelude.{IsSameProcessorOfCall};
 ghost use Rattle.lrc_run.specs.Prelude.{HasRunCallsOfInstruction, IsRunCallUnderway, IsRunCallOfTake};
 ghost use Rattle.lrc_script.specs.declared.script.Instruction.TheVariants as instruction;
@@ -93,6 +93,7 @@ pub(crate) fn end<T: BookTurn, R: Wait>(
     requires own { processor.old.lock ≡ cluster.now.lock }
     ensures same { IsSameProcessorOfCall processor.old processor.new }
     ensures ok { IfOk result (λ taken. IsRunCallOfTake processor.old processor.new taken) }
+    ensures entered { OnOk result (processor.new.entries ≡ processor.old.entries + 1) }
 {
     match cluster.take(rt, processor) {
         Ok(()) => Ok(true),

@@ -23,3 +23,22 @@ returns-clause-end g c = (
       c.requires.way (c.requires.stuck c.if-passed.false) c.finish-journal.ensures,
   refl,
 )
+
+pub returns-in-Ok-clause-cluster : goal.returns-in-Ok-clause-cluster
+returns-in-Ok-clause-cluster g c = record {
+  cluster = c.args.cluster;
+  processors = c.args.processors.items;
+  walked = step_after_turn_passed c.args.cluster (plan_of c.args.script.now).sections c.args.processors.items c.args.all.now c.requires.way
+      (c.requires.whole c.if-passed.true);
+  told = c.in-Ok.ensures;
+}
+
+pub returns-clause-cluster : goal.returns-clause-cluster
+returns-clause-cluster g c = record {
+  cluster = c.args.cluster;
+  processors = c.args.processors.items;
+  progress = c.args.all.now;
+  way = c.requires.way;
+  told = halted_is c.requires.lawful c.requires.sizes
+      c.requires.way (c.requires.stuck c.if-passed.false) c.finish-journal.ensures;
+}

@@ -37,6 +37,6 @@ loop-processor-preserved g c =
           ∙ sym (ap (λ xs. yielded ++ xs) c.in-Some.ensures.steps.0) ∙ inv.came;
       room = let was = inv.room in let same = c.push_reserved.ensures.capacity in omega arith;
       started = rw c.push_reserved.ensures.items
-          (joined_threads_started_more yielded (plan_sections sections) c.loop-processor.threads.items m section.items
+          (joined_threads_started_more c.args.course.now.tries yielded (plan_sections sections) c.loop-processor.threads.items m section.items
           c.start_run_thread-thread.result inv.started (subst P same at) c.start_run_thread-thread.ensures);
     }

@@ -8,5 +8,5 @@ abbrev pub invariant-loop-processor : goal.invariant-loop-processor
 invariant-loop-processor g l = record {
   came : l.yielded ++ into_iter_items l.processor-iterator ≡ l.fn.processors.items;
   room : vec_len l.fn.processors ≤ vec_capacity l.threads;
-  started : AreThreadsStarted l.yielded (plan_sections l.sections) l.threads.items;
+  started : AreThreadsStarted l.course.tries l.yielded (plan_sections l.sections) l.threads.items;
 }

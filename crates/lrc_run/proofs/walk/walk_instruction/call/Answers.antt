@@ -13,7 +13,7 @@ pub returns-in-Store-clause-ok : goal.returns-in-Store-clause-ok
 returns-in-Store-clause-ok g c =
     let a = c.in-Store.address in
     let v = c.in-Store.value in
-    rw c.in-Store.is (instruction_call_tried (kind.Store a v ∷ []) (instruction.Store a v) c.args.processor.now
+    rw c.in-Store.is (instruction_call_tried (kind.Store a v) (instruction.Store a v) c.args.processor.now
     c.store.new.processor c.store.result refl c.store.ensures)
 
 pub returns-in-Add-clause-ok : goal.returns-in-Add-clause-ok
