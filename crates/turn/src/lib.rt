@@ -28,10 +28,12 @@
 //! nothing changed; `turns_law` of both locks, that the numbers are served in turn and one chair at most is inside; that
 //! [`Turn::confer`] gives a chair what both chairs know, and so what a thread left by one of them.
 //!
-//! **What is only tested**: that waiting chairs get in, though their threads sleep; the words of both boards. Fairness, time
+//! **What is only tested**: that waiting chairs get in, though their threads sleep; the words of both boards; that who listens
+//! to a [`Bell`] sleeps until it is told. Fairness, time
 //! and that `enter` returns are neither proved nor promised.
 #![tactic(auto)]
 
+mod bell;
 mod boards;
 mod chair;
 mod laws;
@@ -39,6 +41,7 @@ mod lock;
 mod sleepers;
 mod turn;
 
+pub use bell::Bell;
 pub use chair::{Chair, ChairToken, Held, Spent};
 pub use lock::{ArrayLock, TicketLock};
 pub use turn::{Keeper, Lesson, Outcome, Turn};
