@@ -3,6 +3,7 @@
 use crate::columns::{Columns, columns_of};
 use crate::extent::Extent;
 use crate::findings::{findings_of, race_finding_of};
+use crate::halting::put_trace_waits;
 use crate::held_now::HeldNow;
 use crate::notes::HistoryNotes;
 use crate::stale_copies::StaleCopies;
@@ -35,21 +36,20 @@ fn put_chronicle_event(
     }
 }
 
-/// Puts a line for each event that is told, under the line of titles. `held` is what is held before the first event, and then
-/// what is held at the end. The only error is running out of memory.
+/// Puts a line for each event that is told, under the line of titles. The only error is running out of memory.
 fn put_chronicle_events(
     text: &mut ProseText,
-    held: &mut HeldNow,
     alloc: Global,
     known: &HistoryNotes<'_>,
     layout: &Columns,
     told: &[bool],
 ) -> Result<(), AllocError> {
+    let mut held = HeldNow::new(alloc, known.sizes.processors)?;
     let mut stale = StaleCopies::new(alloc);
     layout.put_titles(text);
     for (place, event) in known.events.iter().enumerate() {
         if told.get(place) == Some(&true) {
-            put_chronicle_event(text, held, &stale, known, layout, place, *event);
+            put_chronicle_event(text, &held, &stale, known, layout, place, *event);
         }
         held.note(place, *event)?;
         stale.note(*event, known.dues(place))?;
@@ -85,7 +85,6 @@ fn chronicle_tells(
 /// Puts what is known of a history, of which these events are told, and an empty line. The only error is running out of memory.
 fn put_chronicle_of_known(
     text: &mut ProseText,
-    held: &mut HeldNow,
     alloc: Global,
     part: &Part,
     known: &HistoryNotes<'_>,
@@ -101,16 +100,14 @@ fn put_chronicle_of_known(
         last,
     )?;
     put_chronicle_cut(text, known.numbers.cut);
-    put_chronicle_events(text, held, alloc, known, &layout, told)?;
+    put_chronicle_events(text, alloc, known, &layout, told)?;
     text.end_line();
     Ok(())
 }
 
-/// Puts as much of the history, and an empty line. `held` is what is held before the first event, and then what is held at the
-/// end. The only error is running out of memory.
+/// Puts as much of the history, and an empty line. The only error is running out of memory.
 fn put_chronicle_of_history(
     text: &mut ProseText,
-    held: &mut HeldNow,
     alloc: Global,
     extent: &Extent,
     history: &ToldHistory<'_>,
@@ -119,7 +116,7 @@ fn put_chronicle_of_history(
     let asked: &[bool] = if extent.state { &told } else { &[] };
     let found = findings_of(alloc, history.history, extent.pages, asked)?;
     let known = HistoryNotes::new(*history, &found);
-    put_chronicle_of_known(text, held, alloc, &extent.part, &known, &told)
+    put_chronicle_of_known(text, alloc, &extent.part, &known, &told)
 }
 
 /// Puts the sentences on the first race, where there is one, and an empty line behind them. The only error is running out of
@@ -141,26 +138,28 @@ fn put_chronicle_race(
     Ok(())
 }
 
-/// Puts as much of the history of a run, then the first race, and an empty line. `held` is what is held before the first event,
-/// and then what is held at the end. The only error is running out of memory.
+/// Puts as much of the history of a run, then the first race, and an empty line. The only error is running out of memory.
 pub fn put_chronicle(
     text: &mut ProseText,
-    held: &mut HeldNow,
     alloc: Global,
     extent: &Extent,
     history: &History<'_>,
 ) -> Result<(), AllocError> {
-    put_chronicle_of_history(text, held, alloc, extent, &ToldHistory::of_run(history))?;
+    put_chronicle_of_history(text, alloc, extent, &ToldHistory::of_run(history))?;
     put_chronicle_race(text, alloc, history)
 }
 
-/// Puts as much of the history of a trace, and an empty line. The only error is running out of memory.
+/// Puts as much of the history of a trace, and an empty line; then who waits for whom if it can't go on, unless its last event is
+/// a lie. The only error is running out of memory.
 pub fn put_chronicle_of_trace(
     text: &mut ProseText,
     alloc: Global,
     extent: &Extent,
     history: &ToldHistory<'_>,
 ) -> Result<(), AllocError> {
-    let mut held = HeldNow::new(alloc, history.history.sizes().processors)?;
-    put_chronicle_of_history(text, &mut held, alloc, extent, history)
+    put_chronicle_of_history(text, alloc, extent, history)?;
+    if history.lie.is_none() {
+        put_trace_waits(text, alloc, history.history)?;
+    }
+    Ok(())
 }

@@ -1,63 +1,60 @@
-//! For what each processor of a run waits that can't go on.
+//! For what each processor waits at the end of a history that can't go on.
 
-use crate::held_now::HeldNow;
-use crate::marked_processors::MarkedProcessors;
-use journal::{Event, Kind};
+use causes::{Wait, final_waits};
 use judge::{History, MOST_JUDGED_PROCESSORS};
 use lrc_prose::text::ProseText;
+use std::alloc::{AllocError, Global};
 
-/// A run that can't go on: what is held at its end, and the last event of each processor.
+/// The end of a history: for what each processor waits there.
 #[derive(Clone, Copy)]
 pub struct Halted<'a> {
-    pub held: &'a HeldNow,
-    pub last: &'a [Option<Kind>; MOST_JUDGED_PROCESSORS],
+    pub waits: &'a [Wait],
     /// Whether something was cut off.
     pub is_cut: bool,
 }
 
-/// The last event of each processor.
-pub fn last_of_halted(events: &[Event]) -> [Option<Kind>; MOST_JUDGED_PROCESSORS] {
-    let mut last = [None; MOST_JUDGED_PROCESSORS];
-    for event in events {
-        if let Some(kind) = last.get_mut(event.processor) {
-            *kind = Some(event.kind);
-        }
+/// The one processor of these; None if there is none, or more than one.
+fn single_absent(absent: &[usize]) -> Option<usize> {
+    match absent {
+        [single] => Some(*single),
+        _ => None,
     }
-    last
+}
+
+/// Whether what is waited for can't come before another processor does something.
+fn is_wait_in_vain(wait: &Wait) -> bool {
+    match wait {
+        Wait::Nothing => false,
+        Wait::Lock {
+            holder,
+            earlier,
+            ..
+        } => holder.is_some() || !earlier.is_empty(),
+        Wait::Flag { set, .. } => !*set,
+        Wait::Barrier { absent } => !absent.is_empty(),
+    }
+}
+
+/// Puts these processors, with commas between.
+fn put_absent(text: &mut ProseText, absent: &[usize]) {
+    let mut front = "p";
+    for processor in absent {
+        text.put_number(front, *processor);
+        front = ", p";
+    }
 }
 
 impl Halted<'_> {
-    /// The last event of the processor.
-    fn last(&self, processor: usize) -> Option<Kind> {
-        let last = self.last;
-        match last.get(processor) {
-            Some(last) => *last,
-            None => None,
-        }
-    }
-
-    /// Those that the processor waits for at the barrier.
-    fn missing(&self, processor: usize) -> MarkedProcessors<'_> {
-        MarkedProcessors {
-            marks: self.held.arrived(),
-            mark: false,
-            but: processor,
-        }
-    }
-
     /// Whether the processor waits.
     pub fn waits(&self, processor: usize) -> bool {
-        match self.last(processor) {
-            Some(Kind::Ask(_) | Kind::Arrive | Kind::Watch(_)) => true,
-            _ => false,
-        }
+        !matches!(self.waits.get(processor), None | Some(Wait::Nothing))
     }
 
     /// The one processor that the processor waits for; None where it is none or more than one.
     pub fn waits_for(&self, processor: usize) -> Option<usize> {
-        match self.last(processor)? {
-            Kind::Ask(lock) => self.held.lock(lock).holder,
-            Kind::Arrive => self.missing(processor).single(),
+        match self.waits.get(processor)? {
+            Wait::Lock { holder, .. } => *holder,
+            Wait::Barrier { absent } => single_absent(absent.as_slice()),
             _ => None,
         }
     }
@@ -66,7 +63,7 @@ impl Halted<'_> {
     fn circle(&self, processor: usize) -> Option<usize> {
         let mut least = processor;
         let mut next = self.waits_for(processor)?;
-        for _ in 0..16 {
+        for _ in 0..MOST_JUDGED_PROCESSORS {
             if next == processor {
                 return Some(least);
             }
@@ -76,28 +73,48 @@ impl Halted<'_> {
         None
     }
 
+    /// Whether the processor is in a circle, or waits for one that is, or for one that waits so.
+    fn hangs(&self, processor: usize) -> bool {
+        let mut at = processor;
+        for _ in 0..MOST_JUDGED_PROCESSORS {
+            if self.circle(at).is_some() {
+                return true;
+            }
+            match self.waits_for(at) {
+                Some(next) => at = next,
+                None => return false,
+            }
+        }
+        false
+    }
+
+    /// Whether each processor waits, and what it waits for has come for none.
+    fn is_deadlock(&self) -> bool {
+        self.waits.iter().all(|wait| is_wait_in_vain(wait))
+    }
+
     /// Puts what the processor waits for.
     pub fn put_wait(&self, text: &mut ProseText, processor: usize) {
-        match self.last(processor) {
-            Some(Kind::Ask(lock)) => {
-                text.put_number("waits for lock ", lock);
-                self.put_holder(text, lock);
+        match self.waits.get(processor) {
+            Some(Wait::Lock { lock, holder, .. }) => {
+                text.put_number("waits for lock ", *lock);
+                self.put_holder(text, *holder);
             }
-            Some(Kind::Arrive) => {
+            Some(Wait::Barrier { absent }) => {
                 text.put("waits at the barrier for ");
-                self.missing(processor).put(text);
+                put_absent(text, absent.as_slice());
             }
-            Some(Kind::Watch(flag)) => {
-                text.put_number("waits for flag ", flag);
+            Some(Wait::Flag { flag, .. }) => {
+                text.put_number("waits for flag ", *flag);
                 text.put(", which nobody has set, and nobody is left who does");
             }
             _ => text.put("waits for nothing"),
         }
     }
 
-    /// Puts who holds the lock.
-    fn put_holder(&self, text: &mut ProseText, lock: usize) {
-        match self.held.lock(lock).holder {
+    /// Puts who holds a lock that is waited for.
+    fn put_holder(&self, text: &mut ProseText, holder: Option<usize>) {
+        match holder {
             Some(holder) => text.put_number(", held by p", holder),
             None if self.is_cut => text.put(", held since before the cut"),
             None => {}
@@ -107,7 +124,7 @@ impl Halted<'_> {
     /// Puts what the others of the processor's circle wait for.
     fn put_circle(&self, text: &mut ProseText, processor: usize) {
         let mut at = processor;
-        for _ in 0..16 {
+        for _ in 0..MOST_JUDGED_PROCESSORS {
             match self.waits_for(at) {
                 Some(next) if next != processor => at = next,
                 _ => {
@@ -136,15 +153,45 @@ impl Halted<'_> {
     }
 }
 
-/// Puts what each processor waits for where this is held at the end of the history.
-pub fn put_halted_waits(text: &mut ProseText, held: &HeldNow, history: &History<'_>) {
-    let last = last_of_halted(history.left());
+/// Puts what each processor waits for at the end of the history of a run that can't go on. The only error is running out of memory.
+pub fn put_halted_waits(
+    text: &mut ProseText,
+    alloc: Global,
+    history: &History<'_>,
+) -> Result<(), AllocError> {
+    let waits = final_waits(alloc, history)?;
     let halted = Halted {
-        held,
-        last: &last,
+        waits: waits.as_slice(),
         is_cut: history.cut_events() > 0,
     };
-    for processor in 0..held.arrived().len() {
+    for processor in 0..waits.len() {
         halted.put_processor(text, processor);
     }
+    Ok(())
+}
+
+/// Puts who waits for whom at the end of a trace that can't go on, and an empty line: what each processor waits for, if what they
+/// wait for has come for none; else those that wait for each other in a circle, and those that wait for one of these. Others may
+/// go on after the trace's end, so nothing is told of them. The only error is running out of memory.
+pub fn put_trace_waits(
+    text: &mut ProseText,
+    alloc: Global,
+    history: &History<'_>,
+) -> Result<(), AllocError> {
+    let waits = final_waits(alloc, history)?;
+    let halted = Halted {
+        waits: waits.as_slice(),
+        is_cut: history.cut_events() > 0,
+    };
+    let is_deadlock = halted.is_deadlock();
+    let start = text.lines_len();
+    for processor in 0..waits.len() {
+        if is_deadlock || halted.hangs(processor) {
+            halted.put_processor(text, processor);
+        }
+    }
+    if text.lines_len() > start {
+        text.end_line();
+    }
+    Ok(())
 }

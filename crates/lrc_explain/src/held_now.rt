@@ -16,8 +16,6 @@ pub struct PastDeed {
 pub struct LockState {
     /// Who holds it.
     pub holder: Option<usize>,
-    /// Who asked for it last, where it isn't granted yet.
-    pub asker: Option<usize>,
     /// Its last release.
     pub released: Option<PastDeed>,
 }
@@ -25,14 +23,22 @@ pub struct LockState {
 /// Of a lock of which there was nothing.
 const UNTOUCHED: LockState = LockState {
     holder: None,
-    asker: None,
     released: None,
 };
+
+/// An ask that isn't granted yet: for which lock, and where it stands.
+#[derive(Clone, Copy)]
+struct OpenAsk {
+    lock: usize,
+    place: usize,
+}
 
 /// What is held, set and arrived after a history's front.
 #[derive(Drop)]
 pub struct HeldNow {
     locks: BTreeMap<usize, LockState>,
+    /// The open ask of each processor, which has one at most.
+    asks: Vec<Option<OpenAsk>>,
     /// The first set of each flag.
     flags: BTreeMap<usize, PastDeed>,
     /// Whether each processor has arrived at the barrier's open episode.
@@ -44,6 +50,7 @@ impl HeldNow {
     pub fn new(alloc: Global, processors: usize) -> Result<HeldNow, AllocError> {
         Ok(HeldNow {
             locks: BTreeMap::new(alloc),
+            asks: vec![in alloc; None; processors]?,
             flags: BTreeMap::new(alloc),
             arrived: vec![in alloc; false; processors]?,
         })
@@ -55,6 +62,23 @@ impl HeldNow {
             Some(state) => *state,
             None => UNTOUCHED,
         }
+    }
+
+    /// Who asked for the lock last of those whose asks aren't granted yet. Where locks needn't be granted in the order of the
+    /// asks, an earlier ask may be open longer than a later one.
+    pub fn asker(&self, lock: usize) -> Option<usize> {
+        let mut asker = None;
+        let mut last = 0;
+        for (processor, ask) in self.asks.iter().enumerate() {
+            if let Some(ask) = ask
+                && ask.lock == lock
+                && last <= ask.place
+            {
+                asker = Some(processor);
+                last = ask.place;
+            }
+        }
+        asker
     }
 
     /// The first set of the flag.
@@ -77,6 +101,13 @@ impl HeldNow {
         }
     }
 
+    /// The processor's open ask from now on.
+    fn put_ask(&mut self, processor: usize, ask: Option<OpenAsk>) {
+        if let Some(open) = self.asks.get_mut(processor) {
+            *open = ask;
+        }
+    }
+
     /// The lock's new state.
     fn put_lock(&mut self, lock: usize, state: LockState) -> Result<(), AllocError> {
         self.locks.insert(lock, state)?;
@@ -96,30 +127,24 @@ impl HeldNow {
         let processor = event.processor;
         match event.kind {
             Kind::Ask(lock) => {
-                let asker = Some(processor);
-                self.put_lock(
-                    lock,
-                    LockState {
-                        asker,
-                        ..self.lock(lock)
-                    },
-                )
+                self.put_ask(processor, Some(OpenAsk { lock, place }));
+                Ok(())
             }
-            Kind::Acquire(lock) => self.put_lock(
-                lock,
-                held_now_acquired(self.lock(lock), processor),
-            ),
-            Kind::Release(lock) => {
-                let released = Some(PastDeed { place, processor });
-                let holder = None;
+            Kind::Acquire(lock) => {
+                self.put_ask(processor, None);
+                let holder = Some(processor);
                 self.put_lock(
                     lock,
                     LockState {
                         holder,
-                        released,
                         ..self.lock(lock)
                     },
                 )
+            }
+            Kind::Release(lock) => {
+                let released = Some(PastDeed { place, processor });
+                let holder = None;
+                self.put_lock(lock, LockState { holder, released })
             }
             Kind::Set(flag) => self.put_set(flag, PastDeed { place, processor }),
             Kind::Arrive => {
@@ -128,18 +153,5 @@ impl HeldNow {
             }
             _ => Ok(()),
         }
-    }
-}
-
-/// The lock's state where the processor acquires it.
-fn held_now_acquired(state: LockState, processor: usize) -> LockState {
-    let asker = match state.asker {
-        Some(asker) if asker != processor => Some(asker),
-        _ => None,
-    };
-    LockState {
-        holder: Some(processor),
-        asker,
-        ..state
     }
 }

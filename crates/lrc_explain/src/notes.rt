@@ -2,7 +2,7 @@
 
 use crate::earlier::Earlier;
 use crate::findings::Findings;
-use crate::held_now::{HeldNow, LockState, PastDeed};
+use crate::held_now::{HeldNow, PastDeed};
 use crate::journey::JourneyCrossings;
 use crate::marked_processors::MarkedProcessors;
 use crate::rivals::Rival;
@@ -373,7 +373,7 @@ impl HistoryNotes<'_> {
         match event.kind {
             Kind::Load(address, _) => self.put_load(text, place, address),
             Kind::Fetch { records, words, .. } => put_fetch_note(text, records, words),
-            Kind::Ask(lock) => put_ask_note(text, lock, held.lock(lock)),
+            Kind::Ask(lock) => put_ask_note(text, lock, held),
             Kind::Acquire(lock) => put_acquire_note(text, self.numbers, held.lock(lock).released),
             Kind::Watch(flag) => put_watch_note(text, self.numbers, flag, held.set(flag)),
             Kind::Await(flag) => self.put_await(text, place, held.set(flag)),
@@ -462,13 +462,13 @@ fn put_fetch_note(text: &mut ProseText, records: u32, words: u32) {
     text.put_count(words as usize, "word");
 }
 
-/// Puts what is said of an ask for a lock in this state.
-fn put_ask_note(text: &mut ProseText, lock: usize, state: LockState) {
-    if let Some(asker) = state.asker {
+/// Puts what is said of an ask for the lock, before which this is held.
+fn put_ask_note(text: &mut ProseText, lock: usize, held: &HeldNow) {
+    if let Some(asker) = held.asker(lock) {
         text.put_number("waits: p", asker);
         text.put_number(" asked for lock ", lock);
         text.put(" before it");
-    } else if let Some(holder) = state.holder {
+    } else if let Some(holder) = held.lock(lock).holder {
         text.put_number("waits: p", holder);
         text.put_number(" holds lock ", lock);
     }

@@ -8,7 +8,6 @@ use crate::chronicle::{put_chronicle, put_chronicle_of_trace};
 use crate::extent::Extent;
 use crate::fault::ExplainFault;
 use crate::halting::put_halted_waits;
-use crate::held_now::HeldNow;
 use crate::told_history::ToldHistory;
 use conformance::Ended;
 use judge::History;
@@ -25,10 +24,9 @@ fn render_explained_run(
     extent: &Extent,
     ended: &Ended,
 ) -> Result<(), AllocError> {
-    let mut held = HeldNow::new(alloc, history.sizes().processors)?;
-    put_chronicle(text, &mut held, alloc, extent, history)?;
+    put_chronicle(text, alloc, extent, history)?;
     if let Ended::Halted(_) = ended {
-        put_halted_waits(text, &held, history);
+        put_halted_waits(text, alloc, history)?;
     }
     Ok(())
 }

@@ -1,12 +1,12 @@
 //! What a picture has of a run besides its events: what is said of each, which loads answer which stores, who waits for whom.
 
 use crate::findings::{Findings, findings_of};
-use crate::halting::{Halted, last_of_halted};
+use crate::halting::Halted;
 use crate::held_now::HeldNow;
 use crate::notes::HistoryNotes;
 use crate::stale_copies::StaleCopies;
 use crate::told_history::{ProseNumbers, ToldHistory};
-use causes::Source;
+use causes::{Source, final_waits};
 use judge::History;
 use lrc_prose::text::ProseText;
 use std::alloc::{AllocError, Global};
@@ -30,15 +30,15 @@ pub struct Sketch {
 /// Adds of each event that is left what is said of it. The only error is running out of memory.
 fn add_sketch_notes(
     notes: &mut Vec<Vec<u8>>,
-    held: &mut HeldNow,
     alloc: Global,
     known: &HistoryNotes<'_>,
 ) -> Result<(), AllocError> {
+    let mut held = HeldNow::new(alloc, known.sizes.processors)?;
     let mut stale = StaleCopies::new(alloc);
     for (place, event) in known.events.iter().enumerate() {
         if !known.numbers.is_cut(place) {
             let mut text = ProseText::new(alloc);
-            known.put_note(&mut text, held, &stale, place, *event);
+            known.put_note(&mut text, &held, &stale, place, *event);
             notes.push(text.into_line()?)?;
         }
         held.note(place, *event)?;
@@ -147,18 +147,16 @@ fn sketch_holders_of(
     Ok(holders)
 }
 
-/// What is told of the events of the history, and of its pages, if these are told. `held` is what is held before the first event,
-/// and then what is held at the end. The only error is running out of memory.
+/// What is told of the events of the history, and of its pages, if these are told. The only error is running out of memory.
 fn sketch_history(
     alloc: Global,
-    held: &mut HeldNow,
     history: &ToldHistory<'_>,
     pages: bool,
 ) -> Result<Sketch, AllocError> {
     let found = findings_of(alloc, history.history, pages, &[])?;
     let mut notes = Vec::new(alloc);
     let known = HistoryNotes::new(*history, &found);
-    add_sketch_notes(&mut notes, held, alloc, &known)?;
+    add_sketch_notes(&mut notes, alloc, &known)?;
     let numbers = known.numbers;
     let count = known.events.len();
     Ok(Sketch {
@@ -170,18 +168,16 @@ fn sketch_history(
     })
 }
 
-/// Adds who waits at the history's end, where this is held, for what and for whom. The only error is running out of memory.
+/// Adds who waits at the history's end, for what and for whom. The only error is running out of memory.
 fn add_sketch_waits(
     sketch: &mut Sketch,
     alloc: Global,
-    held: &HeldNow,
     history: &History<'_>,
 ) -> Result<(), AllocError> {
     let processors = history.sizes().processors;
-    let last = last_of_halted(history.left());
+    let waits = final_waits(alloc, history)?;
     let halted = Halted {
-        held,
-        last: &last,
+        waits: waits.as_slice(),
         is_cut: history.cut_events() > 0,
     };
     sketch.waits = sketch_waits_of(alloc, &halted, processors)?;
@@ -191,10 +187,9 @@ fn add_sketch_waits(
 
 /// What is told of the events of a run with this history, and of its pages. The only error is running out of memory.
 pub fn sketch_run(alloc: Global, history: &History<'_>) -> Result<Sketch, AllocError> {
-    let mut held = HeldNow::new(alloc, history.sizes().processors)?;
     let told = ToldHistory::of_run(history);
-    let mut sketch = sketch_history(alloc, &mut held, &told, true)?;
-    add_sketch_waits(&mut sketch, alloc, &held, history)?;
+    let mut sketch = sketch_history(alloc, &told, true)?;
+    add_sketch_waits(&mut sketch, alloc, history)?;
     Ok(sketch)
 }
 
@@ -205,6 +200,5 @@ pub fn sketch_trace(
     history: &ToldHistory<'_>,
     pages: bool,
 ) -> Result<Sketch, AllocError> {
-    let mut held = HeldNow::new(alloc, history.history.sizes().processors)?;
-    sketch_history(alloc, &mut held, history, pages)
+    sketch_history(alloc, history, pages)
 }

@@ -2,7 +2,7 @@
 use itoa::{Buffer, Integer};
 use std::alloc::{AllocError, Global};
 
-/// How many columns a line has at most, unless a single word is longer.
+/// How many columns a line has at most.
 const WIDTH: usize = 100;
 
 /// How far the lines that continue another are indented at least, and at most.
@@ -50,25 +50,54 @@ impl ProseTextSink {
         Ok(bytes)
     }
 
-    /// Adds these words, of which the first comes at this column, so that no line is too long: each word that doesn't fit
-    /// begins a line, which is indented so far.
-    fn put_words(&mut self, words: &[u8], first: usize, indent: usize) {
+    /// Begins a line that continues another, indented so far.
+    fn continue_line(&mut self, indent: usize) {
+        self.grow(b"\n");
+        self.pad(indent);
+    }
+
+    /// Adds a word from this column on, which is cut where a line is full, and goes on in the next one, indented so far. Returns
+    /// the column after it.
+    fn put_in_pieces(&mut self, word: &[u8], first: usize, indent: usize) -> usize {
+        let mut rest = word;
         let mut column = first;
-        let mut is_first = true;
-        for word in words.split(|byte| *byte == b' ') {
-            let end = column.saturating_add(word.len()).saturating_add(1);
-            if is_first {
-                column = column.saturating_add(word.len());
-            } else if end > WIDTH {
-                self.grow(b"\n");
-                self.pad(indent);
-                column = indent.saturating_add(word.len());
-            } else {
-                self.grow(b" ");
-                column = end;
+        for _ in 0..word.len() {
+            match rest.split_at_checked(WIDTH.saturating_sub(column)) {
+                Some((piece, behind)) if !behind.is_empty() => {
+                    self.grow(piece);
+                    self.continue_line(indent);
+                    rest = behind;
+                    column = indent;
+                }
+                _ => break,
             }
-            self.grow(word);
-            is_first = false;
+        }
+        self.grow(rest);
+        column.saturating_add(rest.len())
+    }
+
+    /// Adds a word after another one that ends at this column, on the same line or at the beginning of the next one, which is
+    /// indented so far. Returns the column after it.
+    fn put_next_word(&mut self, word: &[u8], column: usize, indent: usize) -> usize {
+        let start = column.saturating_add(1);
+        if start.saturating_add(word.len()) <= WIDTH {
+            self.grow(b" ");
+            return self.put_in_pieces(word, start, indent);
+        }
+        self.continue_line(indent);
+        self.put_in_pieces(word, indent, indent)
+    }
+
+    /// Adds these words, of which the first comes at this column, so that no line is too long: each word that doesn't fit
+    /// begins a line, which is indented so far; one that is longer than a line is cut.
+    fn put_words(&mut self, words: &[u8], first: usize, indent: usize) {
+        let mut words = words.split(|byte| *byte == b' ');
+        let Some(word) = words.next() else {
+            return;
+        };
+        let mut column = self.put_in_pieces(word, first, indent);
+        for word in words {
+            column = self.put_next_word(word, column, indent);
         }
     }
 }
@@ -99,6 +128,11 @@ impl ProseText {
     /// How long the line is, with the spaces that are left.
     pub fn len(&self) -> usize {
         self.line.bytes.len().saturating_add(self.gap)
+    }
+
+    /// How long the lines are that are ended.
+    pub fn lines_len(&self) -> usize {
+        self.lines.bytes.len()
     }
 
     /// Adds these words.
