@@ -2,10 +2,10 @@
 
 use crate::hints::amiss::{
     Amiss, amiss_in, amiss_not_a_number, amiss_not_a_size, amiss_number_not_below, amiss_word_at,
-    place_of_amiss,
+    is_event_line, place_of_amiss,
 };
 use crate::hints::excerpt::excerpt_line_at;
-use crate::hints::forms::form_meant;
+use crate::hints::forms::{Form, form_meant};
 use base::{MOST_FLAGS, MOST_LOCKS, MOST_PAGES, MOST_PROCESSORS, MOST_WORDS};
 use lrc_script::fault::ScriptFault;
 use lrc_script::line::split_script_line_at;
@@ -105,8 +105,43 @@ fn advice_cause_of(amiss: Amiss) -> &'static str {
         Amiss::Tab(_) => "  a tab stands there: one space stands between two words\n",
         Amiss::Indented => "  lines aren't indented\n",
         Amiss::Spaces(_) => "  one space stands between two words, and none at the end\n",
-        Amiss::Unknown | Amiss::Count(_) | Amiss::Misplaced => "",
+        Amiss::Unknown | Amiss::Count(_) | Amiss::Event | Amiss::Misplaced => "",
     }
+}
+
+/// Whether a line of this form may stand there: the first one alone is `cluster`, and `show` comes after all sections.
+fn is_form_due(form: Form, at: FaultyLine<'_>, bounds: Bounds) -> bool {
+    let sections = advice_sections_before(at);
+    match form.word {
+        "cluster" => at.number == 1,
+        "p" => at.number > 1 && sections < bounds.processors,
+        "show" => at.number > 1 && sections >= bounds.processors,
+        _ => at.number > 2,
+    }
+}
+
+/// What is amiss in the line: one whose form isn't due there is misplaced, however many words it has.
+fn amiss_at(at: FaultyLine<'_>, bounds: Bounds) -> Amiss {
+    match amiss_in(at.line) {
+        Amiss::Count(form) if !is_form_due(form, at, bounds) => Amiss::Misplaced,
+        amiss => amiss,
+    }
+}
+
+/// Whether the text is a trace: its second line is an event's.
+fn is_trace(script: &[u8]) -> bool {
+    is_event_line(excerpt_line_at(script, 2))
+}
+
+/// Adds that the text is a trace, if it is one: whether it is.
+fn put_trace_advice(text: &mut String, at: FaultyLine<'_>) -> Result<bool, AllocError> {
+    if !is_trace(at.script) {
+        return Ok(false);
+    }
+    text.push_str(
+        "  this is a trace: lrc check FILE judges it, and lrc explain --trace FILE tells it\n",
+    )?;
+    Ok(true)
 }
 
 /// Adds what is said of a line that isn't understood.
@@ -116,14 +151,17 @@ fn put_line_advice(
     at: FaultyLine<'_>,
     bounds: Bounds,
 ) -> Result<(), AllocError> {
-    let amiss = amiss_in(at.line);
+    if put_trace_advice(text, at)? {
+        return Ok(());
+    }
+    let amiss = amiss_at(at, bounds);
     match amiss {
         Amiss::Count(form) => {
             let written = form.written;
             write!(text, "  expected {written}\n")
         }
         Amiss::Misplaced => put_due_advice(text, at, bounds),
-        Amiss::Unknown => {
+        Amiss::Event | Amiss::Unknown => {
             put_due_advice(text, at, bounds)?;
             put_meant_advice(alloc, text, at.line)
         }
@@ -170,6 +208,17 @@ fn put_count_advice(text: &mut String, at: FaultyLine<'_>) -> Result<(), AllocEr
     }
 }
 
+/// Adds what is said of sizes that are out of range. A trace may have greater ones.
+fn put_size_advice(text: &mut String, at: FaultyLine<'_>) -> Result<(), AllocError> {
+    if put_trace_advice(text, at)? {
+        return Ok(());
+    }
+    write!(
+        text,
+        "  expected 1 to {MOST_PROCESSORS} processors, 1 to {MOST_PAGES} pages, 1 to {MOST_WORDS} words, 0 to {MOST_LOCKS} locks, 1 to {MOST_FLAGS} flags\n"
+    )
+}
+
 /// What may stand there, and the likely cause, each in a line that begins with two spaces.
 pub(crate) fn hint_advice(alloc: Global, at: FaultyLine<'_>) -> Result<String, AllocError> {
     let mut text = String::new(alloc);
@@ -178,10 +227,7 @@ pub(crate) fn hint_advice(alloc: Global, at: FaultyLine<'_>) -> Result<String, A
         ScriptFault::Truncated => put_end_advice(&mut text, at, bounds)?,
         ScriptFault::BadLine => put_line_advice(alloc, &mut text, at, bounds)?,
         ScriptFault::BadNumber => put_number_advice(&mut text, at)?,
-        ScriptFault::BadSize => write!(
-            text,
-            "  expected 1 to {MOST_PROCESSORS} processors, 1 to {MOST_PAGES} pages, 1 to {MOST_WORDS} words, 0 to {MOST_LOCKS} locks, 1 to {MOST_FLAGS} flags\n"
-        )?,
+        ScriptFault::BadSize => put_size_advice(&mut text, at)?,
         ScriptFault::OutOfRange => put_bound_advice(&mut text, "an address", bounds.addresses)?,
         ScriptFault::BadLock => put_bound_advice(&mut text, "a lock", bounds.locks)?,
         ScriptFault::BadFlag => put_bound_advice(&mut text, "a flag", bounds.flags)?,
@@ -202,7 +248,10 @@ pub(crate) fn hint_advice(alloc: Global, at: FaultyLine<'_>) -> Result<String, A
 pub(crate) fn advice_on_faulty_word(alloc: Global, at: FaultyLine<'_>) -> usize {
     match at.fault {
         ScriptFault::Truncated => at.line.len(),
-        ScriptFault::BadLine => place_of_amiss(amiss_in(at.line), at.line),
+        ScriptFault::BadLine => place_of_amiss(
+            amiss_at(at, advice_bounds_of(alloc, at.script)),
+            at.line,
+        ),
         ScriptFault::BadNumber => amiss_not_a_number(at.line),
         ScriptFault::BadSize => amiss_not_a_size(at.line),
         ScriptFault::OutOfRange => amiss_number_not_below(

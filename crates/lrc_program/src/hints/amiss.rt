@@ -11,6 +11,8 @@ pub(crate) enum Amiss {
     Mark,
     /// It has no byte.
     Blank,
+    /// It is an event's, as traces have them.
+    Event,
     /// A comment begins with this word, counted from 0.
     Comment(usize),
     /// It ends with a carriage return.
@@ -77,6 +79,11 @@ fn amiss_of_spaces(line: &[u8]) -> Option<Amiss> {
     }
 }
 
+/// Whether the line is an event's, as traces have them.
+pub(crate) fn is_event_line(line: &[u8]) -> bool {
+    line.starts_with(b"event ")
+}
+
 /// What is amiss in a line that isn't understood.
 pub(crate) fn amiss_in(line: &[u8]) -> Amiss {
     if line.is_empty() {
@@ -84,6 +91,9 @@ pub(crate) fn amiss_in(line: &[u8]) -> Amiss {
     }
     if line.starts_with(b"\xef\xbb\xbf") {
         return Amiss::Mark;
+    }
+    if is_event_line(line) {
+        return Amiss::Event;
     }
     if let Some(word) = amiss_comment(line) {
         return Amiss::Comment(word);
@@ -109,7 +119,7 @@ pub(crate) fn amiss_word_at(line: &[u8], word: usize) -> usize {
 /// Where a line that isn't understood is at fault: behind how many bytes.
 pub(crate) fn place_of_amiss(amiss: Amiss, line: &[u8]) -> usize {
     match amiss {
-        Amiss::Mark | Amiss::Blank | Amiss::Indented | Amiss::Unknown => 0,
+        Amiss::Mark | Amiss::Blank | Amiss::Event | Amiss::Indented | Amiss::Unknown => 0,
         Amiss::Comment(word) | Amiss::Spaces(word) => amiss_word_at(line, word),
         Amiss::Return => line.len().saturating_sub(1),
         Amiss::Tab(at) => at,
