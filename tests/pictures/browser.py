@@ -35,6 +35,23 @@ output.textContent = JSON.stringify(seen);
 document.body.append(output);
 </script>
 """
+# What tells, behind a page's own script, how large the window is, and where the picture, the state, its slider and its tables
+# are at each step: left, top, right and bottom, in pixels.
+MEASURE = """<script>
+const measured = [];
+const place = (it) => { const box = it.getBoundingClientRect(); return [box.left, box.top, box.right, box.bottom].map(Math.round); };
+const named = (id) => place(document.getElementById(id));
+for (let n = Number(slider.min); n <= Number(slider.max); n += 1) {
+  show(n);
+  measured.push({ at: n, window: [innerWidth, innerHeight], picture: named("picture"), state: named("state"), slider: named("at"),
+    tables: Array.from(document.querySelectorAll("#state table"), place) });
+}
+const output = document.createElement("pre");
+output.id = "seen";
+output.textContent = JSON.stringify(measured);
+document.body.append(output);
+</script>
+"""
 SEEN = re.compile(r'<pre id="seen">(.*?)</pre>', re.S)
 
 
@@ -59,10 +76,19 @@ class Browser:
 
     def seen(self, page):
         """What a page shows while it is stepped through."""
+        return self.told(page, DRIVER)
+
+    def measured(self, page, size):
+        """Where a page's parts are at each step, in a window of this size."""
+        width, height = size
+        return self.told(page, MEASURE, f"--window-size={width},{height}")
+
+    def told(self, page, driver, *words):
+        """What a page tells with this script behind its own."""
         with tempfile.TemporaryDirectory() as folder:
             file = Path(folder) / "page.html"
-            file.write_text(page.replace("</body>", DRIVER + "</body>"))
-            found = SEEN.search(self.call(folder, "--dump-dom", file.as_uri()))
+            file.write_text(page.replace("</body>", driver + "</body>"))
+            found = SEEN.search(self.call(folder, *words, "--dump-dom", file.as_uri()))
         if not found:
             raise Flaw("it doesn't hold that the page's script runs to its end")
         return json.loads(unescape(found[1]))

@@ -13,6 +13,8 @@ ROOT = Path(__file__).resolve().parent.parent.parent
 SVG = re.compile(r"<svg .*?</svg>", re.S)
 # The page that documents show, and after how many events.
 SHOWN, SHOWN_AT = "lock", 7
+# How wide and how high the window is in which slider and tables have to be in sight beside the picture.
+WINDOW = 1400, 900
 # Nothing that a file would fetch from elsewhere.
 OUTSIDE = re.compile(r'(?:src|href)="(?!#)|@import|url\((?!#)|https?://(?!www\.w3\.org/2000/svg)')
 
@@ -117,6 +119,36 @@ def sweep(program, browser, draw, number):
         if part is None and states and any(event.kind in CLOSING for event in story.events):
             found.trial(f"{name}: turned", script.text(), expect,
                         is_refused(story, script, range(story.processors), states), "states one event late are refused")
+    return found
+
+
+def four_that_store(pages, words):
+    """A script of four processors that store under a lock in each word of so many pages of so many words."""
+    lines = [f"cluster 4 {pages} {words} 1"]
+    for processor in range(4):
+        lines.append(f"p {processor}")
+        for address in range(processor, pages * words, 4):
+            lines += ["acquire 0", f"store {address} {100 + address}", "release 0"]
+    return "".join(f"{line}\n" for line in [*lines, "show 0"])
+
+
+def check_in_sight(program, browser, text):
+    """The state stands beside the picture at each step, with its slider and its tables in sight."""
+    for step in browser.measured(program.call(text, "explain", "--html").output, WINDOW):
+        state, picture, (width, height) = step["state"], step["picture"], step["window"]
+        expect(state[2] <= width and state[3] <= height, f"at {step['at']} the state is in the window: {step}")
+        expect(state[0] >= picture[2] and state[1] < picture[1] + 10, f"at {step['at']} the state stands beside the picture: {step}")
+        for left, top, right, bottom in [step["slider"], *step["tables"]]:
+            expect(state[0] <= left and right <= state[2] and state[1] <= top and bottom <= state[3],
+                   f"at {step['at']} slider and tables are in sight: {step}")
+
+
+def in_sight(program, browser):
+    """Looks where the parts of pages of four processors and sixteen words are."""
+    found = Found()
+    for pages, words in ((1, 16), (4, 4)):
+        text = four_that_store(pages, words)
+        found.trial(f"in sight: {pages} pages of {words} words", text, check_in_sight, program, browser, text)
     return found
 
 

@@ -55,8 +55,11 @@ pub fn put_headline_title(text: &mut Svg, story: &PictureStory<'_>, cutout: &Cut
     });
 }
 
-/// Puts the name of the file at this path, and a colon.
+/// Puts the name of the file at this path, and a colon. Standard input has none: its path is `-`.
 fn put_headline_name(text: &mut Svg, path: &str) {
+    if path == "-" {
+        return;
+    }
     let mut name = path.as_bytes();
     for part in path.as_bytes().split(|byte| *byte == b'/') {
         name = part;

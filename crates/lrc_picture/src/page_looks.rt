@@ -1,18 +1,21 @@
 //! What a page has in it whatever the run: how it looks, and the script that steps through it.
 
-/// How a page looks: the picture beside the state, one below the other where there is no room for both.
+/// How a page looks: the picture beside the state, each of which scrolls where it has too little room; in a narrow window one below
+/// the other.
 pub const PAGE_LOOKS: &str = "<style>
 :root{color-scheme:light dark}
 body{font:13px monospace;margin:8px;background:#fff;color:#222}
-main{display:flex;flex-wrap:wrap;gap:24px;align-items:flex-start}
-#picture{max-height:90vh;overflow:auto}
-#state{max-height:90vh;overflow:auto}
+main{display:flex;gap:24px;align-items:flex-start}
+#picture,#state{max-height:96vh;overflow:auto}
+#picture{flex:0 1 auto;max-width:calc(55% - 24px)}
+#state{flex:1 1 0;min-width:45%}
 #controls{position:sticky;top:0;background:#fff;padding:4px 0}
-#at{width:100%}
-#told{white-space:pre-wrap;min-height:3em;max-width:72ch}
-table{border-collapse:collapse;margin:0 0 12px}
+#at{width:100%;margin:0}
+#keys{margin:4px 0}
+#told{display:block;white-space:pre-wrap;min-height:3em;max-width:72ch}
+table{display:inline-table;vertical-align:top;border-collapse:collapse;margin:0 16px 12px 0}
 caption{text-align:left;font-weight:bold;padding:2px 0}
-th,td{border:1px solid #999;padding:1px 6px;text-align:right;font-weight:normal}
+th,td{border:1px solid #999;padding:1px 4px;text-align:right;font-weight:normal}
 td.text,td.valid,td.stale,th.text{text-align:left}
 td[data-new]{outline:2px solid #25a}
 td.stale{background:#fdd}
@@ -28,9 +31,15 @@ td.dirty{background:#440;color:#ddd}
 td[data-new]{outline-color:#8bf}
 #here{fill:#8bf;fill-opacity:.25}
 }
+@media screen and (max-width:900px){
+main{flex-wrap:wrap}
+#picture{max-width:100%}
+#state{flex-basis:100%}
+}
 @media print{
 #at,#keys{display:none}
-#picture,#state{max-height:none;overflow:visible}
+main{display:block}
+#picture,#state{max-width:none;max-height:none;overflow:visible}
 }
 </style>
 ";
