@@ -76,22 +76,28 @@ impl ProseTextSink {
         column.saturating_add(rest.len())
     }
 
+    /// Adds a word after another one that ends at this column, on the same line or at the beginning of the next one, which is
+    /// indented so far. Returns the column after it.
+    fn put_next_word(&mut self, word: &[u8], column: usize, indent: usize) -> usize {
+        let start = column.saturating_add(1);
+        if start.saturating_add(word.len()) <= WIDTH {
+            self.grow(b" ");
+            return self.put_in_pieces(word, start, indent);
+        }
+        self.continue_line(indent);
+        self.put_in_pieces(word, indent, indent)
+    }
+
     /// Adds these words, of which the first comes at this column, so that no line is too long: each word that doesn't fit
     /// begins a line, which is indented so far; one that is longer than a line is cut.
     fn put_words(&mut self, words: &[u8], first: usize, indent: usize) {
-        let mut column = first;
-        let mut is_first = true;
-        for word in words.split(|byte| *byte == b' ') {
-            let end = column.saturating_add(word.len()).saturating_add(1);
-            if !is_first && end > WIDTH {
-                self.continue_line(indent);
-                column = indent;
-            } else if !is_first {
-                self.grow(b" ");
-                column = column.saturating_add(1);
-            }
-            column = self.put_in_pieces(word, column, indent);
-            is_first = false;
+        let mut words = words.split(|byte| *byte == b' ');
+        let Some(word) = words.next() else {
+            return;
+        };
+        let mut column = self.put_in_pieces(word, first, indent);
+        for word in words {
+            column = self.put_next_word(word, column, indent);
         }
     }
 }

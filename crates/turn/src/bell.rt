@@ -1,4 +1,5 @@
 //! A bell: one thread sleeps until another one rings it.
+use crate::sleepers::LOOKS_AWAKE;
 use crossbeam_utils::{Backoff, CachePadded};
 use std::sync::Wait;
 use std::sync::atomic::AtomicU64;
@@ -10,10 +11,6 @@ const FORGOTTEN: u64 = 0;
 const TOLD: u64 = 1;
 /// Nothing was told, and the listener sleeps or is about to.
 const ASLEEP: u64 = 2;
-
-/// How often a waiting thread looks before it sleeps, with a pause of the processor after each look. It doesn't yield: if
-/// there are more threads than idle processors, a yield lets threads run that wait as it does.
-const LOOKS_AWAKE: u32 = 128;
 
 /// A bell, which others ring and one thread alone listens to. Before it sleeps it *forgets* what it was told; who may have
 /// brought what it waits for *tells* it.

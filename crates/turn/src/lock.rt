@@ -6,7 +6,7 @@ ghost use Rattle.turn.specs.declared.chair.ChairStage.TheVariants.{Outside, Wait
 
 use crate::boards::{ArrayBoard, Board, BoardLayout, Change, TicketBoard};
 use crate::chair::{Chair, ChairRun, ChairState, ChairToken, Held, Spent};
-use crate::sleepers::{Sleepers, low_half};
+use crate::sleepers::{LOOKS_AWAKE, Sleepers, low_half};
 use crate::turn::{Keeper, Lesson, Outcome, Turn};
 use atomic_table::{Join, Play, Seat, Split, Table, TableRule};
 use crossbeam_utils::Backoff;
@@ -135,11 +135,6 @@ type LockSeat<B, V> = Seat<Option<B>, ChairRun<ChairState<B, V>>>;
 
 /// The next number to draw.
 const NEXT: usize = 0;
-
-/// How often a waiting thread looks before it sleeps, with a pause of the processor after each look. The pauses don't grow,
-/// since in a queue the one that looks too late stops everybody behind it. It doesn't yield either: if there are more
-/// threads than idle processors, a yield lets threads run that wait as it does.
-const LOOKS_AWAKE: u32 = 128;
 
 /// A lock whose chairs draw numbers, and enter in the order of their numbers, on the board `W`.
 pub struct TurnLock<B, K: Keeper<B>, W: Board, const ENTRIES: u64> {

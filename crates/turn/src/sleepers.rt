@@ -16,6 +16,11 @@ use crossbeam_utils::CachePadded;
 use std::sync::atomic::AtomicU64;
 use std::sync::atomic::Ordering::SeqCst;
 
+/// How often a waiting thread looks before it sleeps, with a pause of the processor after each look. The pauses don't grow,
+/// since in a queue the one that looks too late stops everybody behind it. It doesn't yield either: if there are more
+/// threads than idle processors, a yield lets threads run that wait as it does.
+pub(crate) const LOOKS_AWAKE: u32 = 128;
+
 /// How many threads sleep, or are about to. The count stands beside the lock's table, and no rule speaks of it. It has a
 /// cache line of its own, which each leave reads.
 #[derive(Drop)]
