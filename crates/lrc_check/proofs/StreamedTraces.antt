@@ -1,5 +1,5 @@
 -- Traces that are judged as they are read.
-use Rattle.std.proofs.Common.{◌≡◌, ℕ, ◌≤◌, List, true≢false, [], ◌∷◌, ◌++◌, Option, Some, drop, length, take, subst, sym, refl, ap, ◌∙◌, append_assoc, arith, length-append}
+use Rattle.std.proofs.Common.{◌≡◌, ℕ, ◌≤◌, List, true≢false, [], ◌∷◌, ◌++◌, Option, Some, drop, length, take, subst, sym, refl, ap, ◌∙◌, append_assoc, append-nil, arith, length-append}
 use Rattle.std.specs.Prelude.{None, IfSome, MatchOption}
 use Rattle.std.proofs.lemmas.List.{take-append-drop}
 use Rattle.std.proofs.lemmas.Option.{get_or_from_slice_get, none-some, same_Some, slice_get_within}
@@ -16,11 +16,14 @@ use Rattle.lrc_check.specs.declared.traces.trace.TraceSizes.{TraceSizes}
 use Rattle.lrc_check.specs.HistoryJudge.{IsNextPartOfHistory}
 use Rattle.lrc_check.specs.Traces.Begun.{AreTraceSizesKept, IsTraceSoFar, trace_text_so_far}
 use Rattle.lrc_check.specs.CheckVerdicts.{IsTrueCheckVerdict}
-use Rattle.lrc_check.specs.FoundInBytes.{IsFoundInBytes}
-use Rattle.lrc_check.specs.Traces.FedText.{FedText, HasReadFedText, IsFedTextWhole}
+use Rattle.lrc_script.specs.ScriptFaults.{HasNoLineFeed}
+use Rattle.lrc_check.specs.FoundInBytes.{IsFoundInBytes, IsFoundInUnfinished}
+use Rattle.lrc_check.specs.Traces.FedText.{FedText, HasReadFedText, IsFedTextOf, IsFedTextWhole}
 use Rattle.lrc_check.specs.Traces.Labels.{without_trace_labels}
 use Rattle.lrc_check.specs.Traces.LawfulTraces.{IsLawfulTrace, IsWithinLawfulTrace}
 use Rattle.lrc_check.specs.Traces.Sizes.{trace_sizes_of}
+use Rattle.lrc_check.specs.Traces.TraceText.{trace_text}
+use Rattle.lrc_check.proofs.traces.Feeding.{feeding_unfinished}
 use Rattle.lrc_check.proofs.FoundRaces.{found_is_race}
 use Rattle.lrc_check.proofs.HistoryLocksets.{history_locksets_early}
 use Rattle.lrc_check.specs.TraceStreams.{HasStreamReadOn, IsStreamEnd, IsStreamEndOf, IsFoundInStream, IsStreamJudge, IsStreamJudgeOf}
@@ -128,6 +131,32 @@ stream_found x {bytes} {front} h found judge whole says = record {
       (same_Some judge.known whole.sizes (sym judge.sizes_are ∙ whole.known))
       (subst (λ s. IsTrueCheckVerdict x.rules s (front ++ x.reader.events) found) judge.judged_sizes
       (subst (λ r. IsTrueCheckVerdict r (judged_sizes_of h.judge.sizes) (front ++ x.reader.events) found) judge.rules_are says));
+}
+
+-- what is found of a text that may end here in the midst of a line
+pub stream_found_unfinished : (x : TraceStream) {bytes : List ℕ} {front : List Event} {told : List ℕ} (h : HistoryJudge) (found : Checked)
+    → IsStreamJudgeOf x.rules x.reader.sizes (front ++ x.reader.events) h → IsFedTextOf bytes front told x.reader
+    → HasNoLineFeed x.reader.unfinished
+    → IsTrueCheckVerdict h.rules (judged_sizes_of h.judge.sizes) (front ++ x.reader.events) found → IsFoundInUnfinished x.rules bytes found
+stream_found_unfinished x {bytes} {front} h found judge fed clean says = record {
+  sizes = trace_sizes_of judge.known;
+  events = front ++ x.reader.events;
+  trace = stream_trace judge.known x.reader.sizes x.reader.gone front x.reader.events judge.sizes_are fed.trace;
+  text_is = feeding_unfinished (trace_sizes_of judge.known) (front ++ x.reader.events) x.reader.unfinished bytes clean
+      (subst (λ s. trace_text_so_far s (front ++ x.reader.events) ++ without_trace_labels (x.reader.unfinished ++ [])
+      ≡ without_trace_labels (bytes ++ [])) judge.sizes_are (fed.text []));
+  checked = subst (λ s. IsTrueCheckVerdict x.rules s (front ++ x.reader.events) found) judge.judged_sizes
+      (subst (λ r. IsTrueCheckVerdict r (judged_sizes_of h.judge.sizes) (front ++ x.reader.events) found) judge.rules_are says);
+}
+
+-- so is what is found of one that ends with a line
+pub stream_found_finished : (r : Rules) (bytes : List ℕ) (found : Checked) → IsFoundInBytes r bytes found → IsFoundInUnfinished r bytes found
+stream_found_finished r bytes found is = record {
+  sizes = is.sizes;
+  events = is.events;
+  trace = is.trace;
+  text_is = ([], tt, is.text_is ∙ sym (append-nil (trace_text is.sizes is.events)));
+  checked = is.checked;
 }
 
 -- what is found of the events that were read

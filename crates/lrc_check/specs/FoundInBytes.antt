@@ -2,6 +2,7 @@
 use Rattle.std.specs.Prelude.{ℕ, ◌≡◌, List, ⊤}
 use Rattle.journal.specs.declared.event.Event.{Event}
 use Rattle.journal.specs.Sizes.{Sizes}
+use Rattle.lrc_check.specs.Traces.FedText.{IsUnfinishedTrace}
 use Rattle.lrc_check.specs.Traces.Labels.{without_trace_labels}
 use Rattle.lrc_check.specs.Traces.LawfulTraces.{IsLawfulTrace}
 use Rattle.lrc_check.specs.Traces.TraceText.{trace_text}
@@ -17,6 +18,14 @@ pub record IsFoundInBytes (r : Rules) (bytes : List ℕ) (found : Checked) : Typ
   pub events : List Event
   pub trace : IsLawfulTrace sizes events
   pub text_is : without_trace_labels bytes ≡ trace_text sizes events
+  pub checked : IsTrueCheckVerdict r sizes events found
+
+-- the bytes are, without their labels, the text of a trace and the beginning of a line, and what is said of that trace is true
+pub record IsFoundInUnfinished (r : Rules) (bytes : List ℕ) (found : Checked) : Type 0 where
+  pub sizes : Sizes
+  pub events : List Event
+  pub trace : IsLawfulTrace sizes events
+  pub text_is : IsUnfinishedTrace bytes sizes events
   pub checked : IsTrueCheckVerdict r sizes events found
 
 -- the fault is the trace's

@@ -2,7 +2,7 @@
 pub use Rattle.lrc_check.specs.Faithful.{IsFaithfulAndCounted, IsFaithfulOnlyUpTo}
 pub use Rattle.lrc_check.specs.JudgedCounts.{AreCountsJudged}
 pub use Rattle.lrc_check.specs.CheckVerdicts.{IsTrueCheckVerdict, IsCheckVerdictLie, IsCheckVerdictUnexplainedNext, IsCheckVerdictRace, IsCheckVerdictTraffic, is_load_in_check_verdict, check_verdict_race_events, unjudged_in_check_verdict}
-pub use Rattle.lrc_check.specs.FoundInBytes.{IsFaultFoundBeforeBytesWritten, IsFoundInBytes, IsFaultFoundInBytes}
+pub use Rattle.lrc_check.specs.FoundInBytes.{IsFaultFoundBeforeBytesWritten, IsFoundInBytes, IsFoundInUnfinished, IsFaultFoundInBytes}
 pub use Rattle.lrc_check.specs.HeldTraces.{IsFewForHeldTrace, IsHeldTrace, IsTraceRaceApart}
 pub use Rattle.lrc_check.specs.TraceJudge.{ComesNextToExplain, ComesNextToJudge, ComesNextToKeep, ComesNextToRead, TraceJudgeHasCounts, IsTraceJudgeOf}
 pub use Rattle.lrc_check.specs.HistoryJudge.{ComesNextInHistory, ComesNextToHistoryLocksets, ComesNextToTally, HasHistoryLocksets, HasJudgedNext, HasJudgedToEnd, IsHistoryLocksets, IsNextPartOfHistory, IsHistoryEnd, IsHistoryEndWithin, IsHistoryJudgeOf, IsHistoryTallied, is_unjudged_next}

@@ -15,8 +15,9 @@ use crate::told_events::ToldEvents;
 use crate::trace_history::trace_history_sizes;
 use crate::traces::trace::{LabelledTrace, Trace, TraceSizes, read};
 use crate::verdict_text::verdict_text_of;
+use crate::waiting::waits_at_end_of_trace;
 use base::MOST_HELD;
-use causes::{RaceApart, race_accesses_apart};
+use causes::{RaceApart, Wait, race_accesses_apart};
 use judge::locksets::Unprotected;
 use lrc_report::render::OutFault;
 use std::alloc::{AllocError, Global};
@@ -71,6 +72,11 @@ pub struct JudgedTrace {
     /// By rising address the words that need a lock and have none, those that were asked for, if the trace is faithful and has
     /// no race; empty otherwise.
     pub unprotected: Vec<Unprotected>,
+    /// What each processor waits for in vain at the end of a faithful trace whose events are all at hand, if any waits; empty
+    /// otherwise.
+    pub waits: Vec<Wait>,
+    /// The number of the line in whose midst the trace ends; None if it doesn't.
+    pub unfinished: Option<usize>,
 }
 
 /// Judges the trace. The only error is running out of memory.
@@ -84,10 +90,13 @@ pub fn judge_trace(alloc: Global, trace: &Trace, rules: Rules) -> Result<JudgedT
     let sizes = trace_history_sizes(trace.sizes);
     let (found, unprotected) = judge_whole_history(alloc, sizes, &trace.events, rules)?;
     let race = checked_trace_race_apart(alloc, trace, found.race)?;
+    let waits = waits_at_end_of_trace(alloc, trace.sizes, &trace.events, &found.verdict)?;
     Ok(JudgedTrace {
         found,
         race,
         unprotected,
+        waits,
+        unfinished: None,
     })
 }
 

@@ -273,6 +273,39 @@ impl HistoryJudge {
         }
     }
 
+    /// Judges these events, which are the whole history: what is found of it. The only error is running out of memory.
+    // Who owns a judge makes this one call of it, which borrows it: so its drop is looked at once.
+    fn read_whole(&mut self, alloc: Global, events: &[Event]) -> Result<Checked, AllocError>
+        requires { IsNextPartOfHistory [] events.now self.old }
+        ensures { IfOk result (IsTrueCheckVerdict self.old.rules (judged_sizes_of self.old.judge.sizes) events.now) }
+    {
+        match self.read_all(alloc, events)? {
+            Some(found) => Ok(found),
+            None => Ok(self.finish()),
+        }
+    }
+
+    /// The same, and the words that need a lock and have none, those that are asked for, if it is faithful and has no race.
+    fn read_whole_and_words(
+        &mut self,
+        alloc: Global,
+        events: &[Event],
+    ) -> Result<(Checked, Vec<Unprotected>), AllocError>
+        requires { IsNextPartOfHistory [] events.now self.old }
+        ensures found { IfOk result (λ x. IsTrueCheckVerdict self.old.rules (judged_sizes_of self.old.judge.sizes) events.now x.0) }
+        ensures unprotected { IfOk result (λ x. AreUnprotectedTold (unprotected_looked_for self.old.rules.locksets x.0)
+            (judged_sizes_of self.old.judge.sizes) events.now x.1.items) }
+    {
+        match self.read_all(alloc, events)? {
+            Some(found) => Ok((found, Vec::new(alloc))),
+            None => {
+                let found = self.finish();
+                let unprotected = self.unprotected(alloc, &found)?;
+                Ok((found, unprotected))
+            }
+        }
+    }
+
     /// The words that need a lock and have none, those that are asked for, if the history, of which this was found, is faithful
     /// and has no race; none otherwise. The only error is running out of memory.
     pub fn unprotected(
@@ -310,14 +343,7 @@ pub(crate) fn judge_whole_history(
         (judged_sizes_of sizes) events.now x.1.items) }
 {
     let mut judge = HistoryJudge::new(alloc, sizes, rules)?;
-    match judge.read_all(alloc, events)? {
-        Some(found) => Ok((found, Vec::new(alloc))),
-        None => {
-            let found = judge.finish();
-            let unprotected = judge.unprotected(alloc, &found)?;
-            Ok((found, unprotected))
-        }
-    }
+    judge.read_whole_and_words(alloc, events)
 }
 
 /// What is found of a history: whether a memory of the model can make it, and if not, which event is the first that none
@@ -336,8 +362,5 @@ pub fn judge_history(
     ensures { IfOk result (IsTrueCheckVerdict rules (judged_sizes_of sizes) events.now) }
 {
     let mut judge = HistoryJudge::new(alloc, sizes, rules)?;
-    match judge.read_all(alloc, events)? {
-        Some(found) => Ok(found),
-        None => Ok(judge.finish()),
-    }
+    judge.read_whole(alloc, events)
 }

@@ -31,6 +31,7 @@ mod trace_stream;
 pub mod traces;
 mod unprotected;
 mod verdict_text;
+mod waiting;
 
 pub use check_fault::CheckFault;
 pub use checked::{Checked, Lie, Rules, TraceVerdict, Unexplained, are_counts_judged};
@@ -42,3 +43,4 @@ pub use trace_history::can_trace_be_held;
 pub use trace_judge::TraceJudge;
 pub use trace_stream::TraceStream;
 pub use verdict_text::{AnswersTold, verdict_reason_text, verdict_text_answers};
+pub use waiting::circle_of_waits;

@@ -55,7 +55,8 @@ pub fn tell_trace(
         ends_at_race: false,
         locksets: None,
     };
-    let judged = judge_trace(alloc, &labelled.trace, rules)?;
+    let mut judged = judge_trace(alloc, &labelled.trace, rules)?;
+    judged.unfinished = labelled.unfinished;
     let told = ToldEvents::of_trace(labelled);
     let verdict = verdict_text_of(alloc, told, &judged, rules)?;
     let lie = lie_to_tell_of_trace(alloc, &judged.found.verdict)?;

@@ -3,7 +3,7 @@ ghost use Rattle.std.specs.Prelude.{◌≡◌, ◌≤◌, ℕ, ◌++◌, [], IfE
 ghost use Rattle.journal.specs.declared.event.Event.{Event as AnEvent};
 ghost use Rattle.journal.specs.Prelude.{Race};
 ghost use Rattle.lrc_check.specs.Traces.Prelude.{FedTextBeginsTrace, IsNoLawfulTrace, IsTraceSoFar, trace_sizes_of, without_trace_labels};
-ghost use Rattle.lrc_check.specs.Prelude.{AreUnprotectedTold, HasStreamReadOn, IsFaultFoundInBytes, IsFoundInBytes, IsFoundInStream, IsStreamEnd, IsStreamEndOf, IsStreamJudge, IsTraceStream, unprotected_looked_for};
+ghost use Rattle.lrc_check.specs.Prelude.{AreUnprotectedTold, HasStreamReadOn, IsFaultFoundInBytes, IsFoundInBytes, IsFoundInStream, IsFoundInUnfinished, IsStreamEnd, IsStreamEndOf, IsStreamJudge, IsTraceStream, unprotected_looked_for};
 
 use crate::check_fault::CheckFault;
 use crate::checked::{Checked, Lie, Rules, TraceVerdict};
@@ -13,9 +13,11 @@ use crate::told_events::{KnownEvent, ToldEvents};
 use crate::trace_history::trace_history_sizes;
 use crate::traces::fault::TraceFault;
 use crate::traces::reader::Reader;
+use crate::traces::trace::TraceSizes;
 use crate::verdict_text::{AnswersTold, verdict_text_answers};
+use crate::waiting::waits_at_end_of_trace;
 use base::MOST_HELD;
-use causes::{RaceApart, race_accesses_apart};
+use causes::{RaceApart, Wait, race_accesses_apart};
 use journal::{Event, Kind};
 use judge::FlatStore;
 use judge::locksets::Unprotected;
@@ -198,6 +200,49 @@ impl TraceStream {
         }
     }
 
+    /// What is found if the text ends here, or in the midst of a line, of which nothing is read then.
+    ///
+    /// # Errors
+    ///
+    /// `Trace` alone, if the line of the sizes isn't there or doesn't end: then the text is no trace's.
+    pub fn finish_unfinished(&self) -> Result<Checked, CheckFault>
+        requires stream { (bytes : List ℕ) × IsTraceStream bytes self.now }
+        ensures found { IfOk result (λ x. (bytes : List ℕ) → IsTraceStream bytes self.now
+            → IsFoundInUnfinished self.now.rules bytes x) }
+        ensures at_hand { IfOk result (λ x. (front : List Event) × IsFoundInStream front x self.now) }
+        ensures refused { IfErr result (λ fault. IsFaultFoundInBytes fault → (bytes : List ℕ) → IsTraceStream bytes self.now
+            → IsNoLawfulTrace (without_trace_labels bytes)) }
+    {
+        match &self.judge {
+            None => self.finish(),
+            Some(judge) => {
+                let _line = self.reader.unfinished();
+                Ok(judge.finish())
+            }
+        }
+    }
+
+    /// The bytes of the line that a fault is told of, without its line feed, and how many lines before it were passed over.
+    pub fn refused_line(&self) -> (&[u8], usize) {
+        (self.reader.unfinished(), self.reader.passed())
+    }
+
+    /// The trace's sizes, if their line was read.
+    pub fn sizes(&self) -> Option<TraceSizes> {
+        self.reader.sizes()
+    }
+
+    /// What each processor waits for in vain at the end of the trace, of which this was found, if it is faithful, somebody waits, and all
+    /// events are at hand and no more than `MOST_HELD`; empty otherwise. The only error is running out of memory.
+    fn waits(&self, alloc: Global, found: &Checked) -> Result<Vec<Wait>, AllocError> {
+        match self.reader.sizes() {
+            Some(sizes) if self.reader.gone() == 0 => {
+                waits_at_end_of_trace(alloc, sizes, self.reader.events(), &found.verdict)
+            }
+            _ => Ok(Vec::new(alloc)),
+        }
+    }
+
     /// What keeps the accesses of this race apart, if all events are at hand and no more than `MOST_HELD`. The only error is running
     /// out of memory.
     fn race_apart(
@@ -253,8 +298,8 @@ impl TraceStream {
         }
     }
 
-    /// What was found, as it is told: with what keeps the race's accesses apart, if all events are at hand and no more than
-    /// `MOST_HELD`, and with the words that need a lock and have none, if these are asked for and it is faithful
+    /// What was found, as it is told: with what keeps the race's accesses apart, and who waits at the end, if all events are at hand
+    /// and no more than `MOST_HELD`, and with the words that need a lock and have none, if these are asked for and it is faithful
     /// without a race. The only error is running out of memory.
     pub fn judged(&mut self, alloc: Global, found: Checked) -> Result<JudgedTrace, AllocError>
         requires { (front : List AnEvent) × IsFoundInStream front found self.old }
@@ -266,10 +311,13 @@ impl TraceStream {
         self.keep_owed(alloc, &found.verdict)?;
         let race = self.race_apart(alloc, found.race)?;
         let unprotected = self.unprotected(alloc, &found)?;
+        let waits = self.waits(alloc, &found)?;
         Ok(JudgedTrace {
             found,
             race,
             unprotected,
+            waits,
+            unfinished: self.reader.unfinished_line(),
         })
     }
 

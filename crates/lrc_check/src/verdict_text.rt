@@ -6,6 +6,7 @@ use crate::checked::{Lie, Rules, TraceVerdict, Unexplained};
 use crate::checking_traces::JudgedTrace;
 use crate::told_events::ToldEvents;
 use crate::unprotected::put_unprotected_text;
+use crate::waiting::put_waits_text;
 use causes::RaceApart;
 use journal::{Event, Kind, Traffic};
 use judge::{FlatStore, MemoryModel, Miscounted, Permitted, Why};
@@ -291,6 +292,19 @@ fn put_verdict_traffic_text(
     Ok(())
 }
 
+/// Adds the number of the line in whose midst the trace ends, if it does.
+fn put_verdict_unfinished_text(
+    text: &mut Vec<u8>,
+    alloc: Global,
+    unfinished: Option<usize>,
+) -> Result<(), AllocError> {
+    if let Some(number) = unfinished {
+        let line = format!(in alloc; "unfinished line {number}\n")?;
+        text.extend_from_slice(line.as_bytes())?;
+    }
+    Ok(())
+}
+
 /// Adds how many loads weren't judged, if that is told: under the race-free model after a race.
 fn put_verdict_unjudged_loads_text(
     text: &mut Vec<u8>,
@@ -309,10 +323,13 @@ fn put_verdict_unjudged_loads_text(
     Ok(())
 }
 
-/// Adds what isn't judged under lax rules.
+/// Adds what isn't judged under lax rules, if it is judged unless these are asked for: under this memory's own model.
 fn put_verdict_unjudged_text(text: &mut Vec<u8>, rules: Rules) -> Result<(), AllocError> {
-    if rules.lax {
-        text.extend_from_slice(b"unjudged counts order\n")?;
+    match rules.model {
+        MemoryModel::LazyRelease if rules.lax => {
+            text.extend_from_slice(b"unjudged counts order\n")?;
+        }
+        _ => {}
     }
     Ok(())
 }
@@ -363,7 +380,9 @@ pub(crate) fn verdict_text_of(
             }
             put_verdict_race_text(&mut text, alloc, told, judged)?;
             put_unprotected_text(&mut text, alloc, told, &judged.unprotected)?;
+            put_waits_text(&mut text, alloc, &judged.waits)?;
             put_verdict_traffic_text(&mut text, alloc, *traffic)?;
+            put_verdict_unfinished_text(&mut text, alloc, judged.unfinished)?;
         }
         TraceVerdict::Lie(lie) => {
             put_verdict_race_text(&mut text, alloc, told, judged)?;

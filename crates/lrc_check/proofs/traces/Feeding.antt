@@ -3,6 +3,7 @@ use Rattle.std.proofs.Common.{◌≡◌, ◌≢◌, ℕ, ◌+◌, ◌<◌, Bool,
 use Rattle.std.specs.Prelude.{is_none}
 use Rattle.std.proofs.lemmas.List.{length-append}
 use Rattle.journal.specs.declared.event.Event.{Event}
+use Rattle.journal.specs.Sizes.{Sizes}
 use Rattle.lrc_script.specs.LineReading.{IsLineReadOff, parts_of_read_line}
 use Rattle.lrc_script.proofs.Reading.Separators.{HasNoSeparator}
 use Rattle.lrc_check.specs.declared.traces.fault.TraceFault.{TraceFault}
@@ -10,35 +11,44 @@ use Rattle.lrc_check.specs.declared.traces.fault.TraceFault.TheVariants.{NoMemor
 use Rattle.lrc_check.specs.declared.traces.trace.Trace.{Trace}
 use Rattle.lrc_check.specs.Traces.Begun.{IsTraceBegun, IsTraceLeft, IsTraceSoFar, trace_begun_events, trace_begun_line_count, trace_begun_line_number, trace_begun_sizes, trace_begun_text, trace_text_so_far}
 use Rattle.lrc_check.specs.Traces.TraceFaults.{IsTraceFaultLasting, IsTraceFault}
-use Rattle.lrc_check.specs.Traces.FedText.{FedTextBeginsTrace, IsFedTextOf, IsFedTextWhole, FedTextFaultStays, FedText, HasReadFedText, fed_text_labels_with, fed_text_line_number, fed_text_with}
+use Rattle.lrc_check.specs.Traces.FedText.{FedTextBeginsTrace, IsUnfinishedTrace, IsFedTextOf, IsFedTextWhole, FedTextFaultStays, FedText, HasReadFedText, fed_text_labels_with, fed_text_line_number, fed_text_with}
 use Rattle.lrc_check.specs.Traces.LawfulTraces.{IsLawfulTrace}
 use Rattle.lrc_check.specs.Traces.LabelLines.{AreTraceLabelsLeft, trace_line_count}
-use Rattle.lrc_check.specs.Traces.Labels.{without_trace_labels, line_without_trace_label, trace_event_label, trace_label_by_lines, trace_labels_of}
+use Rattle.lrc_check.specs.Traces.Labels.{is_trace_line_passed_over, without_trace_labels, line_without_trace_label, trace_event_label, trace_label_by_lines, trace_labels_of}
 use Rattle.lrc_check.specs.Traces.Sizes.{trace_sizes_of}
 use Rattle.lrc_check.proofs.traces.LabelLines.{label_lines_let_go, label_lines_of_event, label_lines_unread}
 use Rattle.lrc_check.proofs.traces.TextParts.{text_parts_of_no_other_trace}
 use Rattle.lrc_check.specs.Traces.TraceText.{trace_text}
-use Rattle.lrc_check.proofs.traces.Labelling.{labelling_lines_last, labelling_lines_read_on}
+use Rattle.lrc_check.proofs.traces.Labelling.{labelling_dropped_clean, labelling_lines_last, labelling_lines_passed_on, labelling_lines_read_on}
 use Rattle.lrc_check.proofs.traces.TraceWalk.{trace_walk_fault_behind, trace_walk_fault_only, trace_walk_first_fault}
 
 -- ---- a line
 
 -- a line was read, and changed as its text is
 pub feeding_line_kept : (change : List ℕ → List ℕ) (before now bytes line after : List ℕ) (whole : List ℕ → List ℕ)
-    → IsLineReadOff bytes line after → now ≡ before ++ (change line ++ 10 ∷ [])
+    → IsLineReadOff bytes line after → is_trace_line_passed_over line ≡ false → now ≡ before ++ (change line ++ 10 ∷ [])
     → ((more : List ℕ) → before ++ trace_label_by_lines change (bytes ++ more) ≡ whole more)
     → (more : List ℕ) → now ++ trace_label_by_lines change (after ++ more) ≡ whole more
-feeding_line_kept change before now bytes line after whole cut same was more =
-    labelling_lines_read_on change before now bytes line after more cut same ∙ was more
+feeding_line_kept change before now bytes line after whole cut kept same was more =
+    labelling_lines_read_on change before now bytes line after more cut kept same ∙ was more
+
+-- a line was passed over
+pub feeding_line_passed : (change : List ℕ → List ℕ) (before bytes line after : List ℕ) (whole : List ℕ → List ℕ)
+    → IsLineReadOff bytes line after → is_trace_line_passed_over line ≡ true
+    → ((more : List ℕ) → before ++ trace_label_by_lines change (bytes ++ more) ≡ whole more)
+    → (more : List ℕ) → before ++ trace_label_by_lines change (after ++ more) ≡ whole more
+feeding_line_passed change before bytes line after whole cut passed was more =
+    labelling_lines_passed_on change before bytes line after more cut passed ∙ was more
 
 -- it has a fault
 pub feeding_line_fault : (f : TraceFault) (n : ℕ) (before bytes line after : List ℕ) (whole : List ℕ → List ℕ)
-    → IsLineReadOff bytes line after → IsTraceFaultLasting (before ++ (line_without_trace_label line ++ 10 ∷ [])) n f
+    → IsLineReadOff bytes line after → is_trace_line_passed_over line ≡ false
+    → IsTraceFaultLasting (before ++ (line_without_trace_label line ++ 10 ∷ [])) n f
     → ((more : List ℕ) → before ++ without_trace_labels (bytes ++ more) ≡ whole more)
     → (more : List ℕ) → IsTraceFault (whole more) n f
-feeding_line_fault f n before bytes line after whole cut lasts was more =
+feeding_line_fault f n before bytes line after whole cut kept lasts was more =
     subst (λ (x : List ℕ). IsTraceFault x n f)
-    (feeding_line_kept line_without_trace_label before (before ++ (line_without_trace_label line ++ 10 ∷ [])) bytes line after whole cut refl was more)
+    (feeding_line_kept line_without_trace_label before (before ++ (line_without_trace_label line ++ 10 ∷ [])) bytes line after whole cut kept refl was more)
     (lasts (without_trace_labels (after ++ more)))
 
 -- memory ran out before it was read
@@ -139,6 +149,15 @@ pub feeding_text_whole : (lines rest bytes : List ℕ) → HasNoSeparator 10 res
 feeding_text_whole lines rest bytes clean h =
     ap (λ (t : List ℕ). lines ++ t) (sym (labelling_lines_last line_without_trace_label rest clean) ∙ ap without_trace_labels (sym (append-nil rest)))
     ∙ h ∙ ap without_trace_labels (append-nil bytes)
+
+-- after the last piece, of a text that may end in the midst of a line
+pub feeding_unfinished : (s : Sizes) (es : List Event) (unfinished bytes : List ℕ) → HasNoSeparator 10 unfinished
+    → trace_text s es ++ without_trace_labels (unfinished ++ []) ≡ without_trace_labels (bytes ++ []) → IsUnfinishedTrace bytes s es
+feeding_unfinished s es unfinished bytes clean text = (
+  line_without_trace_label unfinished,
+  labelling_dropped_clean unfinished clean,
+  sym (feeding_text_whole (trace_text s es) unfinished bytes clean text),
+)
 
 pub feeding_labels_whole : (labels rest bytes : List ℕ) → rest ≡ [] → labels ++ trace_labels_of (rest ++ []) ≡ trace_labels_of (bytes ++ [])
     → labels ≡ trace_labels_of bytes

@@ -4,7 +4,7 @@ use Rattle.std.specs.List.{join_with_byte}
 use Rattle.std.proofs.lemmas.Bool.{eq-eqb}
 use Rattle.lrc_script.specs.LineReading.{IsLineReadOff, parts_of_read_line}
 use Rattle.lrc_script.proofs.Reading.Separators.{HasNoSeparator, separator_behind_first_word, separator_absent_one_word}
-use Rattle.lrc_check.specs.Traces.Labels.{line_without_trace_label, trace_label_space_at, trace_label_by_lines, trace_label_at}
+use Rattle.lrc_check.specs.Traces.Labels.{is_trace_line_passed_over, line_without_trace_label, told_trace_lines, trace_label_space_at, trace_label_by_lines, trace_label_at}
 use Rattle.lrc_check.proofs.traces.TextParts.{text_parts_some}
 
 -- ---- where a label stands
@@ -110,6 +110,28 @@ labelling_dropped_none (b ∷ bytes) e = absurd cc
 
 -- ---- a text, line by line
 
+-- a line that isn't passed over, and what stands behind it
+labelling_told_kept : (l : List ℕ) (ps : List (List ℕ)) → 0 < length ps → is_trace_line_passed_over l ≡ false
+    → told_trace_lines (l ∷ ps) ≡ l ∷ told_trace_lines ps
+labelling_told_kept l [] some kept = absurd (omega arith)
+labelling_told_kept l (p ∷ ps) some kept = ap (λ (b : Bool). cond b (told_trace_lines (p ∷ ps)) (l ∷ told_trace_lines (p ∷ ps))) kept
+
+-- one that is
+labelling_told_passed : (l : List ℕ) (ps : List (List ℕ)) → 0 < length ps → is_trace_line_passed_over l ≡ true
+    → told_trace_lines (l ∷ ps) ≡ told_trace_lines ps
+labelling_told_passed l [] some passed = absurd (omega arith)
+labelling_told_passed l (p ∷ ps) some passed = ap (λ (b : Bool). cond b (told_trace_lines (p ∷ ps)) (l ∷ told_trace_lines (p ∷ ps))) passed
+
+-- what stands behind the last line feed is never passed over
+labelling_told_some : (ps : List (List ℕ)) → 0 < length ps → 0 < length (told_trace_lines ps)
+labelling_told_some [] some = absurd (omega arith)
+labelling_told_some (p ∷ []) some = omega arith
+labelling_told_some (p ∷ q ∷ ps) some =
+    elim (is_trace_line_passed_over p) as (λ b. 0 < length (cond b (told_trace_lines (q ∷ ps)) (p ∷ told_trace_lines (q ∷ ps)))) [
+      | true ↦ labelling_told_some (q ∷ ps) (omega arith)
+      | false ↦ omega arith
+    ]
+
 labelling_joined_next : (change : List ℕ → List ℕ) (x : List ℕ) (ps : List (List ℕ)) → 0 < length ps
     → join_with_byte 10 (x ∷ map change ps) ≡ x ++ 10 ∷ join_with_byte 10 (map change ps)
 labelling_joined_next change x [] some = absurd (omega arith)
@@ -117,26 +139,48 @@ labelling_joined_next change x (p ∷ ps) some = refl
 
 -- a line, and what stands behind it
 pub labelling_lines_next : (change : List ℕ → List ℕ) (line more : List ℕ) → HasNoSeparator 10 line
+    → is_trace_line_passed_over line ≡ false
     → trace_label_by_lines change (line ++ 10 ∷ more) ≡ change line ++ 10 ∷ trace_label_by_lines change more
-labelling_lines_next change line more clean =
-    ap (λ (ps : List (List ℕ)). join_with_byte 10 (map change ps)) (separator_behind_first_word 10 line more clean)
-    ∙ labelling_joined_next change (change line) (parts_of_read_line 10 more) (text_parts_some more)
+labelling_lines_next change line more clean kept =
+    let ps = parts_of_read_line 10 more in
+    ap (λ (qs : List (List ℕ)). join_with_byte 10 (map change (told_trace_lines qs))) (separator_behind_first_word 10 line more clean)
+    ∙ ap (λ (qs : List (List ℕ)). join_with_byte 10 (map change qs)) (labelling_told_kept line ps (text_parts_some more) kept)
+    ∙ labelling_joined_next change (change line) (told_trace_lines ps) (labelling_told_some ps (text_parts_some more))
+
+-- a line that is passed over
+pub labelling_lines_passed : (change : List ℕ → List ℕ) (line more : List ℕ) → HasNoSeparator 10 line
+    → is_trace_line_passed_over line ≡ true
+    → trace_label_by_lines change (line ++ 10 ∷ more) ≡ trace_label_by_lines change more
+labelling_lines_passed change line more clean passed =
+    ap (λ (qs : List (List ℕ)). join_with_byte 10 (map change (told_trace_lines qs))) (separator_behind_first_word 10 line more clean)
+    ∙ ap (λ (qs : List (List ℕ)). join_with_byte 10 (map change qs))
+    (labelling_told_passed line (parts_of_read_line 10 more) (text_parts_some more) passed)
 
 -- a line without its line feed
 pub labelling_lines_last : (change : List ℕ → List ℕ) (line : List ℕ) → HasNoSeparator 10 line → trace_label_by_lines change line ≡ change line
 labelling_lines_last change line clean =
-    ap (λ (ps : List (List ℕ)). join_with_byte 10 (map change ps)) (separator_absent_one_word 10 line clean)
+    ap (λ (ps : List (List ℕ)). join_with_byte 10 (map change (told_trace_lines ps))) (separator_absent_one_word 10 line clean)
 
 -- the lines that were read, and those of the bytes that come next, of which the first is read
 pub labelling_lines_read_on : (change : List ℕ → List ℕ) (before now bytes line after more : List ℕ) → IsLineReadOff bytes line after
-    → now ≡ before ++ (change line ++ 10 ∷ []) → now ++ trace_label_by_lines change (after ++ more) ≡ before ++ trace_label_by_lines change (bytes ++ more)
-labelling_lines_read_on change before now bytes line after more cut same =
+    → is_trace_line_passed_over line ≡ false → now ≡ before ++ (change line ++ 10 ∷ []) → now ++ trace_label_by_lines change (after ++ more) ≡ before ++ trace_label_by_lines change (bytes ++ more)
+labelling_lines_read_on change before now bytes line after more cut kept same =
     let whole : bytes ++ more ≡ line ++ 10 ∷ (after ++ more) =
     ap (λ (x : List ℕ). x ++ more) cut.bytes_are ∙ append_assoc line (10 ∷ after) more in
     ap (λ (x : List ℕ). x ++ trace_label_by_lines change (after ++ more)) same
     ∙ append_assoc before (change line ++ 10 ∷ []) (trace_label_by_lines change (after ++ more))
     ∙ ap (λ (x : List ℕ). before ++ x) (append_assoc (change line) (10 ∷ []) (trace_label_by_lines change (after ++ more))
-    ∙ sym (labelling_lines_next change line (after ++ more) cut.one_line) ∙ ap (trace_label_by_lines change) (sym whole))
+    ∙ sym (labelling_lines_next change line (after ++ more) cut.one_line kept) ∙ ap (trace_label_by_lines change) (sym whole))
+
+-- the first of the bytes that come next is passed over
+pub labelling_lines_passed_on : (change : List ℕ → List ℕ) (before bytes line after more : List ℕ) → IsLineReadOff bytes line after
+    → is_trace_line_passed_over line ≡ true
+    → before ++ trace_label_by_lines change (after ++ more) ≡ before ++ trace_label_by_lines change (bytes ++ more)
+labelling_lines_passed_on change before bytes line after more cut passed =
+    let whole : bytes ++ more ≡ line ++ 10 ∷ (after ++ more) =
+    ap (λ (x : List ℕ). x ++ more) cut.bytes_are ∙ append_assoc line (10 ∷ after) more in
+    ap (λ (x : List ℕ). before ++ x) (sym (labelling_lines_passed change line (after ++ more) cut.one_line passed)
+    ∙ ap (trace_label_by_lines change) (sym whole))
 
 -- the parts of a text whose first line this is
 pub labelling_parts_next : (bytes line rest : List ℕ) → IsLineReadOff bytes line rest

@@ -1,5 +1,5 @@
 -- No line of a trace's text has two spaces in a row, so without its labels the text is the same.
-use Rattle.std.proofs.Common.{◌≡◌, ℕ, zero, suc, ◌+◌, ◌≤◌, List, [], ◌∷◌, ◌++◌, length, map, take, refl, sym, ap, subst, ◌∙◌, append_assoc, arith}
+use Rattle.std.proofs.Common.{◌≡◌, ℕ, false, zero, suc, ◌+◌, ◌≤◌, List, [], ◌∷◌, ◌++◌, length, map, take, refl, sym, ap, subst, ◌∙◌, append_assoc, arith}
 use Rattle.std.specs.Prelude.{codes}
 use Rattle.std.specs.List.{flat_map, AllByRecursion}
 use Rattle.std.specs.Fmt.{decimal}
@@ -9,7 +9,7 @@ use Rattle.journal.specs.Sizes.{Sizes}
 use Rattle.lrc_script.specs.ScriptFaults.{IsLineSplit, IsWordOfLine}
 use Rattle.lrc_script.proofs.Reading.Separators.{HasNoSeparator}
 use Rattle.lrc_report.specs.ReportText.{report_event_text, report_events_text}
-use Rattle.lrc_check.specs.Traces.Labels.{without_trace_labels, line_without_trace_label, trace_label_at, trace_line_label}
+use Rattle.lrc_check.specs.Traces.Labels.{is_trace_line_passed_over, without_trace_labels, line_without_trace_label, trace_label_at, trace_line_label}
 use Rattle.lrc_check.specs.Traces.Heads.{trace_head_numbers_of}
 use Rattle.lrc_check.specs.Traces.Laws.{UnlabelledTraceLaw}
 use Rattle.lrc_check.specs.Traces.Sizes.{AreTraceSizes}
@@ -80,10 +80,11 @@ unlabelled_text_head s h =
 
 -- ---- a line, and the text
 
-unlabelled_text_line : (line more : List ℕ) → HasNoSeparator 10 line → line_without_trace_label line ≡ line → without_trace_labels more ≡ more
+unlabelled_text_line : (line more : List ℕ) → HasNoSeparator 10 line → is_trace_line_passed_over line ≡ false
+    → line_without_trace_label line ≡ line → without_trace_labels more ≡ more
     → without_trace_labels (line ++ 10 ∷ more) ≡ line ++ 10 ∷ more
-unlabelled_text_line line more clean first others =
-    labelling_lines_next line_without_trace_label line more clean ∙ ap (λ (x : List ℕ). x ++ 10 ∷ without_trace_labels more) first
+unlabelled_text_line line more clean told first others =
+    labelling_lines_next line_without_trace_label line more clean told ∙ ap (λ (x : List ℕ). x ++ 10 ∷ without_trace_labels more) first
     ∙ ap (λ (x : List ℕ). line ++ 10 ∷ x) others
 
 unlabelled_text_same : (a b : List ℕ) → a ≡ b → without_trace_labels b ≡ b → without_trace_labels a ≡ a
@@ -95,7 +96,8 @@ unlabelled_text_events i (e ∷ es) small =
     let rest = report_events_text (i + 1) es in
     unlabelled_text_same (report_event_text i e ++ rest) (event_words_bytes i e ++ 10 ∷ rest)
     (ap (λ (t : List ℕ). t ++ rest) (event_words_are_line i e) ∙ append_assoc (event_words_bytes i e) (10 ∷ []) rest)
-    (unlabelled_text_line (event_words_bytes i e) rest (event_words_clean_bytes i e small.0) (unlabelled_text_split _ _ _ (event_words_split i e small.0))
+    (unlabelled_text_line (event_words_bytes i e) rest (event_words_clean_bytes i e small.0)
+    (subst (λ (x : List ℕ). is_trace_line_passed_over x ≡ false) (sym (event_words_split i e small.0).whole) refl) (unlabelled_text_split _ _ _ (event_words_split i e small.0))
     (unlabelled_text_events (i + 1) es small.1))
 
 pub unlabelled_text_of_trace : UnlabelledTraceLaw
@@ -103,4 +105,5 @@ unlabelled_text_of_trace s es h =
     let events = report_events_text 0 es in
     unlabelled_text_same ((text_parts_head s ++ 10 ∷ []) ++ events) (text_parts_head s ++ 10 ∷ events)
     (append_assoc (text_parts_head s) (10 ∷ []) events)
-    (unlabelled_text_line (text_parts_head s) events (text_parts_head_clean s h.sizes) (unlabelled_text_head s h.sizes) (unlabelled_text_events 0 es (text_parts_small s es h)))
+    (unlabelled_text_line (text_parts_head s) events (text_parts_head_clean s h.sizes)
+    (subst (λ (x : List ℕ). is_trace_line_passed_over x ≡ false) (sym (text_parts_head_split s h.sizes).whole) refl) (unlabelled_text_head s h.sizes) (unlabelled_text_events 0 es (text_parts_small s es h)))

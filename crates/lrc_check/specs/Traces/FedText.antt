@@ -2,6 +2,7 @@
 use Rattle.std.specs.Prelude.{◌≡◌, ℕ, ◌+◌, Bool, List, ◌++◌, Option, Some}
 use Rattle.journal.specs.declared.event.Event.{Event}
 use Rattle.journal.specs.Sizes.{Sizes}
+use Rattle.lrc_script.specs.ScriptFaults.{HasNoLineFeed}
 use Rattle.lrc_check.specs.declared.traces.fault.TraceFault.{TraceFault}
 use Rattle.lrc_check.specs.declared.traces.trace.TraceSizes.{TraceSizes}
 use Rattle.lrc_check.specs.Traces.Begun.{IsTraceSoFar, trace_text_so_far}
@@ -56,6 +57,10 @@ pub record IsFedTextWhole (bytes : List ℕ) (front : List Event) (told : List �
   pub text : without_trace_labels bytes ≡ trace_text (trace_sizes_of sizes) (front ++ x.events)
   pub again : IsNoOtherLawfulTrace (without_trace_labels bytes) (trace_sizes_of sizes) (front ++ x.events)
   pub labels : told ++ x.labels ≡ trace_labels_of bytes
+
+-- the bytes are, without their labels, the text of this trace and the beginning of a line
+abbrev pub IsUnfinishedTrace : List ℕ → Sizes → List Event → Type 0
+IsUnfinishedTrace bytes s es = (left : List ℕ) × HasNoLineFeed left × (without_trace_labels bytes ≡ trace_text s es ++ left)
 
 -- however the bytes go on, line n has the fault
 abbrev pub FedTextFaultStays : List ℕ → ℕ → TraceFault → Type 0

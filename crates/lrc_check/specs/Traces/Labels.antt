@@ -1,5 +1,5 @@
--- The labels of lines: what stands on a line behind two spaces in a row is the logger's own.
-use Rattle.std.specs.Prelude.{ℕ, ◌≡◌, ◌+◌, suc, ◌==◌, ◌&&◌, Some, if◌then◌else◌, List, [], ◌∷◌, drop, length, map, nat_le, slice_get, slice_index, slice_index_or, take}
+-- The labels of lines: what stands on a line behind two spaces in a row is the logger's own. And the lines that are passed over.
+use Rattle.std.specs.Prelude.{ℕ, Bool, true, ◌≡◌, ◌+◌, suc, ◌==◌, ◌&&◌, Some, if◌then◌else◌, List, [], ◌∷◌, drop, length, map, nat_le, slice_get, slice_index, slice_index_or, take}
 use Rattle.std.specs.Global.{Vec}
 use Rattle.std.specs.List.{join_with_byte}
 use Rattle.lrc_script.specs.LineReading.{parts_of_read_line}
@@ -22,15 +22,26 @@ line_without_trace_label line = take (trace_label_at line) line
 abbrev pub trace_line_label : List ℕ → List ℕ
 trace_line_label line = drop (trace_label_at line + 2) line
 
--- the text with each of its lines changed so
-abbrev pub trace_label_by_lines : (List ℕ → List ℕ) → List ℕ → List ℕ
-trace_label_by_lines change bytes = join_with_byte 10 (map change (parts_of_read_line 10 bytes))
+-- the line is passed over: it is empty, or begins with 35, a number sign
+abbrev pub is_trace_line_passed_over : List ℕ → Bool
+is_trace_line_passed_over [] = true
+is_trace_line_passed_over (b ∷ bytes) = b == 35
 
--- a text without its labels
+-- the lines that aren't passed over, and what stands behind the last line feed
+abbrev pub told_trace_lines : List (List ℕ) → List (List ℕ)
+told_trace_lines [] = []
+told_trace_lines (l ∷ []) = l ∷ []
+told_trace_lines (l ∷ m ∷ ls) = if is_trace_line_passed_over l then told_trace_lines (m ∷ ls) else l ∷ told_trace_lines (m ∷ ls)
+
+-- the text with each of its lines changed so, but for those that are passed over, which it doesn't have
+abbrev pub trace_label_by_lines : (List ℕ → List ℕ) → List ℕ → List ℕ
+trace_label_by_lines change bytes = join_with_byte 10 (map change (told_trace_lines (parts_of_read_line 10 bytes)))
+
+-- a text without its labels, and without the lines that are passed over
 abbrev pub without_trace_labels : List ℕ → List ℕ
 without_trace_labels bytes = trace_label_by_lines line_without_trace_label bytes
 
--- the labels of a text, each on a line where its own line stands
+-- the labels of a text, each on a line where its own line stands among those that aren't passed over
 abbrev pub trace_labels_of : List ℕ → List ℕ
 trace_labels_of bytes = trace_label_by_lines trace_line_label bytes
 

@@ -1,7 +1,8 @@
-//! The labels of a trace's lines: what stands on a line behind two spaces in a row is the logger's own.
+//! The labels of a trace's lines: what stands on a line behind two spaces in a row is the logger's own. And which lines are
+//! passed over.
 ghost use Rattle.std.specs.Prelude.{◌≡◌, ℕ, ◌+◌, ◌<◌, ◌≤◌, ◌^◌, [], ◌∷◌, ◌++◌, IfOk, IfSome, MatchOption, OnOk, length, map, slice_index_or};
 ghost use Rattle.lrc_script.specs.Prelude.{parts_of_read_line};
-ghost use Rattle.lrc_check.specs.Traces.Prelude.{AreTraceLabelsShown, line_without_trace_label, trace_event_label, trace_label_at, trace_line_label, trace_label_byte_shown};
+ghost use Rattle.lrc_check.specs.Traces.Prelude.{AreTraceLabelsShown, is_trace_line_passed_over, line_without_trace_label, trace_event_label, trace_label_at, trace_line_label, trace_label_byte_shown};
 ghost use Rattle.lrc_check.specs.Traces.Prelude.{IsTraceLineOfEvent};
 
 use journal::Event;
@@ -20,6 +21,16 @@ fn spaces_before_trace_label(line: &[u8]) -> Option<usize>
         }
     }
     None
+}
+
+/// Whether the line is passed over: whether it is empty, or begins with `#`.
+pub(crate) fn is_trace_line_passed_over(line: &[u8]) -> bool
+    ensures { result ≡ is_trace_line_passed_over line.now }
+{
+    match line {
+        [] => true,
+        [first, ..] => *first == b'#',
+    }
 }
 
 /// A line without its label, and the label, which has no byte if there is none.

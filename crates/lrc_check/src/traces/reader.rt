@@ -3,11 +3,11 @@ ghost use Rattle.std.specs.Prelude.{◌≡◌, ◌≢◌, ℕ, ◌+◌, ◌<◌,
 ghost use Rattle.journal.specs.declared.event.Event.{Event};
 ghost use Rattle.lrc_script.specs.Prelude.{HasNoLineFeed};
 ghost use Rattle.lrc_check.specs.declared.traces.fault.TraceFault.TheVariants.{NoMemory, Truncated};
-ghost use Rattle.lrc_check.specs.Traces.Prelude.{FedTextBeginsTrace, IsNoOtherLawfulTrace, IsNoLawfulTrace, IsFedTextOf, IsFedTextWhole, IsLawfulTrace, IsTraceBegun, IsTraceLeft, IsTraceFault};
+ghost use Rattle.lrc_check.specs.Traces.Prelude.{FedTextBeginsTrace, IsNoOtherLawfulTrace, IsNoLawfulTrace, IsFedTextOf, IsFedTextWhole, IsLawfulTrace, IsUnfinishedTrace, IsTraceBegun, IsTraceLeft, IsTraceFault};
 ghost use Rattle.lrc_check.specs.Traces.Prelude.{AreTraceLabelsBehind, AreTraceSizesKept, BeginsWithTraceBegun, FedTextFaultStays, HasReadFedText, IsTraceReadOn, without_trace_labels, fed_text_line_number, trace_event_label, trace_begun_events, trace_begun_line_count, trace_begun_line_number, trace_begun_sizes, trace_begun_text, trace_labels_of, trace_sizes_of, trace_text};
 
 use crate::traces::fault::TraceFault;
-use crate::traces::labels::{TraceLabels, split_trace_label};
+use crate::traces::labels::{TraceLabels, is_trace_line_passed_over, split_trace_label};
 use crate::traces::trace::{LabelledTrace, Trace, TraceSizes};
 use crate::traces::trace_lines::{end, end_trace_lines, next_trace_line_number, read_trace_lines};
 use journal::Event;
@@ -25,6 +25,9 @@ pub struct Reader {
     headed: bool,
     begun: Option<Trace>,
     labels: TraceLabels,
+    /// How many lines were passed over.
+    passed: usize,
+    /// The bytes of the line that isn't whole; behind a fault those of the line that has it.
     unfinished: Vec<u8>,
 }
 
@@ -71,6 +74,7 @@ fn read_piece(
     gone: usize,
     begun: &mut Option<Trace>,
     labels: &mut TraceLabels,
+    passed: &mut usize,
     unfinished: &mut Vec<u8>,
     piece: &[u8],
 ) -> Result<(), (usize, TraceFault)>
@@ -96,10 +100,64 @@ fn read_piece(
     };
     keep(gone, begun, unfinished, end)?;
     keep(gone, begun, unfinished, b"\n")?;
-    read_trace_lines(alloc, gone, begun, labels, unfinished)?;
-    let rest = read_trace_lines(alloc, gone, begun, labels, behind)?;
+    read_trace_lines(alloc, gone, begun, labels, passed, unfinished)?;
+    let rest = read_trace_lines(alloc, gone, begun, labels, passed, behind)?;
     unfinished.clear();
     keep(gone, begun, unfinished, rest)
+}
+
+/// What stands behind the first line feed.
+fn lines_behind_first(piece: &[u8]) -> &[u8] {
+    match split_line(piece) {
+        Some((_, behind)) => behind,
+        None => b"",
+    }
+}
+
+/// Of the lines of a piece behind its first line feed that aren't passed over, the one at this index; nothing if it isn't there.
+fn told_line_behind_first(piece: &[u8], index: usize) -> &[u8]
+    ensures { HasNoLineFeed result.now }
+{
+    let mut left = index;
+    let mut rest = lines_behind_first(piece);
+    while let Some((line, after)) = split_line(rest) {
+        if !is_trace_line_passed_over(line) {
+            if left == 0 {
+                return line;
+            }
+            left -= 1;
+        }
+        rest = after;
+    }
+    b""
+}
+
+/// Lets go of what stands behind the first line, and of its line feed: whether it is a line that isn't passed over.
+fn cut_to_first_line(unfinished: &mut Vec<u8>) -> bool
+    ensures { HasNoLineFeed unfinished.new.items }
+{
+    let end = match split_line(unfinished) {
+        Some((line, _)) => line.len(),
+        None => unfinished.len(),
+    };
+    unfinished.truncate(end);
+    !is_trace_line_passed_over(unfinished)
+}
+
+/// Keeps the line that was refused, which stands at this index among those that a piece ended and that aren't passed over. If
+/// there is no memory for it, nothing is kept.
+fn keep_refused_line(unfinished: &mut Vec<u8>, piece: &[u8], index: usize)
+    ensures { HasNoLineFeed unfinished.new.items }
+{
+    let is_told = cut_to_first_line(unfinished);
+    if is_told && index == 0 {
+        return;
+    }
+    let line = told_line_behind_first(piece, index - usize::from(is_told));
+    unfinished.clear();
+    if unfinished.extend_from_slice(line).is_err() {
+        unfinished.clear();
+    }
 }
 
 /// The events that were read and not let go of.
@@ -141,6 +199,7 @@ impl Reader {
             headed: true,
             begun: None,
             labels: TraceLabels::new(alloc),
+            passed: 0,
             unfinished: Vec::new(alloc),
         }
     }
@@ -150,7 +209,7 @@ impl Reader {
     ///
     /// # Errors
     ///
-    /// The first line with a fault, counted from 1; on one line the faults are tested in the order that `TraceFault` tells.
+    /// The first line with a fault, counted from 1 among those that aren't passed over; on one line the faults are tested in the order that `TraceFault` tells.
     /// Each but `NoMemory` comes only where no trace has a text that begins with these bytes. `Truncated` never comes. The
     /// events of the lines before it are there, with their labels, and nothing of what comes behind them.
     pub fn feed(&mut self, alloc: Global, piece: &[u8]) -> Result<(), (usize, TraceFault)>
@@ -172,21 +231,48 @@ impl Reader {
         ensures fault { IfErr result (λ e. e.1 ≢ NoMemory → (bytes : List ℕ) (front : List Event) (told : List ℕ)
             → IsFedTextOf bytes front told self.old → FedTextFaultStays (bytes ++ piece.now) e.0 e.1) }
     {
+        let number = next_trace_line_number(self.gone, &self.begun);
         match read_piece(
             alloc,
             self.gone,
             &mut self.begun,
             &mut self.labels,
+            &mut self.passed,
             &mut self.unfinished,
             piece,
         ) {
             Ok(()) => Ok(()),
             Err(fault) => {
                 // What is left of the piece is no beginning of a line.
-                self.unfinished.clear();
+                let index = fault.0.saturating_sub(number);
+                keep_refused_line(&mut self.unfinished, piece, index);
                 Err(fault)
             }
         }
+    }
+
+    /// How many lines were passed over, behind a fault before the line that has it.
+    pub fn passed(&self) -> usize {
+        self.passed
+    }
+
+    /// The bytes of the line that isn't whole; behind a fault those of the line that has it, without its line feed, as far as there
+    /// is memory for them.
+    pub fn unfinished(&self) -> &[u8]
+        ensures line { HasNoLineFeed result.now }
+        ensures bytes { result.now ≡ self.now.unfinished }
+    {
+        &self.unfinished
+    }
+
+    /// The number of the line in whose midst the trace ends, counted from 1 with those that were passed over; None if it ends with
+    /// a line feed, or before the line of the sizes.
+    pub fn unfinished_line(&self) -> Option<usize> {
+        if self.unfinished.is_empty() || self.begun.is_none() {
+            return None;
+        }
+        let number = next_trace_line_number(self.gone, &self.begun);
+        Some(number.saturating_add(self.passed))
     }
 
     /// How many events were let go of.
@@ -298,10 +384,45 @@ impl Reader {
             headed: _,
             begun,
             labels,
+            passed: _,
             unfinished,
         } = self;
         let (left, _) = split_trace_label(&unfinished);
         let trace = end(begun, left)?;
-        Ok(LabelledTrace { trace, labels })
+        Ok(LabelledTrace {
+            trace,
+            labels,
+            unfinished: None,
+        })
+    }
+
+    /// The same if the text may end in the midst of a line, of which nothing is read then.
+    ///
+    /// # Errors
+    ///
+    /// `Truncated` alone, if the line of the sizes isn't there or doesn't end.
+    pub fn finish_unfinished(self) -> Result<LabelledTrace, (usize, TraceFault)>
+        ensures trace { IfOk result (λ t. IsLawfulTrace (trace_sizes_of t.trace.sizes) t.trace.events.items) }
+        ensures found { IfOk result (λ t. (bytes : List ℕ) → IsFedTextOf bytes [] [] self
+            → IsUnfinishedTrace bytes (trace_sizes_of t.trace.sizes) t.trace.events.items) }
+        ensures only { IfErr result (λ _. (bytes : List ℕ) → IsFedTextOf bytes [] [] self → IsNoLawfulTrace (without_trace_labels bytes)) }
+    {
+        if self.begun.is_none() {
+            return self.finish();
+        }
+        let unfinished = self.unfinished_line();
+        let Reader {
+            gone: _,
+            headed: _,
+            begun,
+            labels,
+            passed: _,
+            unfinished: _,
+        } = self;
+        Ok(LabelledTrace {
+            trace: begun.unwrap(),
+            labels,
+            unfinished,
+        })
     }
 }

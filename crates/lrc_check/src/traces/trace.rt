@@ -36,10 +36,12 @@ pub struct Trace {
 pub struct LabelledTrace {
     pub trace: Trace,
     pub labels: TraceLabels,
+    /// The number of the line in whose midst its text ends, of which nothing was read; None if it doesn't.
+    pub unfinished: Option<usize>,
 }
 
-/// The trace that has these bytes, without their labels, as its text, and the labels; or the first line with a fault, counted
-/// from 1. On one line the faults are tested in the order that `TraceFault` tells. Reading takes time in the order of the
+/// The trace that has these bytes, without their labels and the lines that are passed over, as its text, and the labels; or the
+/// first line with a fault, counted from 1 among those that aren't passed over. On one line the faults are tested in the order that `TraceFault` tells. Reading takes time in the order of the
 /// bytes.
 ///
 /// # Errors
@@ -61,8 +63,13 @@ pub fn read(alloc: Global, bytes: &[u8]) -> Result<LabelledTrace, (usize, TraceF
 {
     let mut begun = None;
     let mut labels = TraceLabels::new(alloc);
-    let rest = read_trace_lines(alloc, 0, &mut begun, &mut labels, bytes)?;
+    let mut passed = 0;
+    let rest = read_trace_lines(alloc, 0, &mut begun, &mut labels, &mut passed, bytes)?;
     let (left, _) = split_trace_label(rest);
     let trace = end(begun, left)?;
-    Ok(LabelledTrace { trace, labels })
+    Ok(LabelledTrace {
+        trace,
+        labels,
+        unfinished: None,
+    })
 }

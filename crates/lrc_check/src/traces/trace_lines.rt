@@ -8,7 +8,9 @@ ghost use Rattle.lrc_check.specs.Traces.Prelude.{IsNoLawfulTrace, IsLawfulTrace,
 
 use crate::traces::fault::TraceFault;
 use crate::traces::head::read_trace_head;
-use crate::traces::labels::{TraceLabels, split_trace_label_unless_read};
+use crate::traces::labels::{
+    TraceLabels, is_trace_line_passed_over, split_trace_label_unless_read,
+};
 use crate::traces::trace::Trace;
 use crate::traces::trace_event::{add, quick_trace_event};
 use journal::Event;
@@ -106,12 +108,13 @@ fn read_trace_line_at_once(alloc: Global, line: &[u8], has_labels: bool) -> Opti
 }
 
 /// Reads the lines that are whole, behind `gone` events, keeps their labels, and answers what stands behind them. Where a line
-/// isn't read, those before it are there.
+/// isn't read, those before it are there. Adds to `passed` how many lines were passed over.
 pub fn read_trace_lines<'a>(
     alloc: Global,
     gone: usize,
     begun: &mut Option<Trace>,
     labels: &mut TraceLabels,
+    passed: &mut usize,
     bytes: &'a [u8],
 ) -> Result<&'a [u8], (usize, TraceFault)>
     requires { IsTraceLeft gone begun.old }
@@ -135,11 +138,15 @@ pub fn read_trace_lines<'a>(
     let mut rest = bytes;
     let mut has_labels = false;
     while let Some((line, after)) = split_line(rest) {
-        let read = read_trace_line_at_once(alloc, line, has_labels);
-        let (event, label) = split_trace_label_unless_read(line, read);
-        has_labels = !label.is_empty();
-        keep_trace_line_label(gone, begun, labels, label)?;
-        read_trace_line(alloc, gone, begun, event, read)?;
+        if is_trace_line_passed_over(line) {
+            *passed = passed.saturating_add(1);
+        } else {
+            let read = read_trace_line_at_once(alloc, line, has_labels);
+            let (event, label) = split_trace_label_unless_read(line, read);
+            has_labels = !label.is_empty();
+            keep_trace_line_label(gone, begun, labels, label)?;
+            read_trace_line(alloc, gone, begun, event, read)?;
+        }
         rest = after;
     }
     Ok(rest)

@@ -1,86 +1,30 @@
-use Rattle.std.proofs.Common.{◌≡◌, ◌≤◌, [], List, length, subst, ◌∙◌, arith}
-use Rattle.journal.specs.declared.event.Event.{Event}
+use Rattle.std.proofs.Common.{◌≤◌, length, subst, arith}
+use Rattle.std.specs.Prelude.{IfOk}
 use Rattle.judge.specs.declared.sizes.Sizes.{Sizes as JudgedSizes}
-use Rattle.judge.specs.JudgedSizes.{judged_sizes_of, most_judged_events}
-use Rattle.lrc_check.specs.declared.checked.Checked.{Checked}
+use Rattle.judge.specs.JudgedSizes.{judged_sizes_of}
 use Rattle.lrc_check.specs.declared.checked.Rules.{Rules}
-use Rattle.lrc_check.specs.declared.history_judge.HistoryJudge.{HistoryJudge}
 use Rattle.lrc_check.specs.CheckVerdicts.{IsTrueCheckVerdict}
-use Rattle.lrc_check.specs.HistoryJudge.{HasJudgedToEnd, IsHistoryJudgeOf, IsNextPartOfHistory}
 use Rattle.lrc_check.specs.Unprotected.{AreUnprotectedTold, unprotected_looked_for}
-use Rattle.lrc_check.proofs.HistoryLocksets.{history_locksets_early, history_locksets_untold}
 use Rattle.lrc_check.proofs.history_judge.judge_whole_history.Goals as goal
 
 -- all events are the first part
-first_part : (events : List Event) (x : HistoryJudge) → IsHistoryJudgeOf [] x → length events ≤ most_judged_events
-    → IsNextPartOfHistory [] events x
-first_part events x judged few = record { judged = judged; few = omega arith }
+pub read_whole_and_words-requires : goal.read_whole_and_words-requires
+read_whole_and_words-requires c = record { judged = c.in_ok-judge.ensures.judged; few = (let few = c.requires.few in omega arith) }
 
 -- what is found by the judge's own rules and sizes
-by_rules : (r s : Rules) (t u : JudgedSizes) (j : List Event) (x : Checked) → s ≡ r → u ≡ t → IsTrueCheckVerdict s (judged_sizes_of u) j x
-    → IsTrueCheckVerdict r (judged_sizes_of t) j x
-by_rules r s t u j x rules sizes says =
-    subst (λ y. IsTrueCheckVerdict y (judged_sizes_of t) j x) rules (subst (λ y. IsTrueCheckVerdict s (judged_sizes_of y) j x) sizes says)
-
-pub read_all-requires : goal.read_all-requires
-read_all-requires c =
-    let x = c.in_ok-judge.judge in
-    ([], first_part c.args.events.now x c.in_ok-judge.ensures.judged c.requires.few)
-
-pub returns-in-Some-clause-found : goal.returns-in-Some-clause-found
-returns-in-Some-clause-found c =
-    let x = c.in_ok-judge.judge in
-    let part = first_part c.args.events.now x c.in_ok-judge.ensures.judged c.requires.few in
-    let end = rw c.in-Some.is at c.in_ok-found.ensures.judged [] part in
-    by_rules c.args.rules x.rules c.args.sizes x.judge.sizes c.args.events.now c.in-Some.found c.in_ok-judge.ensures.rules c.in_ok-judge.ensures.sizes
-    end.says
-
-pub returns-in-Some-clause-unprotected : goal.returns-in-Some-clause-unprotected
-returns-in-Some-clause-unprotected c =
-    let x = c.in_ok-judge.judge in
-    let part = first_part c.args.events.now x c.in_ok-judge.ensures.judged c.requires.few in
-    let end = rw c.in-Some.is at c.in_ok-found.ensures.judged [] part in
-    history_locksets_untold c.args.rules.locksets c.in-Some.found (judged_sizes_of c.args.sizes) c.args.events.now _
-    (history_locksets_early c.in-Some.found.verdict end.ended) c.new-in-Some.ensures.items
-
-pub finish-found-requires : goal.finish-found-requires
-finish-found-requires c =
-    let x = c.in_ok-judge.judge in
-    let part = first_part c.args.events.now x c.in_ok-judge.ensures.judged c.requires.few in
-    (c.args.events.now, rw c.in-None.is at c.in_ok-found.ensures.judged [] part)
-
--- the judge was told all
-to_end : {events : List Event} {found : Checked} {y : HistoryJudge} → IsHistoryJudgeOf events y → found.race ≡ y.judge.race
-    → HasJudgedToEnd events found y
-to_end judged race = record { told = λ sought. judged; race = λ sought. race }
-
-pub unprotected-requires : goal.unprotected-requires
-unprotected-requires c =
-    let x = c.in_ok-judge.judge in
-    let part = first_part c.args.events.now x c.in_ok-judge.ensures.judged c.requires.few in
-    (c.args.events.now, to_end (rw c.in-None.is at c.in_ok-found.ensures.judged [] part) c.finish-found.ensures.race)
-
 pub returns-clause-found : goal.returns-clause-found
 returns-clause-found c =
     let x = c.in_ok-judge.judge in
-    let y = c.read_all.new.self in
-    let part = first_part c.args.events.now x c.in_ok-judge.ensures.judged c.requires.few in
-    let judged = rw c.in-None.is at c.in_ok-found.ensures.judged [] part in
-    by_rules c.args.rules y.rules c.args.sizes y.judge.sizes c.args.events.now c.finish-found.result
-    (c.read_all.ensures.rules ∙ c.in_ok-judge.ensures.rules) (c.read_all.ensures.sizes ∙ c.in_ok-judge.ensures.sizes)
-    (c.finish-found.ensures.says c.args.events.now judged).0
+    subst (λ (r : Rules). IfOk c.read_whole_and_words.result (λ y. IsTrueCheckVerdict r (judged_sizes_of c.args.sizes) c.args.events.now y.0))
+    c.in_ok-judge.ensures.rules
+    (subst (λ (s : JudgedSizes). IfOk c.read_whole_and_words.result (λ y. IsTrueCheckVerdict x.rules (judged_sizes_of s) c.args.events.now y.0))
+    c.in_ok-judge.ensures.sizes c.read_whole_and_words.ensures.found)
 
 pub returns-clause-unprotected : goal.returns-clause-unprotected
 returns-clause-unprotected c =
     let x = c.in_ok-judge.judge in
-    let y = c.read_all.new.self in
-    let events = c.args.events.now in
-    let found = c.finish-found.result in
-    let words = c.in_ok-unprotected-in-None.unprotected.items in
-    let part = first_part events x c.in_ok-judge.ensures.judged c.requires.few in
-    let judged = rw c.in-None.is at c.in_ok-found.ensures.judged [] part in
-    let told = c.in_ok-unprotected-in-None.ensures events (to_end judged c.finish-found.ensures.race) in
-    subst (λ (r : Rules). AreUnprotectedTold (unprotected_looked_for r.locksets found) (judged_sizes_of c.args.sizes) events words)
-    (c.read_all.ensures.rules ∙ c.in_ok-judge.ensures.rules)
-    (subst (λ (s : JudgedSizes). AreUnprotectedTold (unprotected_looked_for y.rules.locksets found) (judged_sizes_of s) events words)
-    (c.read_all.ensures.sizes ∙ c.in_ok-judge.ensures.sizes) told)
+    subst (λ (r : Rules). IfOk c.read_whole_and_words.result
+    (λ y. AreUnprotectedTold (unprotected_looked_for r.locksets y.0) (judged_sizes_of c.args.sizes) c.args.events.now y.1.items)) c.in_ok-judge.ensures.rules
+    (subst (λ (s : JudgedSizes). IfOk c.read_whole_and_words.result
+    (λ y. AreUnprotectedTold (unprotected_looked_for x.rules.locksets y.0) (judged_sizes_of s) c.args.events.now y.1.items)) c.in_ok-judge.ensures.sizes
+    c.read_whole_and_words.ensures.unprotected)

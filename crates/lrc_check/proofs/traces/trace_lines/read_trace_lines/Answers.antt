@@ -10,7 +10,7 @@ use Rattle.lrc_check.proofs.traces.LabelLines.{label_lines_clean, label_lines_pu
 use Rattle.lrc_check.proofs.traces.Labelling.{labelling_dropped_clean}
 use Rattle.lrc_check.proofs.traces.ReadingOn.{reading_on_begins, reading_on_further}
 use Rattle.lrc_check.proofs.traces.TraceWalk.{trace_walk_line_among}
-use Rattle.lrc_check.proofs.traces.Feeding.{feeding_line_fault, feeding_line_kept, feeding_refused_label}
+use Rattle.lrc_check.proofs.traces.Feeding.{feeding_line_fault, feeding_line_kept, feeding_line_passed, feeding_refused_label}
 use Rattle.lrc_check.proofs.traces.trace_lines.read_trace_lines.Goals as goal
 
 -- what was read of the line is read of it without its label
@@ -29,7 +29,7 @@ returns-in_err-keep_trace_line_label-clause-fault c =
     let p = err_from_is_err_and c.from_residual.result c.from_residual.ensures.1 in
     rw (p.1, p.2) (λ front h.
     feeding_line_fault _ _ (trace_begun_text front c.loop-line.begun) c.loop-line.rest.now c.in-Some.line.now c.in-Some.after.now _
-    c.in-Some.ensures
+    c.in-Some.ensures (sym c.if-is_trace_line_passed_over.ensures)
     (feeding_refused_label c.args.gone front c.loop-line.begun (line_without_trace_label c.in-Some.line.now) _
     (c.loop-line.invariant.on.begun front h) (labelling_dropped_clean c.in-Some.line.now c.in-Some.ensures.one_line)
     c.in_err-keep_trace_line_label.ensures.number c.in_err-keep_trace_line_label.ensures.fault)
@@ -41,7 +41,7 @@ returns-in_err-read_trace_line-clause-fault c =
     let fault = rw c.split_trace_label_unless_read.ensures.bare at c.in_err-read_trace_line.ensures.fault in
     rw (p.1, p.2) (λ front h.
     feeding_line_fault _ _ (trace_begun_text front c.loop-line.begun) c.loop-line.rest.now c.in-Some.line.now c.in-Some.after.now _
-    c.in-Some.ensures (fault front (c.loop-line.invariant.on.begun front h)) (c.loop-line.invariant.text front h))
+    c.in-Some.ensures (sym c.if-is_trace_line_passed_over.ensures) (fault front (c.loop-line.invariant.on.begun front h)) (c.loop-line.invariant.text front h))
 
 pub returns-in_err-keep_trace_line_label-clause-read : goal.returns-in_err-keep_trace_line_label-clause-read
 returns-in_err-keep_trace_line_label-clause-read c = λ front h more.
@@ -57,6 +57,24 @@ pub returns-clause-read : goal.returns-clause-read
 returns-clause-read c = λ front h more.
     reading_on_begins front c.loop-line.begun _ (without_trace_labels (c.loop-line.rest.now ++ more)) (c.loop-line.invariant.text front h more)
 
+pub loop-line-preserved-then-is_trace_line_passed_over : goal.loop-line-preserved-then-is_trace_line_passed_over
+loop-line-preserved-then-is_trace_line_passed_over c =
+    let line = c.in-Some.line.now in
+    let after = c.in-Some.after.now in
+    let rest = c.loop-line.rest.now in
+    let before = c.loop-line.invariant.behind.0 in
+    let passed = sym c.if-is_trace_line_passed_over.ensures in
+    record {
+      on = c.loop-line.invariant.on;
+      behind =
+          (before ++ (line ++ 10 ∷ []), c.loop-line.invariant.behind.1 ∙ trace_walk_line_among before rest line after c.in-Some.ensures);
+      text = λ front h.
+          feeding_line_passed line_without_trace_label (trace_begun_text front c.loop-line.begun) rest line after _ c.in-Some.ensures passed
+          (c.loop-line.invariant.text front h);
+      lines = c.loop-line.invariant.lines;
+      labels = feeding_line_passed trace_line_label c.loop-line.labels rest line after _ c.in-Some.ensures passed c.loop-line.invariant.labels;
+    }
+
 pub loop-line-preserved : goal.loop-line-preserved
 loop-line-preserved c =
     let line = c.in-Some.line.now in
@@ -65,17 +83,18 @@ loop-line-preserved c =
     let before = c.loop-line.invariant.behind.0 in
     let text = rw c.split_trace_label_unless_read.ensures.bare at c.in_ok-read_trace_line.ensures.text in
     let kept = rw c.split_trace_label_unless_read.ensures.label at c.in_ok-keep_trace_line_label.ensures.kept in
+    let told = sym c.if-is_trace_line_passed_over.ensures in
     record {
       on = reading_on_further c.args.gone c.args.begun.now c.loop-line.begun c.read_trace_line.new.begun c.loop-line.invariant.on c.read_trace_line.ensures.on;
       behind =
           (before ++ (line ++ 10 ∷ []), c.loop-line.invariant.behind.1 ∙ trace_walk_line_among before rest line after c.in-Some.ensures);
       text = λ front h.
           feeding_line_kept line_without_trace_label (trace_begun_text front c.loop-line.begun) (trace_begun_text front c.read_trace_line.new.begun)
-          rest line after _ c.in-Some.ensures (text front (c.loop-line.invariant.on.begun front h)) (c.loop-line.invariant.text front h);
+          rest line after _ c.in-Some.ensures told (text front (c.loop-line.invariant.on.begun front h)) (c.loop-line.invariant.text front h);
       lines = λ n h.
           label_lines_push n (trace_begun_line_count c.loop-line.begun) _ c.loop-line.labels _ (trace_line_label line)
           (c.loop-line.invariant.lines n h) (label_lines_clean line c.in-Some.ensures.one_line) kept c.in_ok-read_trace_line.ensures.count;
       labels =
-          feeding_line_kept trace_line_label c.loop-line.labels c.keep_trace_line_label.new.labels rest line after _ c.in-Some.ensures kept
+          feeding_line_kept trace_line_label c.loop-line.labels c.keep_trace_line_label.new.labels rest line after _ c.in-Some.ensures told kept
           c.loop-line.invariant.labels;
     }

@@ -24,14 +24,14 @@ returns-in-Ok-clause-read c = λ bytes front told h.
 pub returns-in-Err-clause-read : goal.returns-in-Err-clause-read
 returns-in-Err-clause-read c = λ bytes front told h.
     let was = feeding_fed_text c.self.inside.gone c.self.inside.headed c.self.inside.begun c.self.inside.labels c.self.inside.unfinished.items in
-    let now = feeding_fed_text c.self.inside.gone c.self.inside.headed c.read_piece.new.begun c.read_piece.new.labels c.clear.new.self.items in
+    let now = feeding_fed_text c.self.inside.gone c.self.inside.headed c.read_piece.new.begun c.read_piece.new.labels c.keep_refused_line.new.unfinished.items in
     feeding_read_further was now bytes c.args.piece.now front told (c.read_piece.ensures.on.begun front) (c.read_piece.ensures.read front)
     (subst (IsFedTextOf bytes front told) (sym c.self.view_is) h)
 
 pub returns-in-Err-clause-number : goal.returns-in-Err-clause-number
 returns-in-Err-clause-number c =
     c.in-Err.ensures.number
-    ∙ feeding_line_number c.self.inside.gone c.self.inside.headed c.read_piece.new.begun c.read_piece.new.labels c.clear.new.self.items
+    ∙ feeding_line_number c.self.inside.gone c.self.inside.headed c.read_piece.new.begun c.read_piece.new.labels c.keep_refused_line.new.unfinished.items
     c.read_piece.ensures.on.left
 
 pub returns-in-Err-clause-only : goal.returns-in-Err-clause-only
