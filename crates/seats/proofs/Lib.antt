@@ -7,6 +7,7 @@ mod SeatAccess
 mod SeatClosings
 mod StillSitting
 mod ProgramThreads
+mod ToldFaults
 mod KeptSeats
 pub mod KeptFacts
 pub mod KeptByPrograms

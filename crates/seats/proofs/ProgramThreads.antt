@@ -209,8 +209,3 @@ pub program_threads_ran : {X : Type 0} {g : GuardTables} {did : ℕ → List Kin
     → IsFinished c.sizes worked j → IsProgramRun g did s answers j
 program_threads_ran {g = g} {did = did} {answers = answers} {j = j} sizes new all finished =
     subst (λ t. IsProgramRun g did t answers j) sizes (program_threads_ran_there new all finished)
-
--- what is told if there is no fault
-pub program_threads_unless_faulted : {F : Type 0} {A B : Type 0} (fault : Option F) → (A → B) → IfNone fault A → IfNone fault B
-program_threads_unless_faulted None on a = on a
-program_threads_unless_faulted (Some f) on a = a

@@ -15,4 +15,5 @@ pub mod Sitting
 pub mod Stencils
 pub mod Tables
 pub mod Tenures
+pub mod ToldFaults
 pub mod WordTallies

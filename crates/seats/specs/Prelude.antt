@@ -5,10 +5,11 @@ pub use Rattle.seats.specs.GuardedRuns.{IsGuardedRun}
 pub use Rattle.seats.specs.KeptLayout.{kept_layout_lets_access}
 pub use Rattle.seats.specs.PhaseGuards.{phase_guards_allow_access}
 pub use Rattle.seats.specs.GuardLaws.{SeatGuardLaw, SeatTableGuardLaw}
-pub use Rattle.seats.specs.Tables.{IsPutInTable, TablesOpenNothing, table_guard, table_guard_put, table_range_has, table_next}
+pub use Rattle.seats.specs.Tables.{IsFirstOpenInTables, IsPutInTable, TablesOpenNothing, table_guard, table_guard_put, table_range_has, table_next}
 pub use Rattle.cluster.specs.Covers.{IsCoverAllowed}
 pub use Rattle.seats.specs.ProgramRuns.{AreSeatedForProgramRun, HasRoomForProgramRun, HaveAllJoinedProgramRun, HaveAllWorkedInProgramRun, IsNobodyInProgramRun, IsProgramRun}
 pub use Rattle.seats.specs.ProgramRuns.{IsProgramRunWork, program_run_seat}
+pub use Rattle.seats.specs.ToldFaults.{IsToldFault, NoneFaulted, is_vain_wait, told_fault_then}
 pub use Rattle.seats.specs.Sitting.{HasWorkedSitting, IsSitting, new_sitting_processor, seat_deeds}
 pub use Rattle.seats.specs.SeatCalls.{SeatCallAccessesBy, SeatCallAccessesInside, AccessesPage, SeatCallFetchesBy, HasDone, IsSeatCallTaken, IsLeftUndone, IsSeatCallUndone}
 pub use Rattle.seats.specs.SeatCalls.{IsSeatedAfterCall, SeatCallWaitsStill, seat_call_and_answer, seat_call_refusal_at_once}

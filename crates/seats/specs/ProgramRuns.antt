@@ -43,12 +43,13 @@ pub record AreSeatedForProgramRun (g : GuardTables) (ms : List Local) (threads :
 pub record IsNobodyInProgramRun {X : Type 0} (w : Workers X) : Type 0 where
   pub processors_none : w.processors.items ≡ []
   pub answers_none : w.answers.items ≡ []
-  pub fault_none : w.fault ≡ None
+  pub ends_none : w.ends.items ≡ []
 
 -- there is room for as many
 pub record HasRoomForProgramRun {X : Type 0} (w : Workers X) (count : ℕ) : Type 0 where
   pub processors_fit : count ≤ vec_capacity w.processors
   pub answers_fit : count ≤ vec_capacity w.answers
+  pub ends_fit : count ≤ vec_capacity w.ends
 
 -- each of these threads was started, and gave back its processor, which has worked, and an answer
 pub record HaveAllJoinedProgramRun {X : Type 0} (did : ℕ → List Kind → X → Type 0) (threads : List (Option ProgramRunErrand)) (worked : List Local)

@@ -1,5 +1,5 @@
 -- Guards as plain data.
-use Rattle.std.specs.Prelude.{ℕ, zero, suc, ◌≡◌, ◌≢◌, ◌+◌, ◌==◌, Option, Some, List, if◌then◌else◌, Bool, true, ◌&&◌, nat_le, nat_lt, length, slice_get, get_or, []}
+use Rattle.std.specs.Prelude.{ℕ, zero, suc, ◌≡◌, ◌≢◌, ◌+◌, ◌<◌, ◌==◌, Option, Some, List, if◌then◌else◌, Bool, true, ◌&&◌, nat_le, nat_lt, length, slice_get, get_or, []}
 use Rattle.seats.specs.declared.guard.Guard.{Guard}
 use Rattle.seats.specs.declared.guard.Guard.TheVariants.{Open}
 use Rattle.seats.specs.PhaseGuards.{PhaseGuards}
@@ -29,6 +29,13 @@ guards_of g k a = table_guard g (table_at g k) a
 -- no address is open to all
 abbrev pub TablesOpenNothing : GuardTables → Type 0
 TablesOpenNothing g = (t a : ℕ) → table_guard g t a ≢ Some Open
+
+-- this table has the address open to all, no table before it has such an address, nor has it one before this
+pub record IsFirstOpenInTables (g : GuardTables) (a : ℕ) : Type 0 where
+  pub table : ℕ
+  pub is_open : table_guard g table a ≡ Some Open
+  pub tables : (t b : ℕ) → t < table → table_guard g t b ≢ Some Open
+  pub addresses : (b : ℕ) → b < a → table_guard g table b ≢ Some Open
 
 -- the guard of an address that is given this one, if so and if it has one
 abbrev pub table_guard_put : Bool → Guard → Option Guard → Option Guard

@@ -1,6 +1,8 @@
 //! Why a seat's call fails.
-ghost use Rattle.std.specs.Prelude.{◌≡◌};
+ghost use Rattle.std.specs.Prelude.{◌≡◌, ◌++◌, ◌∷◌, [], List, Result, length};
+ghost use Rattle.seats.specs.declared.fault.SeatFault.{SeatFault as AFault};
 ghost use Rattle.book.specs.declared.refused.Refused.TheVariants.{NoMemory};
+ghost use Rattle.seats.specs.ToldFaults.{IsToldFault, is_vain_wait, told_fault_then};
 ghost use Rattle.seats.specs.declared.fault.SeatFault.TheVariants as fault;
 
 use cluster::Refused;
@@ -33,7 +35,9 @@ pub enum SeatFault {
 
 impl SeatFault {
     /// Whether it is that a wait was in vain: then the reason is mostly another processor's fault.
-    pub fn is_of_waiting(self) -> bool {
+    pub fn is_of_waiting(self) -> bool
+        ensures { result ≡ is_vain_wait self }
+    {
         matches!(self, SeatFault::Stuck | SeatFault::Deserted)
     }
 }
@@ -46,6 +50,49 @@ pub struct ProcessorFault {
     pub processor: usize,
     /// What it is.
     pub fault: SeatFault,
+}
+
+/// The fault to tell of processors that came to these ends, by rising number: that of the least that faulted otherwise than by
+/// waiting in vain; if there is none, of the least that waited in vain. None if all came to their ends.
+pub fn told_fault<X>(ends: &[Result<X, SeatFault>]) -> Option<ProcessorFault>
+    ensures { IsToldFault ends.now result }
+{
+    let mut told = None;
+    for processor in 0..ends.len() {
+        told = told_with(told, processor, &ends[processor]);
+    }
+    told
+}
+
+/// The fault to tell when a further processor came to this end.
+fn told_with<X>(
+    told: Option<ProcessorFault>,
+    processor: usize,
+    end: &Result<X, SeatFault>,
+) -> Option<ProcessorFault>
+    ensures { (ends : List (Result X AFault)) → length ends ≡ processor → IsToldFault ends told
+        → IsToldFault (ends ++ end.now ∷ []) result }
+{
+    match end {
+        Ok(_) => told,
+        Err(fault) => Some(told_of_two(
+            told,
+            ProcessorFault {
+                processor,
+                fault: *fault,
+            },
+        )),
+    }
+}
+
+/// Which of two faults is told: the earlier one, unless that alone is of waiting.
+fn told_of_two(earlier: Option<ProcessorFault>, later: ProcessorFault) -> ProcessorFault
+    ensures { result ≡ told_fault_then earlier later }
+{
+    match earlier {
+        Some(first) if !first.fault.is_of_waiting() || later.fault.is_of_waiting() => first,
+        _ => later,
+    }
 }
 
 impl From<Refused> for SeatFault {

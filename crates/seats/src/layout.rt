@@ -1,6 +1,6 @@
 //! Layouts: who may access which words in which phase.
-ghost use Rattle.std.specs.Prelude.{◌≡◌, ◌≢◌, ◌+◌, ◌<◌, ◌∷◌, [], ℕ, IfOk, IfNone, Some, length, max, replicate, slice_get};
-ghost use Rattle.seats.specs.Prelude.{IsPutInTable, TablesOpenNothing, table_guard, table_guard_put, table_range_has, table_next};
+ghost use Rattle.std.specs.Prelude.{◌≡◌, ◌≢◌, ◌+◌, ◌<◌, ◌∷◌, [], ℕ, IfOk, IfNone, IfSome, Some, length, max, replicate, slice_get};
+ghost use Rattle.seats.specs.Prelude.{IsFirstOpenInTables, IsPutInTable, TablesOpenNothing, table_guard, table_guard_put, table_range_has, table_next};
 ghost use Rattle.seats.specs.declared.guard.Guard.TheVariants.{Of, Open};
 
 use crate::guard::Guard;
@@ -98,9 +98,10 @@ impl Layout {
         }
     }
 
-    /// The first address that is open to all in some table: None if there is none.
+    /// The first address that is open to all in the first table that has one: None if no table has.
     pub fn first_open(&self) -> Option<usize>
-        ensures { IfNone result (TablesOpenNothing self.now) }
+        ensures first { IfSome result (IsFirstOpenInTables self.now) }
+        ensures none { IfNone result (TablesOpenNothing self.now) }
     {
         for table in 0..self.tables.len() {
             match first_open_in(self.tables[table].as_slice()) {
@@ -114,7 +115,9 @@ impl Layout {
 
 /// The first address of the table that is open to all.
 fn first_open_in(table: &[Guard]) -> Option<usize>
-    ensures { IfNone result ((a : ℕ) → slice_get table.now a ≢ Some Open) }
+    ensures found { IfSome result (λ a. slice_get table.now a ≡ Some Open) }
+    ensures first { IfSome result (λ a. (b : ℕ) → b < a → slice_get table.now b ≢ Some Open) }
+    ensures none { IfNone result ((a : ℕ) → slice_get table.now a ≢ Some Open) }
 {
     for address in 0..table.len() {
         if table[address] == Guard::Open {

@@ -15,7 +15,7 @@
 //!
 //! A seat keeps to a [`Layout`]: an access that it doesn't allow is barred. What [`run`] answers is the whole history of its
 //! cluster, in which each processor kept to the layout and did what the program says of it; nothing in it races if no word of
-//! the layout is open to all. Which fault it tells if some don't come to their ends is only tested.
+//! the layout is open to all. Which fault is told of several (`told_fault`); that it is that of the run is only tested.
 //!
 //! `guarded_law`: in a well formed history of processors of which each keeps to the guards, two
 //! accesses race only if the word was open to all in some phase. A [`Layout`] has guards as plain data, by tables that are
@@ -40,7 +40,7 @@ mod tests;
 mod word;
 mod word_access;
 
-pub use fault::{ProcessorFault, SeatFault};
+pub use fault::{ProcessorFault, SeatFault, told_fault};
 pub use grids::Grids;
 pub use guard::Guard;
 pub use layout::Layout;

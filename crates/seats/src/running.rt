@@ -1,14 +1,14 @@
 //! A program on a cluster of its own, with a thread for each processor.
-ghost use Rattle.std.specs.Prelude.{◌≡◌, Err, IfOk};
+ghost use Rattle.std.specs.Prelude.{ℕ, ◌≡◌, Err, IfOk};
 ghost use Rattle.cluster.specs.Copies.Sound.{AreSoundSizes};
 ghost use Rattle.book.specs.declared.refused.Refused.TheVariants.{BadSize};
-ghost use Rattle.seats.specs.Prelude.{IsGuardedRun, IsProgramRun};
+ghost use Rattle.seats.specs.Prelude.{IsFirstOpenInTables, IsGuardedRun, IsProgramRun};
 ghost use Rattle.seats.specs.declared.fault.SeatFault.TheVariants as fault;
 
 mod threads;
 
 use self::threads::{Workers, work_on_seat_threads};
-use crate::fault::{ProcessorFault, SeatFault};
+use crate::fault::{ProcessorFault, SeatFault, told_fault};
 use crate::layout::Layout;
 use crate::program::Program;
 use cluster::{BookLock, Cluster, Journal};
@@ -57,9 +57,9 @@ pub fn run<P: Program, R: Threads + Wait + Sync>(
     let Workers {
         processors,
         answers,
-        fault,
+        ends,
     } = workers;
-    if let Some(fault) = fault {
+    if let Some(fault) = told_fault(&ends) {
         return Err(fault);
     }
     let journal = cluster.finish(processors);
@@ -95,9 +95,10 @@ pub fn run_guarded<P: Program, R: Threads + Wait + Sync>(
     layout: &Layout,
     program: &P,
 ) -> Result<GuardedRun<P::Answer>, ProcessorFault>
-    ensures { IfOk result (λ r. IsGuardedRun layout.now P.did
+    ensures ran { IfOk result (λ r. IsGuardedRun layout.now P.did
         (record { processors = processors; pages = pages; words = words; locks = locks; flags = flags })
         r.answers.items r.memory.items r.journal) }
+    ensures left_open { (a : ℕ) → IsFirstOpenInTables layout.now a → result ≡ Err (record { processor = 0; fault = fault.Open a }) }
 {
     if let Some(address) = layout.first_open() {
         return Err(ProcessorFault {

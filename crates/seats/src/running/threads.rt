@@ -1,13 +1,13 @@
 //! Processors on threads.
-ghost use Rattle.std.specs.Prelude.{◌≡◌, ◌≤◌, [], IfOk, IfNone, IfSome, vec_len, vec_capacity};
+ghost use Rattle.std.specs.Prelude.{◌≡◌, ◌≤◌, [], IfOk, IfSome, length, vec_len, vec_capacity};
 ghost use Rattle.std.specs.Thread.{IsSend, IsSync};
 ghost use Rattle.cluster.specs.NewClusters.{shared_cluster};
 ghost use Rattle.cluster.specs.Prelude.{HasCoverage, HasClusterCoverage, IsNewCluster};
 ghost use Rattle.seats.specs.Prelude.{IsCoverAllowed};
 ghost use Rattle.seats.specs.Prelude.{AreSeatedForProgramRun, HasRoomForProgramRun, HasWorkedSitting, HaveAllJoinedProgramRun, HaveAllWorkedInProgramRun, IsNobodyInProgramRun, IsProgramRunWork};
-ghost use Rattle.seats.specs.Prelude.{new_sitting_processor, program_run_seat};
+ghost use Rattle.seats.specs.Prelude.{NoneFaulted, new_sitting_processor, program_run_seat};
 
-use crate::fault::{ProcessorFault, SeatFault};
+use crate::fault::SeatFault;
 use crate::layout::Layout;
 use crate::program::{Program, sit};
 use cluster::{BookLock, Cluster, Processor};
@@ -128,13 +128,13 @@ fn start_seat_threads<'s, 'x: 's, P: Program, R: Threads + Wait + Sync>(
     threads
 }
 
-/// The processors that came to their ends, by rising number, with what their threads answered; and the fault to tell, if
-/// others didn't.
+/// The processors that came to their ends, by rising number, with what their threads answered; and of each processor whether
+/// it did.
 #[derive(Drop)]
 pub(super) struct Workers<X> {
     pub(super) processors: Vec<Processor<BookLock>>,
     pub(super) answers: Vec<X>,
-    pub(super) fault: Option<ProcessorFault>,
+    pub(super) ends: Vec<Result<(), SeatFault>>,
 }
 
 /// Nobody yet, with room for as many.
@@ -144,16 +144,8 @@ fn nobody_on_seat_threads<X: Drop>(alloc: Global, count: usize) -> Result<Worker
     Ok(Workers {
         processors: Vec::with_capacity(alloc, count)?,
         answers: Vec::with_capacity(alloc, count)?,
-        fault: None,
+        ends: Vec::with_capacity(alloc, count)?,
     })
-}
-
-/// Which of two faults is told: the earlier one, unless that alone is of waiting.
-fn seat_thread_fault(earlier: Option<ProcessorFault>, later: ProcessorFault) -> ProcessorFault {
-    match earlier {
-        Some(first) if !first.fault.is_of_waiting() || later.fault.is_of_waiting() => first,
-        _ => later,
-    }
 }
 
 /// Waits for all threads, and puts together what came of their processors.
@@ -164,24 +156,19 @@ fn join_seat_threads<P: Program, R: Threads>(
 ) -> Workers<P::Answer>
     requires none { IsNobodyInProgramRun workers }
     requires room { HasRoomForProgramRun workers (vec_len threads) }
-    ensures { IfNone result.fault (HaveAllJoinedProgramRun P.did threads.items result.processors.items result.answers.items) }
+    ensures long { length result.ends.items ≡ length threads.items }
+    ensures joined { NoneFaulted result.ends.items
+        → HaveAllJoinedProgramRun P.did threads.items result.processors.items result.answers.items }
 {
-    let mut number: usize = 0;
     for thread in threads {
         match thread.join(rt) {
             Ok((processor, answer)) => {
                 workers.processors.push_reserved(processor);
                 workers.answers.push_reserved(answer);
+                workers.ends.push_reserved(Ok(()));
             }
-            Err(fault) => {
-                let later = ProcessorFault {
-                    processor: number,
-                    fault,
-                };
-                workers.fault = Some(seat_thread_fault(workers.fault, later));
-            }
+            Err(fault) => workers.ends.push_reserved(Err(fault)),
         }
-        number = number.wrapping_add(1);
     }
     workers
 }
@@ -198,7 +185,8 @@ pub(super) fn work_on_seat_threads<'x, P: Program, R: Threads + Wait + Sync>(
 ) -> Result<Workers<P::Answer>, AllocError>
     requires new { IsNewCluster cluster.now processors.items }
     requires covered { HasClusterCoverage processors.items }
-    ensures { IfOk result (λ w. IfNone w.fault (HaveAllWorkedInProgramRun layout.now P.did processors.items w.processors.items w.answers.items)) }
+    ensures { IfOk result (λ w. NoneFaulted w.ends.items
+        → HaveAllWorkedInProgramRun layout.now P.did processors.items w.processors.items w.answers.items) }
 {
     let count = processors.len();
     let threads = Vec::with_capacity(alloc, count)?;
@@ -212,7 +200,8 @@ pub(super) fn work_on_seat_threads<'x, P: Program, R: Threads + Wait + Sync>(
             requires covered { HasClusterCoverage processors.items }
             requires threads { (threads.items ≡ []) × (vec_len processors ≤ vec_capacity threads) }
             requires workers { IsNobodyInProgramRun workers × HasRoomForProgramRun workers (vec_len processors) }
-            ensures { IfNone result.fault (HaveAllWorkedInProgramRun layout.entry.now P.did processors.items result.processors.items result.answers.items) }
+            ensures { NoneFaulted result.ends.items
+                → HaveAllWorkedInProgramRun layout.entry.now P.did processors.items result.processors.items result.answers.items }
         {
             let threads = start_seat_threads(
                 scope, rt, cluster, processors, layout, program, threads,

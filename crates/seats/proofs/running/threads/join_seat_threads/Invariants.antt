@@ -2,6 +2,7 @@
 use Rattle.std.proofs.Common.{◌≡◌, ◌≤◌, ◌++◌, None, length, vec_len, vec_capacity}
 use Rattle.std.specs.Vec.Iter.{into_iter_items}
 use Rattle.seats.specs.ProgramRuns.{HaveAllJoinedProgramRun}
+use Rattle.seats.specs.ToldFaults.{NoneFaulted}
 use Rattle.seats.proofs.running.threads.join_seat_threads.Given as goal
 
 abbrev pub invariant-loop-thread : goal.invariant-loop-thread
@@ -11,6 +12,8 @@ invariant-loop-thread g l = record {
   answers_fit : vec_len l.fn.threads ≤ vec_capacity l.workers.answers;
   processors_few : length l.workers.processors.items ≤ length l.yielded;
   answers_few : length l.workers.answers.items ≤ length l.yielded;
-  joined : l.workers.fault ≡ None
+  ends_fit : vec_len l.fn.threads ≤ vec_capacity l.workers.ends;
+  ends_long : length l.workers.ends.items ≡ length l.yielded;
+  joined : NoneFaulted l.workers.ends.items
       → HaveAllJoinedProgramRun g.P.Program.did l.yielded l.workers.processors.items l.workers.answers.items;
 }
