@@ -12,13 +12,14 @@ use std::alloc::{AllocError, Global};
 use std::test::Fail;
 
 /// Traces whose first line is wrong, or that end too early, with the line and the fault.
-const HEADS: [(&str, usize, TraceFault); 18] = [
+const HEADS: [(&str, usize, TraceFault); 19] = [
     ("", 1, Truncated),
     ("cluster 1 1 1 0", 1, Truncated),
     ("cluster 9 1 1 0/x", 2, Truncated),
     ("cluster 1 1 1 0/event 0 0 arrive", 2, Truncated),
     ("cluster 1 1 1 0/event 0 0 arrive/event", 3, Truncated),
-    ("/", 1, BadLine),
+    ("x/", 1, BadLine),
+    ("/# x/x/", 1, BadLine),
     ("event 0 0 arrive/", 1, BadLine),
     ("cut 2/", 1, BadLine),
     ("cluster 1 1 1/", 1, BadLine),
@@ -34,7 +35,7 @@ const HEADS: [(&str, usize, TraceFault); 18] = [
 ];
 
 /// Traces with a line of a wrong shape, or with a word that is no number.
-const SHAPES: [(&str, usize, TraceFault); 33] = [
+const SHAPES: [(&str, usize, TraceFault); 35] = [
     ("cluster 1 1 1 0/cut 2/event 2 0 depart/", 2, Cut),
     ("cluster 1 1 1 0/cut 1073741824/", 2, Cut),
     ("cluster 1 1 1 0/cut 0/", 2, BadLine),
@@ -42,7 +43,9 @@ const SHAPES: [(&str, usize, TraceFault); 33] = [
     ("cluster 1 1 1 0/cut/", 2, BadLine),
     ("cluster 1 1 1 0/cut 2 3/", 2, BadLine),
     ("cluster 1 1 1 0/event 0 0 arrive/cut 1/", 3, BadLine),
-    ("cluster 1 1 1 0//", 2, BadLine),
+    ("cluster 1 1 1 0/x/", 2, BadLine),
+    ("#/cluster 1 1 1 0//# x/event 0 0/", 2, BadLine),
+    ("cluster 1 1 1 0/ # x/", 2, BadLine),
     ("cluster 1 1 1 0/cluster 1 1 1 0/", 2, BadLine),
     ("cluster 1 1 1 0/event 0 0/", 2, BadLine),
     ("cluster 1 1 1 0/event 0/", 2, BadLine),
