@@ -288,7 +288,7 @@ pub fn check(file: &str) {
         judge.note(count, processor, what);
         count += 1;
     }
-    println!("events {count}\nmodel race-free\nfaithful\nunjudged counts order");
+    println!("events {count}\nmodel race-free\nfaithful");
     match judge.race {
         None => println!("verdict race-free"),
         Some((first, second)) => println!("verdict racy {first} {second}"),

@@ -72,12 +72,22 @@ count("a lie is told while the pipe is open", (status, said) == (6, LIE_TOLD), s
 status, said, wrong = while_open(RACE, "--race-is-error")
 count("a race ends the judging while the pipe is open", status == 8 and "event 1 1 store 0 6  b" in said, status, said, wrong)
 status, said, wrong = while_open(RACE + BAD)
-count("a bad line is told while the pipe is open", (status, wrong) == (2, "lrc: line 4: line not understood\n"), status, said, wrong)
+HINT = """lrc: line 4: line not understood
+  standard input:4:11
+  event 2 0 nothing
+            ^
+  expected event NUMBER PROCESSOR, and load, store, fetch, ask, acquire, release, arrive, depart, set, watch or await
+"""
+count("a bad line is told while the pipe is open", (status, wrong) == (2, HINT), status, said, wrong)
 for size in (1, 7, 40, None):
     status, said, _ = judged(LIE + BAD, pieces=size)
     count(f"the lie comes before the bad line, in pieces of {size}", (status, said) == (6, LIE_TOLD), status, said)
     status, said, wrong = judged(RACE + BAD + LIE, pieces=size)
     count(f"the bad line comes before the lie, in pieces of {size}", (status, said) == (2, ""), status, said, wrong)
+    count(f"the bad line is shown, in pieces of {size}", wrong == HINT, wrong)
+    passed = b"# one\n\n" + RACE + b"\n# two\n\n" + BAD + LIE
+    status, said, wrong = judged(passed, pieces=size)
+    count(f"lines that are passed over are counted, in pieces of {size}", wrong == HINT.replace(" 4:", " 9:").replace(":4:", ":9:"), wrong)
 STORING = (("--model", "happens-before"), ("--model", "lazy-release"), ("--model", "lazy-release", "--lax"))
 for words in STORING:
     status, said, wrong = while_open(LIE, *words)

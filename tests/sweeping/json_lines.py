@@ -127,6 +127,17 @@ def word_line(word):
     return f"unprotected {bare}; events {one['place']} and {other['place']} hold lock {word['lock']}"
 
 
+def waiting_lines(end):
+    """The lines on who waits in vain at the end."""
+    for it in end.get("waits", []):
+        absent = ", ".join(f"p{who}" for who in it.get("absent", []))
+        yield f"waits p{it['processor']} " + (
+            f"for lock {it['lock']}, held by p{it['holder']}" if "lock" in it
+            else f"for flag {it['flag']}, which nobody has set" if "flag" in it else f"at the barrier for {absent}")
+    for circle in end.get("circles", []):
+        yield f"circle {', '.join(f'p{it}' for it in circle)}"
+
+
 def check_text(objects):
     """The text of `check`, but for the sentences on a race."""
     *others, end = objects
@@ -141,9 +152,9 @@ def check_text(objects):
         yield f"model {end['model']}"
     race = [f"verdict racy\n{line_of(by['race']['first'])}\n{line_of(by['race']['second'])}"] if "race" in by else []
     if end.get("faithful"):
-        yield from ["faithful", *["unjudged counts order"] * end["lax"],
+        yield from ["faithful", *["unjudged counts order"] * (end["lax"] and end["model"] == "lazy-release"),
                     *[f"unjudged {end['unjudged']} loads"] * (end["model"] == "race-free" and end["racy"]),
-                    *(race or ["verdict race-free"]), *map(word_line, words),
+                    *(race or ["verdict race-free"]), *map(word_line, words), *waiting_lines(end),
                     "traffic {messages} {records} {words}".format(**end["traffic"])]
         return
     yield from race

@@ -26,7 +26,16 @@ PROCESSORS = 17, 25
 AS_IT_IS, FLAT = "journals", "all replies of one flat memory"
 
 
+def without_hint(answer):
+    """The answer, of a trace that is refused without what stands below the fault, each line of which is indented."""
+    first, _, hint = answer.errors.partition("\n")
+    if answer.status != 2 or not all(line.startswith("  ") for line in hint.splitlines()):
+        return answer
+    return answer._replace(errors=first + "\n")
+
+
 def check_verdict(wanted, answer):
+    answer = without_hint(answer)
     expect(answer == wanted, f"the program answers {wanted}where it answers {answer}")
 
 
@@ -36,6 +45,7 @@ TOLD = re.compile(r" *([0-9]+)  ")
 
 def check_told(answer, told):
     """A trace told has a line for each event that `check` judged, and behind them what that prints."""
+    told, answer = without_hint(told), without_hint(answer)
     ends = (told.status, told.errors) == (answer.status, answer.errors)
     expect(ends, f"it is told with {answer}where it is with {told}")
     if not answer.output:

@@ -55,12 +55,12 @@ def counts_of(before, kind):
 
 
 def not_granted(before, event, lax):
-    """Why the lock isn't granted to the processor, which has asked for it."""
+    """Why the lock isn't granted to the processor, which has asked for it, or needs not."""
     lock = event.numbers[0]
     holder, first = holder_of(before, lock), first_ask(before, lock)
     if holder is not None:
         return f"processor {holder} holds the lock"
-    if before[first].processor != event.processor and not lax:
+    if not lax and before[first].processor != event.processor:
         return f"processor {before[first].processor} asked for the lock earlier, by event {first}"
     return None
 
@@ -77,8 +77,10 @@ def not_let_on(sizes, before, event, lax):
     return None if is_set else "nobody has set the flag"
 
 
-def not_called(before, event):
-    """Why the event may not come, whose processor waits for nothing."""
+def not_called(sizes, before, event, lax):
+    """Why the event may not come, whose processor waits for nothing. Lax, an acquire or an await stands for its ask or watch, too."""
+    if lax and event.kind in ("acquire", "await"):
+        return not_let_on(sizes, before, event, lax)
     if event.kind in ENDS.values():
         return "its processor has not just asked, arrived or watched for it"
     if event.kind == "ask" and holder_of(before, event.numbers[0]) == event.processor:
@@ -94,10 +96,10 @@ WAITS = {"acquire": "its processor waits for lock {}", "await": "its processor w
 
 def why_not(sizes, before, event, lax=False):
     """Why the event may not come after these events, none of which is refused itself; None where it may. Lax, a lock
-    may be granted to whoever waits for it. What the event names is within the sizes."""
+    may be granted to whoever waits for it, and its ask may be left out. What the event names is within the sizes."""
     wait = awaited(before, event.processor)
     if wait is None:
-        return not_called(before, event)
+        return not_called(sizes, before, event, lax)
     kind, numbers = wait
     if (event.kind, event.numbers) == wait:
         return not_let_on(sizes, before, event, lax)
@@ -111,3 +113,36 @@ def first_refused(sizes, events, lax=False):
         if why is not None:
             return place, why
     return None
+
+
+def waits_for(sizes, events, processor):
+    """What is told of what the processor waits for in vain at the end, and the one processor that it waits for; None for each that
+    isn't there."""
+    wait = awaited(events, processor)
+    if wait is None:
+        return None, None
+    kind, numbers = wait
+    if kind == "acquire":
+        holder = holder_of(events, numbers[0])
+        return (None if holder is None else f"for lock {numbers[0]}, held by p{holder}"), holder
+    if kind == "await":
+        is_set = any(it.kind == "set" and it.numbers == numbers for it in events)
+        return (None if is_set else f"for flag {numbers[0]}, which nobody has set"), None
+    episode, arrivals = counts_of(events, "depart")[processor], counts_of(events, "arrive")
+    absent = [it for it in range(sizes.processors) if arrivals[it] <= episode]
+    if not absent:
+        return None, None
+    return f"at the barrier for {', '.join(f'p{it}' for it in absent)}", absent[0] if len(absent) == 1 else None
+
+
+def wait_lines(sizes, events):
+    """What is told of who waits at the end, and of who wait for each other."""
+    waits = [waits_for(sizes, events, it) for it in range(sizes.processors)]
+    lines = [f"waits p{it} {said}" for it, (said, _) in enumerate(waits) if said is not None]
+    for least in range(sizes.processors):
+        circle = [least]
+        while (on := waits[circle[-1]][1]) is not None and on > least and len(circle) <= sizes.processors:
+            circle.append(on)
+        if on == least:
+            lines.append(f"circle {', '.join(f'p{it}' for it in circle)}")
+    return lines

@@ -4,7 +4,7 @@ from typing import NamedTuple
 
 from checks import cost_of
 from gaps import Gaps
-from rules import first_refused, out_of_range
+from rules import first_refused, out_of_range, wait_lines
 from running import Answer
 from table import Table, places_of
 
@@ -32,7 +32,8 @@ class Rules(NamedTuple):
     def words(self):
         """The program's words for them."""
         default = [] if self.model == RACE_FREE else ["--model", self.model]
-        return [*default, *["--lax"] * self.is_lax, *["--race-is-error"] * self.ends_at_race]
+        strict = [] if self.model == LAZY_RELEASE else ["--strict"]
+        return [*default, *(["--lax"] if self.is_lax else strict), *["--race-is-error"] * self.ends_at_race]
 
 
 class Found(NamedTuple):
@@ -172,14 +173,14 @@ def race_lines(table, race):
     return lines
 
 
-def faithful(table, rules):
+def faithful(sizes, table, rules):
     """What is found of a trace without a wrong event."""
     race, events = nearest_race(table), table.events
     loads = sum(event.kind == "load" for event in events[race[1]:]) if race else 0
     is_told = race is not None and rules.model == RACE_FREE
     return Found("faithful", None, len(events), (
-        "faithful", *["unjudged counts order"] * rules.is_lax, *[f"unjudged {loads} loads"] * is_told,
-        *(race_lines(table, race) if race else ["verdict race-free"]),
+        "faithful", *["unjudged counts order"] * (rules.is_lax and rules.model == LAZY_RELEASE), *[f"unjudged {loads} loads"] * is_told,
+        *(race_lines(table, race) if race else ["verdict race-free"]), *wait_lines(sizes, events),
         "traffic {} {} {}".format(*cost_of(events))))
 
 
@@ -201,7 +202,7 @@ def judged(sizes, events, rules):
         return Found("racy", race[1], race[1] + 1, tuple(race_lines(table, race)))
     if wrong is None and refused is not None:
         wrong = Wrong("ill formed", refused[0], (f"because {refused[1]}",))
-    return faithful(table, rules) if wrong is None else lie(events, wrong)
+    return faithful(sizes, table, rules) if wrong is None else lie(events, wrong)
 
 
 def find(sizes, events, rules, reads_all=False):

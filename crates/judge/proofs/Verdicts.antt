@@ -344,8 +344,12 @@ verdict_awaited_takes Arrive k is = subst (λ b. IsTrue (event_takes b)) (same_S
 verdict_awaited_takes (Watch f) k is = subst (λ b. IsTrue (event_takes b)) (same_Some (Await f) k is) refl
 verdict_awaited_takes _ k is = absurd (none-some k is)
 
+pub verdict_waits_takes : (j : List Event) (p : ℕ) (k : Kind) → WhyWaitsFor j p k → IsTrue (event_takes k)
+verdict_waits_takes j p k waits = verdict_awaited_takes waits.kind k waits.awaits
+
+-- and so does what may be taken
 pub verdict_may_takes : (lax : Bool) (j : List Event) (p : ℕ) (k : Kind) → WhyMayTake lax j p k → IsTrue (event_takes k)
-verdict_may_takes lax j p k (inl waits) = verdict_awaited_takes waits.kind k waits.awaits
+verdict_may_takes lax j p k (inl waits) = verdict_waits_takes j p k waits
 verdict_may_takes lax j p (Acquire l) (inr unasked) = refl
 verdict_may_takes lax j p (Await f) (inr unasked) = refl
 verdict_may_takes lax j p _ (inr unasked) = absurd (false≢true unasked.1)

@@ -12,7 +12,6 @@ use Rattle.lrc_check.specs.declared.checked.Rules.{Rules}
 use Rattle.lrc_check.specs.declared.checked.TraceVerdict.{TraceVerdict}
 use Rattle.lrc_check.specs.declared.checked.TraceVerdict.TheVariants as verdict
 use Rattle.lrc_check.specs.Faithful.{IsFaithfulAndCounted}
-use Rattle.lrc_check.specs.FoundInBytes.{IsFoundInBytes}
 use Rattle.lrc_check.specs.HistoryJudge.{HasEndedEarly}
 use Rattle.lrc_check.specs.TraceStreams.{IsStreamEnd}
 use Rattle.lrc_check.specs.ToldTraces.{IsToldTraceUpToLie}
@@ -25,7 +24,7 @@ use Rattle.lrc_check.specs.Traces.Labels.{without_trace_labels}
 use Rattle.lrc_check.specs.Traces.LawfulTraces.{IsNoLawfulTrace, IsLawfulTrace}
 use Rattle.lrc_check.specs.Traces.TraceText.{trace_text}
 use Rattle.lrc_commands.specs.declared.checking.Judgement.{Judgement}
-use Rattle.lrc_commands.specs.TraceCommand.{BeginsWithTraceCommandText, HasTraceCommandText, IsTraceCommandJudgedAs, IsTraceCommandOnNone, IsTraceCommandToldAs, IsTraceCommandReadSoFar, trace_command_judgement}
+use Rattle.lrc_commands.specs.TraceCommand.{BeginsWithTraceCommandText, HasTraceCommandText, IsTraceCommandFound, IsTraceCommandText, IsTraceCommandJudgedAs, IsTraceCommandOnNone, IsTraceCommandToldAs, IsTraceCommandReadSoFar, trace_command_judgement}
 
 -- nothing was read yet
 pub judged_source_fed_none : (source : Option (List ℕ)) (x : FedText) → IsFedTextOf [] [] [] x → IsTraceCommandReadSoFar source source (Ok x)
@@ -84,10 +83,10 @@ judged_source_consumed_fully None left fed had end = tt
 judged_source_consumed_fully (Some xs) None fed had end = absurd had
 judged_source_consumed_fully (Some xs) (Some ys) fed had end = had ∙ ap (λ (x : List ℕ). fed ++ x) end ∙ append-nil fed
 
-pub judged_source_full_text : (source : Option (List ℕ)) (fed : List ℕ) (s : Sizes) (es : List Event) → IfSome source (λ xs. xs ≡ fed)
-    → without_trace_labels fed ≡ trace_text s es → HasTraceCommandText source s es
-judged_source_full_text None fed s es same text = tt
-judged_source_full_text (Some xs) fed s es same text = ap without_trace_labels same ∙ text
+pub judged_source_full_text : (unfinished : Bool) (source : Option (List ℕ)) (fed : List ℕ) (s : Sizes) (es : List Event)
+    → IfSome source (λ xs. xs ≡ fed) → IsTraceCommandText unfinished fed s es → HasTraceCommandText unfinished source s es
+judged_source_full_text unfinished None fed s es same text = tt
+judged_source_full_text unfinished (Some xs) fed s es same text = subst (λ (x : List ℕ). IsTraceCommandText unfinished x s es) (sym same) text
 
 pub judged_source_full_refused : (source : Option (List ℕ)) (fed : List ℕ) → IfSome source (λ xs. xs ≡ fed) → IsNoLawfulTrace (without_trace_labels fed)
     → IsTraceCommandOnNone source
@@ -116,24 +115,27 @@ no_judged_source_faithful_on m lax s j n x lie more faithful =
     lie.first.never (drop n j ++ more) (subst (IsFaithfulAndCounted m lax s) (sym split) faithful)
 
 -- the whole text is a beginning
-judged_source_begins : (source : Option (List ℕ)) (s : Sizes) (es : List Event) → HasTraceCommandText source s es → BeginsWithTraceCommandText source s es
-judged_source_begins None s es text = tt
-judged_source_begins (Some xs) s es text = ([], text ∙ sym (append-nil (trace_text s es)))
+judged_source_begins : (unfinished : Bool) (source : Option (List ℕ)) (s : Sizes) (es : List Event)
+    → HasTraceCommandText unfinished source s es → BeginsWithTraceCommandText source s es
+judged_source_begins true None s es text = tt
+judged_source_begins true (Some xs) s es text = (text.0, text.2)
+judged_source_begins false None s es text = tt
+judged_source_begins false (Some xs) s es text = ([], text ∙ sym (append-nil (trace_text s es)))
 
 -- what was found of events with whose text the source begins is said of the source, if judging ended early
-judged_source_early : (r : Rules) (source : Option (List ℕ)) (s : Sizes) (es : List Event) (n : ℕ)
+judged_source_early : (r : Rules) (unfinished : Bool) (source : Option (List ℕ)) (s : Sizes) (es : List Event) (n : ℕ)
     (race : Option (ℕ × ℕ)) (v : TraceVerdict) → IsLawfulTrace s es → BeginsWithTraceCommandText source s es
     → IsCheckVerdictOf r.model r.lax s (take n es) race v → HasEndedEarly v
-    → IsTraceCommandJudgedAs r.model r.lax source (trace_command_judgement v)
-judged_source_early r source s es n race (verdict.Faithful traffic unjudged) trace begins is ended = absurd ended
-judged_source_early r source s es n race (verdict.Lie x) trace begins is ended = record {
+    → IsTraceCommandJudgedAs r.model r.lax unfinished source (trace_command_judgement v)
+judged_source_early r unfinished source s es n race (verdict.Faithful traffic unjudged) trace begins is ended = absurd ended
+judged_source_early r unfinished source s es n race (verdict.Lie x) trace begins is ended = record {
   sizes = s;
   events = es;
   trace = trace;
   begins = begins;
   lies = no_judged_source_faithful_on r.model r.lax s es n x is.0;
 }
-judged_source_early r source s es n race verdict.Racy trace begins is ended = record {
+judged_source_early r unfinished source s es n race verdict.Racy trace begins is ended = record {
   sizes = s;
   events = es;
   trace = trace;
@@ -144,11 +146,11 @@ judged_source_early r source s es n race verdict.Racy trace begins is ended = re
 }
 
 -- what was found of the trace that the source had is said of the source
-pub judged_source_as : (r : Rules) (source : Option (List ℕ)) (s : Sizes) (es : List Event) (n : ℕ)
-    (race : Option (ℕ × ℕ)) (v : TraceVerdict) → IsLawfulTrace s es → HasTraceCommandText source s es
+pub judged_source_as : (r : Rules) (unfinished : Bool) (source : Option (List ℕ)) (s : Sizes) (es : List Event) (n : ℕ)
+    (race : Option (ℕ × ℕ)) (v : TraceVerdict) → IsLawfulTrace s es → HasTraceCommandText unfinished source s es
     → IsCheckVerdictOf r.model r.lax s (take n es) race v → IsCheckVerdictWhole es n v
-    → IsTraceCommandJudgedAs r.model r.lax source (trace_command_judgement v)
-judged_source_as r source s es n race (verdict.Faithful traffic unjudged) trace text is whole = record {
+    → IsTraceCommandJudgedAs r.model r.lax unfinished source (trace_command_judgement v)
+judged_source_as r unfinished source s es n race (verdict.Faithful traffic unjudged) trace text is whole = record {
   sizes = s;
   events = es;
   trace = trace;
@@ -157,10 +159,10 @@ judged_source_as r source s es n race (verdict.Faithful traffic unjudged) trace 
       (let le : length es ≤ n = omega arith in
       subst (IsFaithfulAndCounted r.model r.lax s) (take_all n es le) is.0);
 }
-judged_source_as r source s es n race (verdict.Lie x) trace text is whole =
-    judged_source_early r source s es n race (verdict.Lie x) trace (judged_source_begins source s es text) is tt
-judged_source_as r source s es n race verdict.Racy trace text is whole =
-    judged_source_early r source s es n race verdict.Racy trace (judged_source_begins source s es text) is tt
+judged_source_as r unfinished source s es n race (verdict.Lie x) trace text is whole =
+    judged_source_early r unfinished source s es n race (verdict.Lie x) trace (judged_source_begins unfinished source s es text) is tt
+judged_source_as r unfinished source s es n race verdict.Racy trace text is whole =
+    judged_source_early r unfinished source s es n race verdict.Racy trace (judged_source_begins unfinished source s es text) is tt
 
 -- what the source had begins with what was read of it
 judged_source_stream_begins : (source left : Option (List ℕ)) (fed : List ℕ) (s : Sizes) (es : List Event) → Consumes source left fed
@@ -171,31 +173,41 @@ judged_source_stream_begins (Some xs) (Some ys) fed s es had begins =
     ((begins ys).0, ap without_trace_labels had ∙ (begins ys).1)
 
 -- judging ended as it was read
-pub judged_source_stream_ended : (r : Rules) (source left : Option (List ℕ)) (fed : List ℕ) (found : Checked) → Consumes source left fed
-    → IsStreamEnd r fed found → IsTraceCommandJudgedAs r.model r.lax source (trace_command_judgement found.verdict)
-judged_source_stream_ended r source left fed found had end =
-    judged_source_early r source end.sizes end.events found.count found.race found.verdict end.trace
+pub judged_source_stream_ended : (r : Rules) (unfinished : Bool) (source left : Option (List ℕ)) (fed : List ℕ) (found : Checked) → Consumes source left fed
+    → IsStreamEnd r fed found → IsTraceCommandJudgedAs r.model r.lax unfinished source (trace_command_judgement found.verdict)
+judged_source_stream_ended r unfinished source left fed found had end =
+    judged_source_early r unfinished source end.sizes end.events found.count found.race found.verdict end.trace
     (judged_source_stream_begins source left fed end.sizes end.events had end.begins) end.end.says.verdict end.end.ended
 
 -- all was read, and judged
-pub judged_source_stream_whole : (r : Rules) (source left : Option (List ℕ)) (fed : List ℕ) (found : Checked) → Consumes source left fed → IsAtEnd left
-    → IsFoundInBytes r fed found → IsTraceCommandJudgedAs r.model r.lax source (trace_command_judgement found.verdict)
-judged_source_stream_whole r source left fed found had end is =
-    judged_source_as r source is.sizes is.events found.count found.race found.verdict is.trace
-    (judged_source_full_text source fed is.sizes is.events (judged_source_consumed_fully source left fed had end) is.text_is)
-    is.checked.verdict is.checked.whole
+judged_source_stream_found : (r : Rules) (unfinished : Bool) (source : Option (List ℕ)) (fed : List ℕ) (found : Checked)
+    → IfSome source (λ xs. xs ≡ fed) → IsTraceCommandFound unfinished r fed found
+    → IsTraceCommandJudgedAs r.model r.lax unfinished source (trace_command_judgement found.verdict)
+judged_source_stream_found r true source fed found same is =
+    judged_source_as r true source is.sizes is.events found.count found.race found.verdict is.trace
+    (judged_source_full_text true source fed is.sizes is.events same is.text_is) is.checked.verdict is.checked.whole
+judged_source_stream_found r false source fed found same is =
+    judged_source_as r false source is.sizes is.events found.count found.race found.verdict is.trace
+    (judged_source_full_text false source fed is.sizes is.events same is.text_is) is.checked.verdict is.checked.whole
+
+pub judged_source_stream_whole : (r : Rules) (unfinished : Bool) (source left : Option (List ℕ)) (fed : List ℕ) (found : Checked)
+    → Consumes source left fed → IsAtEnd left → IsTraceCommandFound unfinished r fed found
+    → IsTraceCommandJudgedAs r.model r.lax unfinished source (trace_command_judgement found.verdict)
+judged_source_stream_whole r unfinished source left fed found had end is =
+    judged_source_stream_found r unfinished source fed found (judged_source_consumed_fully source left fed had end) is
 
 -- and so by the rules that were asked for
-pub judged_source_by : (r : Rules) (m : MemoryModel) (lax : Bool) (source : Option (List ℕ)) (a b : Judgement) → r.model ≡ m
-    → r.lax ≡ lax → b ≡ a → IsTraceCommandJudgedAs r.model r.lax source a → IsTraceCommandJudgedAs m lax source b
-judged_source_by r m lax source a b model same is judged =
-    subst (IsTraceCommandJudgedAs m lax source) (sym is)
-    (subst (λ x. IsTraceCommandJudgedAs x lax source a) model (subst (λ y. IsTraceCommandJudgedAs r.model y source a) same judged))
+pub judged_source_by : (r : Rules) (m : MemoryModel) (lax unfinished : Bool) (source : Option (List ℕ)) (a b : Judgement) → r.model ≡ m
+    → r.lax ≡ lax → b ≡ a → IsTraceCommandJudgedAs r.model r.lax unfinished source a → IsTraceCommandJudgedAs m lax unfinished source b
+judged_source_by r m lax unfinished source a b model same is judged =
+    subst (IsTraceCommandJudgedAs m lax unfinished source) (sym is)
+    (subst (λ x. IsTraceCommandJudgedAs x lax unfinished source a) model (subst (λ y. IsTraceCommandJudgedAs r.model y unfinished source a) same judged))
 
 -- what was told of the trace that the source had is said of the source
-pub judged_source_told_as : (lies : Bool) (m : MemoryModel) (lax : Bool) (source : Option (List ℕ)) {s : Sizes} {es : List Event} (told : List Event)
-    → IsLawfulTrace s es → HasTraceCommandText source s es → IsToldTraceUpToLie lies m lax s es told → IsTraceCommandToldAs lies m lax source
-judged_source_told_as true m lax source {s} {es} told trace text is = record {
+pub judged_source_told_as : (lies : Bool) (m : MemoryModel) (lax unfinished : Bool) (source : Option (List ℕ)) {s : Sizes} {es : List Event} (told : List Event)
+    → IsLawfulTrace s es → HasTraceCommandText unfinished source s es → IsToldTraceUpToLie lies m lax s es told
+    → IsTraceCommandToldAs lies m lax unfinished source
+judged_source_told_as true m lax unfinished source {s} {es} told trace text is = record {
   sizes = s;
   events = es;
   trace = trace;
@@ -203,7 +215,7 @@ judged_source_told_as true m lax source {s} {es} told trace text is = record {
   unfaithful = λ faithful. is.1.never (drop (suc is.0) es)
       (subst (IsFaithfulAndCounted m lax s) (sym (take-append-drop (suc is.0) es)) faithful);
 }
-judged_source_told_as false m lax source {s} {es} told trace text is = record {
+judged_source_told_as false m lax unfinished source {s} {es} told trace text is = record {
   sizes = s;
   events = es;
   trace = trace;
@@ -212,7 +224,7 @@ judged_source_told_as false m lax source {s} {es} told trace text is = record {
 }
 
 -- and so by the model that was asked for
-pub judged_source_told_by : (a b : Bool) (m asked : MemoryModel) (lax : Bool) (source : Option (List ℕ)) → b ≡ a → m ≡ asked
-    → IsTraceCommandToldAs a m lax source → IsTraceCommandToldAs b asked lax source
-judged_source_told_by a b m asked lax source is model told =
-    subst (λ lies. IsTraceCommandToldAs lies asked lax source) (sym is) (subst (λ x. IsTraceCommandToldAs a x lax source) model told)
+pub judged_source_told_by : (a b : Bool) (m asked : MemoryModel) (lax unfinished : Bool) (source : Option (List ℕ)) → b ≡ a → m ≡ asked
+    → IsTraceCommandToldAs a m lax unfinished source → IsTraceCommandToldAs b asked lax unfinished source
+judged_source_told_by a b m asked lax unfinished source is model told =
+    subst (λ lies. IsTraceCommandToldAs lies asked lax unfinished source) (sym is) (subst (λ x. IsTraceCommandToldAs a x lax unfinished source) model told)

@@ -5,7 +5,7 @@ use Rattle.journal.specs.declared.event.Event.{Event}
 use Rattle.journal.specs.Sizes.{Sizes}
 use Rattle.lrc_check.specs.declared.traces.fault.TraceFault.{TraceFault}
 use Rattle.lrc_check.specs.declared.traces.fault.TraceFault.TheVariants.{NoMemory}
-use Rattle.lrc_check.specs.Traces.FedText.{IsFedTextOf, FedText}
+use Rattle.lrc_check.specs.Traces.FedText.{IsFedTextOf, FedText, IsUnfinishedTrace}
 use Rattle.lrc_check.specs.Traces.Labels.{without_trace_labels}
 use Rattle.lrc_check.specs.Traces.LawfulTraces.{IsNoLawfulTrace, IsLawfulTrace}
 use Rattle.lrc_check.specs.Traces.TraceText.{trace_text}
@@ -14,9 +14,12 @@ use Rattle.judge.specs.declared.locksets.lockset_finder.LocksetWords.{LocksetWor
 use Rattle.judge.specs.declared.locksets.lockset_finder.LocksetWords.TheVariants as words
 use Rattle.judge.specs.declared.models.MemoryModel.{MemoryModel}
 use Rattle.judge.specs.declared.models.MemoryModel.TheVariants as model
+use Rattle.lrc_check.specs.declared.checked.Checked.{Checked}
+use Rattle.lrc_check.specs.declared.checked.Rules.{Rules}
 use Rattle.lrc_check.specs.declared.checked.TraceVerdict.{TraceVerdict}
 use Rattle.lrc_check.specs.declared.checked.TraceVerdict.TheVariants as verdict
 use Rattle.lrc_check.specs.Faithful.{IsFaithfulAndCounted}
+use Rattle.lrc_check.specs.FoundInBytes.{IsFoundInBytes, IsFoundInUnfinished}
 use Rattle.lrc_check.specs.HeldTraces.{IsFewForHeldTrace}
 use Rattle.lrc_options.specs.declared.options.TraceLocksets.{TraceLocksets}
 use Rattle.lrc_options.specs.declared.options.TraceLocksets.TheVariants as asked_words
@@ -38,42 +41,52 @@ trace_command_judgement (verdict.Faithful traffic unjudged) = judgement.Faithful
 trace_command_judgement (verdict.Lie x) = judgement.Unfaithful
 trace_command_judgement verdict.Racy = judgement.Racy
 
--- what the source had is, without labels, the text of this trace
-abbrev pub HasTraceCommandText : Option (List ℕ) → Sizes → List Event → Type 0
-HasTraceCommandText source s es = IfSome source (λ xs. without_trace_labels xs ≡ trace_text s es)
+-- the bytes are, without labels, the text of this trace; if it may end in the midst of a line, and behind that the beginning of a line
+abbrev pub IsTraceCommandText : Bool → List ℕ → Sizes → List Event → Type 0
+IsTraceCommandText true bytes s es = IsUnfinishedTrace bytes s es
+IsTraceCommandText false bytes s es = without_trace_labels bytes ≡ trace_text s es
+
+-- so is what the source had
+abbrev pub HasTraceCommandText : Bool → Option (List ℕ) → Sizes → List Event → Type 0
+HasTraceCommandText unfinished source s es = IfSome source (λ xs. IsTraceCommandText unfinished xs s es)
+
+-- what is found of the bytes of a trace that may end in the midst of a line, or not
+abbrev pub IsTraceCommandFound : Bool → Rules → List ℕ → Checked → Type 0
+IsTraceCommandFound true = IsFoundInUnfinished
+IsTraceCommandFound false = IsFoundInBytes
 
 -- the words without a lock that are asked for
 abbrev pub trace_command_locksets : TraceLocksets → LocksetWords
 trace_command_locksets asked_words.Forgotten = words.Forgotten
 trace_command_locksets asked_words.All = words.All
 
--- the source had the text of a trace, whose history is faithful under the model, lax or not
-pub record IsTraceCommandOnFaithful (m : MemoryModel) (lax : Bool) (source : Option (List ℕ)) : Type 0 where
+-- the source had the text of a trace, which may be unfinished or not, and whose history is faithful under the model, lax or not
+pub record IsTraceCommandOnFaithful (m : MemoryModel) (lax unfinished : Bool) (source : Option (List ℕ)) : Type 0 where
   pub sizes : Sizes
   pub events : List Event
   pub trace : IsLawfulTrace sizes events
-  pub text_is : HasTraceCommandText source sizes events
+  pub text_is : HasTraceCommandText unfinished source sizes events
   pub faithful : IsFaithfulAndCounted m lax sizes events
 
 -- the source had the text of a trace, whose history isn't
-pub record IsTraceCommandOnUnfaithful (m : MemoryModel) (lax : Bool) (source : Option (List ℕ)) : Type 0 where
+pub record IsTraceCommandOnUnfaithful (m : MemoryModel) (lax unfinished : Bool) (source : Option (List ℕ)) : Type 0 where
   pub sizes : Sizes
   pub events : List Event
   pub trace : IsLawfulTrace sizes events
-  pub text_is : HasTraceCommandText source sizes events
+  pub text_is : HasTraceCommandText unfinished source sizes events
   pub unfaithful : ¬ IsFaithfulAndCounted m lax sizes events
 
 -- the one or the other, by whether it lies
-abbrev pub IsTraceCommandToldAs : Bool → MemoryModel → Bool → Option (List ℕ) → Type 0
-IsTraceCommandToldAs true m lax source = IsTraceCommandOnUnfaithful m lax source
-IsTraceCommandToldAs false m lax source = IsTraceCommandOnFaithful m lax source
+abbrev pub IsTraceCommandToldAs : Bool → MemoryModel → Bool → Bool → Option (List ℕ) → Type 0
+IsTraceCommandToldAs true m lax unfinished source = IsTraceCommandOnUnfaithful m lax unfinished source
+IsTraceCommandToldAs false m lax unfinished source = IsTraceCommandOnFaithful m lax unfinished source
 
 -- the source had the text of a trace that can be told, with all its events at hand
-pub record IsTraceCommandOnHeld (source : Option (List ℕ)) : Type 0 where
+pub record IsTraceCommandOnHeld (unfinished : Bool) (source : Option (List ℕ)) : Type 0 where
   pub sizes : Sizes
   pub events : List Event
   pub trace : IsLawfulTrace sizes events
-  pub text_is : HasTraceCommandText source sizes events
+  pub text_is : HasTraceCommandText unfinished source sizes events
   pub few : IsFewForHeldTrace events
 
 -- what the source had begins, without labels, with the text of this trace
@@ -99,10 +112,10 @@ pub record IsTraceCommandOnRacy (source : Option (List ℕ)) : Type 0 where
   pub race : Race events first second
 
 -- which of these
-abbrev pub IsTraceCommandJudgedAs : MemoryModel → Bool → Option (List ℕ) → Judgement → Type 0
-IsTraceCommandJudgedAs m lax source judgement.Faithful = IsTraceCommandOnFaithful m lax source
-IsTraceCommandJudgedAs m lax source judgement.Unfaithful = IsTraceCommandOnLie m lax source
-IsTraceCommandJudgedAs m lax source judgement.Racy = IsTraceCommandOnRacy source
+abbrev pub IsTraceCommandJudgedAs : MemoryModel → Bool → Bool → Option (List ℕ) → Judgement → Type 0
+IsTraceCommandJudgedAs m lax unfinished source judgement.Faithful = IsTraceCommandOnFaithful m lax unfinished source
+IsTraceCommandJudgedAs m lax unfinished source judgement.Unfaithful = IsTraceCommandOnLie m lax source
+IsTraceCommandJudgedAs m lax unfinished source judgement.Racy = IsTraceCommandOnRacy source
 
 -- what the source had is no trace
 abbrev pub IsTraceCommandOnNone : Option (List ℕ) → Type 0

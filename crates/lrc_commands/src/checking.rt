@@ -1,13 +1,14 @@
 //! The program that judges traces, over its reader and its writers.
 ghost use Rattle.std.specs.Prelude.{◌≡◌, ◌≢◌, ◌⊎◌, ℕ, ◌<◌, ◌≤◌, List, [], Option, IfErr, IfOk, length, option_map, take};
 ghost use Rattle.std.specs.Io.KnownBytes.{Consumes, IsAtEnd, Keeps};
-ghost use Rattle.lrc_check.specs.Traces.Prelude.{IsLawfulTrace, trace_sizes_of};
+ghost use Rattle.lrc_check.specs.Traces.Prelude.{IsFedTextOf, IsLawfulTrace, IsNoLawfulTrace, trace_sizes_of, without_trace_labels};
 ghost use Rattle.journal.specs.declared.event.Event.{Event};
 ghost use Rattle.lrc_check.specs.Prelude.{IsFaultFoundInBytes, IsFoundInStream, IsTraceStream};
-ghost use Rattle.lrc_commands.specs.Prelude.{HasTraceCommandText, IsCommandExitStatusBeforeAnswer, IsTraceCommandOnFaithful, IsCommandExitStatusOfInput, IsTraceCommandJudgedAs, IsTraceCommandOnNone};
+ghost use Rattle.lrc_commands.specs.Prelude.{HasTraceCommandText, IsTraceCommandFound, IsTraceCommandText, IsCommandExitStatusBeforeAnswer, IsTraceCommandOnFaithful, IsCommandExitStatusOfInput, IsTraceCommandJudgedAs, IsTraceCommandOnNone};
 ghost use Rattle.lrc_commands.specs.Prelude.{IsTraceCommandOnLie, IsTraceCommandOnRacy, IsTraceCommandReadSoFar, trace_command_locksets, trace_command_model, trace_command_judgement};
 
 use crate::fault::CommandFault;
+use crate::refused_line::RefusedLine;
 use judge::MemoryModel;
 use judge::locksets::LocksetWords;
 use lrc_check::traces::fault::TraceFault;
@@ -18,6 +19,7 @@ use lrc_check::{
 };
 use lrc_json::write_checked_json;
 use lrc_options::options::{TraceLocksets, TraceModel, TraceOptions};
+use lrc_program::program_file_named;
 use std::alloc::{AllocError, Global};
 use std::io;
 use std::io::{ErrorKind, Read, Write};
@@ -68,25 +70,58 @@ fn check_command_reads_some<S: Read>(source: &mut S, piece: &mut [u8]) -> io::Re
     Err(io::Error::from(ErrorKind::Interrupted))
 }
 
-/// Takes the next piece of a trace. What comes behind a line with a fault changes nothing.
-fn check_command_feeds(alloc: Global, reading: Reading, piece: &[u8]) -> Reading
+/// Takes the next piece of a trace, and keeps the line that is refused. What comes behind a line with a fault changes nothing.
+fn check_command_feeds(
+    alloc: Global,
+    reading: Reading,
+    piece: &[u8],
+    refused: &mut RefusedLine,
+) -> Reading
     ensures { (source left after : Option (List ℕ)) → IsTraceCommandReadSoFar source left reading
         → Consumes left after piece.now → IsTraceCommandReadSoFar source after result }
 {
     let mut reader = reading?;
-    reader.feed(alloc, piece)?;
-    Ok(reader)
+    match reader.feed(alloc, piece) {
+        Ok(()) => Ok(reader),
+        Err(fault) => {
+            refused.keep(reader.unfinished(), reader.passed(), reader.sizes());
+            Err(fault)
+        }
+    }
 }
 
-/// What was read after the last piece.
-fn finish(reading: Reading) -> Result<LabelledTrace, CheckFault>
+/// The trace that was read, which may end in the midst of a line or not.
+fn check_command_reader_ends(
+    reader: Reader,
+    unfinished: bool,
+) -> Result<LabelledTrace, (usize, TraceFault)>
+    ensures trace { IfOk result (λ t. IsLawfulTrace (trace_sizes_of t.trace.sizes) t.trace.events.items) }
+    ensures text { IfOk result (λ t. (bytes : List ℕ) → IsFedTextOf bytes [] [] reader
+        → IsTraceCommandText unfinished bytes (trace_sizes_of t.trace.sizes) t.trace.events.items) }
+    ensures only { IfErr result (λ _. (bytes : List ℕ) → IsFedTextOf bytes [] [] reader → IsNoLawfulTrace (without_trace_labels bytes)) }
+{
+    if unfinished {
+        reader.finish_unfinished()
+    } else {
+        reader.finish()
+    }
+}
+
+/// What was read after the last piece, of a trace that may end in the midst of a line or not.
+fn finish(
+    reading: Reading,
+    unfinished: bool,
+    refused: &mut RefusedLine,
+) -> Result<LabelledTrace, CheckFault>
     ensures trace { IfOk result (λ t. IsLawfulTrace (trace_sizes_of t.trace.sizes) t.trace.events.items) }
     ensures text { IfOk result (λ t. (source left : Option (List ℕ)) → IsTraceCommandReadSoFar source left reading
-        → IsAtEnd left → HasTraceCommandText source (trace_sizes_of t.trace.sizes) t.trace.events.items) }
+        → IsAtEnd left → HasTraceCommandText unfinished source (trace_sizes_of t.trace.sizes) t.trace.events.items) }
     ensures refused { IfErr result (λ fault. IsFaultFoundInBytes fault → (source left : Option (List ℕ))
         → IsTraceCommandReadSoFar source left reading → IsAtEnd left → IsTraceCommandOnNone source) }
 {
-    let labelled = reading?.finish()?;
+    let reader = reading?;
+    refused.keep(reader.unfinished(), reader.passed(), reader.sizes());
+    let labelled = check_command_reader_ends(reader, unfinished)?;
     Ok(labelled)
 }
 
@@ -95,10 +130,12 @@ fn check_command_reads_pieces<S: Read>(
     alloc: Global,
     source: &mut S,
     piece: &mut [u8],
+    unfinished: bool,
+    refused: &mut RefusedLine,
 ) -> Result<LabelledTrace, CommandFault>
     requires { 0 < length piece.old }
     ensures trace { IfOk result (λ t. IsLawfulTrace (trace_sizes_of t.trace.sizes) t.trace.events.items) }
-    ensures text { IfOk result (λ t. HasTraceCommandText (S.remaining source.old) (trace_sizes_of t.trace.sizes) t.trace.events.items) }
+    ensures text { IfOk result (λ t. HasTraceCommandText unfinished (S.remaining source.old) (trace_sizes_of t.trace.sizes) t.trace.events.items) }
     ensures refused { IfErr result (λ fault. IsCommandExitStatusOfInput fault → IsTraceCommandOnNone (S.remaining source.old)) }
 {
     let mut reading = Ok(Reader::new(alloc));
@@ -106,12 +143,28 @@ fn check_command_reads_pieces<S: Read>(
     while total < MOST_READ {
         let count = check_command_reads_some(source, piece)?;
         if count == 0 {
-            return Ok(finish(reading)?);
+            return Ok(finish(reading, unfinished, refused)?);
         }
-        reading = check_command_feeds(alloc, reading, &piece[..count]);
+        reading = check_command_feeds(alloc, reading, &piece[..count], refused);
         total += count;
     }
     Err(CommandFault::Long)
+}
+
+/// What is found if the text ends here, of a trace that may end in the midst of a line or not.
+fn check_command_ends(stream: &TraceStream, unfinished: bool) -> Result<Checked, CheckFault>
+    requires stream { (bytes : List ℕ) × IsTraceStream bytes stream.now }
+    ensures found { IfOk result (λ x. (bytes : List ℕ) → IsTraceStream bytes stream.now
+        → IsTraceCommandFound unfinished stream.now.rules bytes x) }
+    ensures at_hand { IfOk result (λ x. (front : List Event) × IsFoundInStream front x stream.now) }
+    ensures refused { IfErr result (λ fault. IsFaultFoundInBytes fault → (bytes : List ℕ) → IsTraceStream bytes stream.now
+        → IsNoLawfulTrace (without_trace_labels bytes)) }
+{
+    if unfinished {
+        stream.finish_unfinished()
+    } else {
+        stream.finish()
+    }
 }
 
 /// Reads a trace, a piece at a time, and judges it as it is read: what was found. Nothing behind a lie, or behind a race that
@@ -121,10 +174,11 @@ fn check_command_streams<S: Read>(
     source: &mut S,
     piece: &mut [u8],
     stream: &mut TraceStream,
+    unfinished: bool,
 ) -> Result<Checked, CommandFault>
     requires piece { 0 < length piece.old }
     requires stream { IsTraceStream [] stream.old }
-    ensures judged { IfOk result (λ x. IsTraceCommandJudgedAs stream.old.rules.model stream.old.rules.lax (S.remaining source.old)
+    ensures judged { IfOk result (λ x. IsTraceCommandJudgedAs stream.old.rules.model stream.old.rules.lax unfinished (S.remaining source.old)
         (trace_command_judgement x.verdict)) }
     ensures at_hand { IfOk result (λ x. (front : List Event) × IsFoundInStream front x stream.new) }
     ensures refused { IfErr result (λ fault. IsCommandExitStatusOfInput fault → IsTraceCommandOnNone (S.remaining source.old)) }
@@ -132,7 +186,7 @@ fn check_command_streams<S: Read>(
     for _ in 0..u64::MAX {
         let count = check_command_reads_some(source, piece)?;
         if count == 0 {
-            return Ok(stream.finish()?);
+            return Ok(check_command_ends(stream, unfinished)?);
         }
         if let Some(found) = stream.feed(alloc, &piece[..count])? {
             return Ok(found);
@@ -152,13 +206,15 @@ fn room(alloc: Global, size: usize) -> Result<Vec<u8>, AllocError>
 pub(crate) fn check_command_reads_all<S: Read>(
     alloc: Global,
     source: &mut S,
+    unfinished: bool,
+    refused: &mut RefusedLine,
 ) -> Result<LabelledTrace, CommandFault>
     ensures trace { IfOk result (λ t. IsLawfulTrace (trace_sizes_of t.trace.sizes) t.trace.events.items) }
-    ensures text { IfOk result (λ t. HasTraceCommandText (S.remaining source.old) (trace_sizes_of t.trace.sizes) t.trace.events.items) }
+    ensures text { IfOk result (λ t. HasTraceCommandText unfinished (S.remaining source.old) (trace_sizes_of t.trace.sizes) t.trace.events.items) }
     ensures refused { IfErr result (λ fault. IsCommandExitStatusOfInput fault → IsTraceCommandOnNone (S.remaining source.old)) }
 {
     let mut piece = room(alloc, PIECE)?;
-    check_command_reads_pieces(alloc, source, &mut piece)
+    check_command_reads_pieces(alloc, source, &mut piece, unfinished, refused)
 }
 
 /// How judging ended, by what was found.
@@ -229,26 +285,87 @@ fn check_command_writes<W: Write>(
     Ok(())
 }
 
-/// Reads a trace, judges it as it is read, and writes what was found: how judging ended.
-fn check_command_on_source<S: Read, W: Write>(
+/// Judges a trace as it is read, and keeps the line that is refused.
+fn check_command_judges<S: Read>(
+    alloc: Global,
+    source: &mut S,
+    stream: &mut TraceStream,
+    unfinished: bool,
+    refused: &mut RefusedLine,
+) -> Result<Checked, CommandFault>
+    requires { IsTraceStream [] stream.old }
+    ensures judged { IfOk result (λ x. IsTraceCommandJudgedAs stream.old.rules.model stream.old.rules.lax unfinished (S.remaining source.old)
+        (trace_command_judgement x.verdict)) }
+    ensures at_hand { IfOk result (λ x. (front : List Event) × IsFoundInStream front x stream.new) }
+    ensures refused { IfErr result (λ fault. IsCommandExitStatusOfInput fault → IsTraceCommandOnNone (S.remaining source.old)) }
+{
+    let mut piece = room(alloc, PIECE)?;
+    let found = check_command_streams(alloc, source, &mut piece, stream, unfinished);
+    if found.is_err() {
+        let (line, passed) = stream.refused_line();
+        refused.keep(line, passed, stream.sizes());
+    }
+    found
+}
+
+/// Writes what was found of a trace that was judged as it was read: how that ended.
+fn check_command_tells<W: Write>(
+    alloc: Global,
+    json: bool,
+    rules: Rules,
+    stream: &mut TraceStream,
+    found: Checked,
+    out: &mut W,
+) -> Result<Judgement, CommandFault>
+    requires { (front : List Event) × IsFoundInStream front found stream.old }
+    ensures judgement { IfOk result (λ x. x ≡ trace_command_judgement found.verdict) }
+    ensures refused { IfErr result (λ fault. IsCommandExitStatusOfInput fault → ⊥) }
+    ensures early { IfErr result
+        (λ fault. IsCommandExitStatusBeforeAnswer fault → Keeps (W.contents out.old) (W.contents out.new)) }
+{
+    let judged = stream.judged(alloc, found)?;
+    check_command_writes(alloc, json, stream.told(), rules, &judged, out)?;
+    Ok(check_command_judgement(&judged.found))
+}
+
+/// Judges a trace as it is read, and writes what was found: how judging ended.
+fn check_command_judges_and_tells<S: Read, W: Write>(
     alloc: Global,
     options: &TraceOptions,
     source: &mut S,
+    stream: &mut TraceStream,
+    refused: &mut RefusedLine,
     out: &mut W,
 ) -> Result<Judgement, CommandFault>
+    requires { IsTraceStream [] stream.old }
     ensures judged { IfOk result
-        (IsTraceCommandJudgedAs (trace_command_model options.now.model) options.now.lax (S.remaining source.old)) }
+        (IsTraceCommandJudgedAs stream.old.rules.model stream.old.rules.lax options.now.unfinished (S.remaining source.old)) }
     ensures refused { IfErr result (λ fault. IsCommandExitStatusOfInput fault → IsTraceCommandOnNone (S.remaining source.old)) }
     ensures early { IfErr result
         (λ fault. IsCommandExitStatusBeforeAnswer fault → Keeps (W.contents out.old) (W.contents out.new)) }
 {
+    let found = check_command_judges(alloc, source, stream, options.unfinished, refused)?;
     let rules = check_command_rules(options);
-    let mut piece = room(alloc, PIECE)?;
-    let mut stream = TraceStream::new(alloc, rules);
-    let found = check_command_streams(alloc, source, &mut piece, &mut stream)?;
-    let judged = stream.judged(alloc, found)?;
-    check_command_writes(alloc, options.json, stream.told(), rules, &judged, out)?;
-    Ok(check_command_judgement(&judged.found))
+    check_command_tells(alloc, options.json, rules, stream, found, out)
+}
+
+/// Reads a trace, judges it as it is read, and writes what was found: how judging ended.
+// What is judged is large and wants a drop: so it stands beside one call alone, which borrows it.
+fn check_command_on_source<S: Read, W: Write>(
+    alloc: Global,
+    options: &TraceOptions,
+    source: &mut S,
+    refused: &mut RefusedLine,
+    out: &mut W,
+) -> Result<Judgement, CommandFault>
+    ensures judged { IfOk result
+        (IsTraceCommandJudgedAs (trace_command_model options.now.model) options.now.lax options.now.unfinished (S.remaining source.old)) }
+    ensures refused { IfErr result (λ fault. IsCommandExitStatusOfInput fault → IsTraceCommandOnNone (S.remaining source.old)) }
+    ensures early { IfErr result
+        (λ fault. IsCommandExitStatusBeforeAnswer fault → Keeps (W.contents out.old) (W.contents out.new)) }
+{
+    let mut stream = TraceStream::new(alloc, check_command_rules(options));
+    check_command_judges_and_tells(alloc, options, source, &mut stream, refused, out)
 }
 
 /// Judges the trace of `source` as the options say: writes what was found to `out`, or one line to `err`, and answers
@@ -260,9 +377,9 @@ pub fn run_check_command<S: Read, W: Write, E: Write>(
     out: &mut W,
     err: &mut E,
 ) -> u8
-    // The source had a trace, and it is faithful.
+    // The source had a trace, and it is faithful; it ends with a line, unless it was said that it may not.
     ensures faithful { result ≡ 0
-        → IsTraceCommandOnFaithful (trace_command_model options.now.model) options.now.lax (S.remaining source.old) }
+        → IsTraceCommandOnFaithful (trace_command_model options.now.model) options.now.lax options.now.unfinished (S.remaining source.old) }
     // What the source had begins with a trace, and no trace that begins so is faithful.
     ensures unfaithful { result ≡ 6
         → IsTraceCommandOnLie (trace_command_model options.now.model) options.now.lax (S.remaining source.old) }
@@ -276,10 +393,13 @@ pub fn run_check_command<S: Read, W: Write, E: Write>(
     // If a trace was judged, no line goes to the error output.
     ensures quiet { (result ≡ 0) ⊎ ((result ≡ 6) ⊎ (result ≡ 8)) → Keeps (E.contents err.old) (E.contents err.new) }
 {
-    match check_command_on_source(alloc, options, source, out) {
+    let mut refused = RefusedLine::new(alloc);
+    match check_command_on_source(alloc, options, source, &mut refused, out) {
         Ok(Judgement::Faithful) => 0,
         Ok(Judgement::Unfaithful) => UNFAITHFUL,
         Ok(Judgement::Racy) => RACY,
-        Err(fault) => fault.say(alloc, options.file.as_deref(), &[], err),
+        Err(fault) => {
+            fault.say_of_trace(alloc, program_file_named(&options.file), &refused, err)
+        }
     }
 }

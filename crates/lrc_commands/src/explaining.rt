@@ -17,6 +17,7 @@ use lrc_explain::{Extent, render};
 use lrc_options::options::{ExplainOptions, ShowOptions};
 use lrc_program::fault::ProgramFault;
 use lrc_program::program::{program_reads_script, program_says_line};
+use lrc_program::program_file_named;
 use lrc_script::script::Script;
 use std::alloc::{AllocError, Global};
 use std::io::{Read, Write};
@@ -110,7 +111,7 @@ fn explain_command_prints_end<W: Write>(
         return Err(CommandFault::Untold);
     };
     if options.showing.picture {
-        let drawing = explain_command_drawing(options.file.as_deref(), &options.showing);
+        let drawing = explain_command_drawing(program_file_named(&options.file), &options.showing);
         return draw(alloc, &drawing, journal, &history, halted, out);
     }
     let extent = explain_command_extent(&options.showing, true);

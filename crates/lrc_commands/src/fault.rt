@@ -11,6 +11,8 @@ ghost use Rattle.lrc_commands.specs.declared.fault.CommandFault.TheVariants as s
 ghost use Rattle.lrc_program.specs.declared.fault.ProgramFault.TheVariants as program;
 ghost use Rattle.lrc_commands.specs.Prelude.{IsCommandExitStatusBeforeAnswer, IsCommandExitStatusOfInput, IsCommandExitStatusOf, command_exit_status_of};
 
+use crate::refused_line::RefusedLine;
+use crate::trace_hint::trace_fault_lines;
 use base::MOST_HELD;
 use conformance::{RunFault, ScheduleFault};
 use lrc_check::CheckFault;
@@ -53,7 +55,9 @@ impl CommandFault {
     fn line(self, alloc: Global, file: Option<&str>, script: &[u8]) -> Result<String, AllocError> {
         match self {
             CommandFault::Program(fault) => fault.lines(alloc, file, script),
-            CommandFault::Trace(line, fault) => format!(in alloc; "lrc: line {line}: {fault}\n"),
+            CommandFault::Trace(line, fault) => {
+                trace_fault_lines(alloc, file, line, fault, &RefusedLine::new(alloc))
+            }
             CommandFault::Long => String::from_str(alloc, "lrc: trace too long\n"),
             CommandFault::Large => format!(in alloc;
                 "lrc: trace too large to hold\n  at most {MOST_HELD} events; check takes more\n"
@@ -104,6 +108,25 @@ impl CommandFault {
         ensures { IsCommandExitStatusOf self result }
     {
         program_says_line(self.line(alloc, file, script), self.status(), err)
+    }
+
+    /// The same of a trace, of which this line was refused if the fault is of one.
+    pub(crate) fn say_of_trace<E: Write>(
+        self,
+        alloc: Global,
+        file: Option<&str>,
+        refused: &RefusedLine,
+        err: &mut E,
+    ) -> u8
+        ensures { IsCommandExitStatusOf self result }
+    {
+        let line = match self {
+            CommandFault::Trace(line, fault) => trace_fault_lines(
+                alloc, file, line, fault, refused,
+            ),
+            _ => self.line(alloc, file, &[]),
+        };
+        program_says_line(line, self.status(), err)
     }
 }
 

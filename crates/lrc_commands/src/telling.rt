@@ -8,10 +8,12 @@ use crate::checking::{UNFAITHFUL, check_command_model, check_command_reads_all};
 use crate::drawing::draw_trace;
 use crate::explaining::{explain_command_drawing, explain_command_extent};
 use crate::fault::CommandFault;
+use crate::refused_line::RefusedLine;
 use judge::Sizes;
 use lrc_check::{ToldTrace, can_trace_be_held, tell_trace};
 use lrc_explain::{ToldHistory, render_explained_trace};
 use lrc_options::options::{TellOptions, TraceModel};
+use lrc_program::program_file_named;
 use std::alloc::Global;
 use std::io::{Read, Write};
 
@@ -42,7 +44,7 @@ fn tell_command_prints<W: Write>(
         lie: told.lie.as_deref(),
     };
     if options.showing.picture {
-        let drawing = explain_command_drawing(options.file.as_deref(), &options.showing);
+        let drawing = explain_command_drawing(program_file_named(&options.file), &options.showing);
         return draw_trace(alloc, &drawing, told, &history, pages, out);
     }
     let extent = explain_command_extent(&options.showing, pages);
@@ -55,16 +57,17 @@ fn tell_command_on_source<S: Read, W: Write>(
     alloc: Global,
     options: &TellOptions,
     source: &mut S,
+    refused: &mut RefusedLine,
     out: &mut W,
 ) -> Result<bool, CommandFault>
     ensures told { IfOk result (λ lies.
-        IsTraceCommandToldAs lies (trace_command_model options.now.model) options.now.lax (S.remaining source.old)) }
-    ensures held { IfOk result (λ _. IsTraceCommandOnHeld (S.remaining source.old)) }
+        IsTraceCommandToldAs lies (trace_command_model options.now.model) options.now.lax options.now.unfinished (S.remaining source.old)) }
+    ensures held { IfOk result (λ _. IsTraceCommandOnHeld options.now.unfinished (S.remaining source.old)) }
     ensures refused { IfErr result (λ fault. IsCommandExitStatusOfInput fault → IsTraceCommandOnNone (S.remaining source.old)) }
     ensures early { IfErr result
         (λ fault. IsCommandExitStatusBeforeAnswer fault → Keeps (W.contents out.old) (W.contents out.new)) }
 {
-    let labelled = check_command_reads_all(alloc, source)?;
+    let labelled = check_command_reads_all(alloc, source, options.unfinished, refused)?;
     if !can_trace_be_held(&labelled.trace) {
         return Err(CommandFault::Large);
     }
@@ -89,12 +92,12 @@ pub fn run_tell_command<S: Read, W: Write, E: Write>(
 ) -> u8
     // The source had a trace, and it is faithful: all of it was told.
     ensures faithful { result ≡ 0
-        → IsTraceCommandOnFaithful (trace_command_model options.now.model) options.now.lax (S.remaining source.old) }
+        → IsTraceCommandOnFaithful (trace_command_model options.now.model) options.now.lax options.now.unfinished (S.remaining source.old) }
     // The source had a trace, and it is not.
     ensures unfaithful { result ≡ 6
-        → IsTraceCommandOnUnfaithful (trace_command_model options.now.model) options.now.lax (S.remaining source.old) }
+        → IsTraceCommandOnUnfaithful (trace_command_model options.now.model) options.now.lax options.now.unfinished (S.remaining source.old) }
     // What is told is a trace of no more events than are held.
-    ensures held { (result ≡ 0) ⊎ (result ≡ 6) → IsTraceCommandOnHeld (S.remaining source.old) }
+    ensures held { (result ≡ 0) ⊎ (result ≡ 6) → IsTraceCommandOnHeld options.now.unfinished (S.remaining source.old) }
     // What is refused as a trace is none.
     ensures refused { result ≡ 2 → IsTraceCommandOnNone (S.remaining source.old) }
     // At any status but 4, a trace is told whole or not at all.
@@ -102,9 +105,12 @@ pub fn run_tell_command<S: Read, W: Write, E: Write>(
     // If a trace was told, no line goes to the error output.
     ensures quiet { (result ≡ 0) ⊎ (result ≡ 6) → Keeps (E.contents err.old) (E.contents err.new) }
 {
-    match tell_command_on_source(alloc, options, source, out) {
+    let mut refused = RefusedLine::new(alloc);
+    match tell_command_on_source(alloc, options, source, &mut refused, out) {
         Ok(false) => 0,
         Ok(true) => UNFAITHFUL,
-        Err(fault) => fault.say(alloc, options.file.as_deref(), &[], err),
+        Err(fault) => {
+            fault.say_of_trace(alloc, program_file_named(&options.file), &refused, err)
+        }
     }
 }

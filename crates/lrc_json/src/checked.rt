@@ -7,12 +7,12 @@ use crate::events::event_json;
 use crate::fault::JsonFault;
 use crate::members::{Members, member_of_numbers};
 use crate::output::{put_json_output_line, write_json_output};
-use causes::RaceApart;
+use causes::{RaceApart, Wait};
 use journal::Traffic;
 use judge::locksets::{Guarded, PairedAccess, Unprotected};
 use judge::{FlatStore, IllFormed, MemoryModel, Miscounted};
 use lrc_check::{
-    AnswersTold, JudgedTrace, Lie, Rules, ToldEvents, TraceVerdict, Unexplained,
+    AnswersTold, JudgedTrace, Lie, Rules, ToldEvents, TraceVerdict, Unexplained, circle_of_waits,
     verdict_reason_text, verdict_text_answers,
 };
 use serde_json::Value;
@@ -28,6 +28,20 @@ fn checked_place_json(
     match told.event(place) {
         Some(event) => event_json(alloc, place, event, told.label(place)),
         None => Ok(Value::Null),
+    }
+}
+
+/// Adds the event of the trace at this place, if it is known.
+fn put_checked_place_json(
+    members: &mut Members,
+    alloc: Global,
+    key: &str,
+    told: ToldEvents<'_>,
+    place: usize,
+) -> Result<(), AllocError> {
+    match told.event(place) {
+        Some(event) => members.put(key, event_json(alloc, place, event, told.label(place))?),
+        None => Ok(()),
     }
 }
 
@@ -68,8 +82,8 @@ fn checked_race_json(
     apart: &Option<RaceApart>,
 ) -> Result<Members, AllocError> {
     let mut members = Members::telling(alloc, "race")?;
-    members.put("first", checked_place_json(alloc, told, race.0)?)?;
-    members.put("second", checked_place_json(alloc, told, race.1)?)?;
+    put_checked_place_json(&mut members, alloc, "first", told, race.0)?;
+    put_checked_place_json(&mut members, alloc, "second", told, race.1)?;
     if let Some(apart) = apart {
         put_checked_apart_json(&mut members, alloc, apart)?;
     }
@@ -158,9 +172,9 @@ fn put_checked_traffic_json(
         words,
     } = traffic;
     let mut costs = Members::new(alloc);
-    costs.put("messages", Value::from(messages))?;
-    costs.put("records", Value::from(records))?;
-    costs.put("words", Value::from(words))?;
+    costs.put_count("messages", messages)?;
+    costs.put_count("records", records)?;
+    costs.put_count("words", words)?;
     members.put("traffic", costs.into_value())
 }
 
@@ -181,6 +195,70 @@ fn put_checked_verdict_json(
     }
 }
 
+/// Adds a lock that is waited for, and who holds it, if somebody does.
+fn put_checked_lock_json(
+    members: &mut Members,
+    lock: usize,
+    holder: Option<usize>,
+) -> Result<(), AllocError> {
+    members.put_number("lock", lock)?;
+    match holder {
+        Some(holder) => members.put_number("holder", holder),
+        None => Ok(()),
+    }
+}
+
+/// For what the processor waits.
+fn checked_wait_json(alloc: Global, processor: usize, wait: &Wait) -> Result<Members, AllocError> {
+    let mut members = Members::new(alloc);
+    members.put_number("processor", processor)?;
+    match wait {
+        Wait::Nothing => {}
+        Wait::Lock { lock, holder, .. } => put_checked_lock_json(&mut members, *lock, *holder)?,
+        Wait::Flag { flag, .. } => members.put_number("flag", *flag)?,
+        Wait::Barrier { absent } => {
+            members.put_flag("barrier", true)?;
+            members.put("absent", member_of_numbers(alloc, absent)?)?;
+        }
+    }
+    Ok(members)
+}
+
+/// The circles of processors that wait for each other.
+fn checked_circles_json(alloc: Global, waits: &[Wait]) -> Result<Vec<Value>, AllocError> {
+    let mut circles = Vec::new(alloc);
+    for least in 0..waits.len() {
+        let circle = circle_of_waits(alloc, waits, least)?;
+        if !circle.is_empty() {
+            circles.push(member_of_numbers(alloc, &circle)?)?;
+        }
+    }
+    Ok(circles)
+}
+
+/// Adds who waits at the end, and who wait for each other, if any do.
+fn put_checked_waits_json(
+    members: &mut Members,
+    alloc: Global,
+    waits: &[Wait],
+) -> Result<(), AllocError> {
+    let mut values = Vec::new(alloc);
+    for (processor, wait) in waits.iter().enumerate() {
+        if !matches!(wait, Wait::Nothing) {
+            values.push(checked_wait_json(alloc, processor, wait)?.into_value())?;
+        }
+    }
+    if values.is_empty() {
+        return Ok(());
+    }
+    members.put("waits", Value::Array(values))?;
+    let circles = checked_circles_json(alloc, waits)?;
+    if circles.is_empty() {
+        return Ok(());
+    }
+    members.put("circles", Value::Array(circles))
+}
+
 /// What was judged, and how that ended.
 fn checked_summary_json(
     alloc: Global,
@@ -193,6 +271,10 @@ fn checked_summary_json(
     members.put_flag("lax", rules.lax)?;
     members.put_flag("racy", judged.found.race.is_some())?;
     put_checked_verdict_json(&mut members, alloc, &judged.found.verdict)?;
+    put_checked_waits_json(&mut members, alloc, &judged.waits)?;
+    if let Some(line) = judged.unfinished {
+        members.put_number("unfinished", line)?;
+    }
     Ok(members)
 }
 

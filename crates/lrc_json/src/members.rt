@@ -3,6 +3,9 @@
 use serde_json::{Map, Value};
 use std::alloc::{AllocError, Global};
 
+/// The greatest number that each reader of JSON keeps exactly: 2^53 - 1.
+const MOST_EXACT: u64 = (1 << 53) - 1;
+
 /// An object that is put together.
 #[derive(Drop)]
 pub struct Members {
@@ -34,6 +37,15 @@ impl Members {
     /// Adds a number.
     pub fn put_number(&mut self, key: &str, number: usize) -> Result<(), AllocError> {
         self.put(key, Value::from(number))
+    }
+
+    /// Adds a count: as a number, or as a text of its digits if it is greater than JSON's readers keep exactly.
+    pub fn put_count(&mut self, key: &str, count: u64) -> Result<(), AllocError> {
+        if count <= MOST_EXACT {
+            return self.put(key, Value::from(count));
+        }
+        let digits = format!(in self.alloc; "{count}")?;
+        self.put(key, Value::String(digits))
     }
 
     /// Adds a text.

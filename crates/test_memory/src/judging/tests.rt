@@ -46,18 +46,27 @@ fn fault(place: usize, why: Why) -> Option<IllFormed> {
     Some(IllFormed { place, why })
 }
 
+/// The history is well formed but for this, lax or not as is said.
+fn tells_so<R: Abort + AllocGlobal>(
+    rt: &R,
+    events: &[Event],
+    lax: bool,
+    want: Option<IllFormed>,
+) -> Result<(), Fail> {
+    assert!(rt; events.len() <= MOST_HELD);
+    let found = first_ill_formed(rt.alloc(), three(), events, lax)?;
+    assert!(rt; found == want);
+    Ok(())
+}
+
 /// The history is well formed but for this, lax or not.
 fn tells<R: Abort + AllocGlobal>(
     rt: &R,
     events: &[Event],
     want: Option<IllFormed>,
 ) -> Result<(), Fail> {
-    assert!(rt; events.len() <= MOST_HELD);
-    for lax in [false, true] {
-        let found = first_ill_formed(rt.alloc(), three(), events, lax)?;
-        assert!(rt; found == want);
-    }
-    Ok(())
+    tells_so(rt, events, false, want)?;
+    tells_so(rt, events, true, want)
 }
 
 /// The last event of the history may not stand there, for this reason, lax or not.
@@ -143,18 +152,20 @@ fn out_of_range(rt: HostRuntime) -> Result<(), Fail> {
     Ok(())
 }
 
-/// Who waits does nothing else, and who has not called may not go on.
+/// Who waits does nothing else, and who has not called may not go on; lax, an acquire and an await need no call.
 #[test]
 fn waiting(rt: HostRuntime) -> Result<(), Fail> {
-    for (call, awaited) in [
-        (Kind::Ask(1), Kind::Acquire(1)),
-        (Kind::Arrive, Kind::Depart),
-        (Kind::Watch(1), Kind::Await(1)),
+    for (call, awaited, lax) in [
+        (Kind::Ask(1), Kind::Acquire(1), None),
+        (Kind::Arrive, Kind::Depart, fault(1, Why::NotAsked)),
+        (Kind::Watch(1), Kind::Await(1), fault(1, Why::NotSet)),
     ] {
         for other in [Kind::Load(0, 0), Kind::Acquire(0), Kind::Await(0), call] {
             refuses(&rt, &[by(1, call), by(1, other)], Why::Waits(awaited))?;
         }
-        refuses(&rt, &[by(0, call), by(1, awaited)], Why::NotAsked)?;
+        let uncalled = [by(0, call), by(1, awaited)];
+        tells_so(&rt, &uncalled, false, fault(1, Why::NotAsked))?;
+        tells_so(&rt, &uncalled, true, lax)?;
     }
     Ok(())
 }

@@ -4,13 +4,13 @@ use Rattle.lrc_commands.proofs.checking.finish.Goals as goal
 
 pub returns-clause-text : goal.returns-clause-text
 returns-clause-text c = λ source left so_far end.
-    let had = rw c.in_ok-reading.was at so_far in
-    judged_source_full_text source had.0 _ _ (judged_source_consumed_fully source left had.0 had.1 end)
-    (c.in_ok-labelled.ensures.found.1 had.0 had.2)
+    let had = rw c.in_ok-reader.was at so_far in
+    judged_source_full_text c.args.unfinished source had.0 _ _ (judged_source_consumed_fully source left had.0 had.1 end)
+    (c.in_ok-labelled.ensures.text had.0 had.2)
 
 pub returns-in_err-labelled-clause-refused : goal.returns-in_err-labelled-clause-refused
 returns-in_err-labelled-clause-refused c =
     let p = err_from_is_err_and c.from_residual-in_err-labelled.result c.from_residual-in_err-labelled.ensures.1 in
     rw p.1 (λ its source left so_far end.
-    let had = rw c.in_ok-reading.was at so_far in
+    let had = rw c.in_ok-reader.was at so_far in
     judged_source_full_refused source had.0 (judged_source_consumed_fully source left had.0 had.1 end) (c.in_err-labelled.ensures.only had.0 had.2))

@@ -1,0 +1,38 @@
+use Rattle.std.proofs.Common.{◌≡◌, ℕ, Bool, false, List, [], subst, sym}
+use Rattle.std.specs.Prelude.{IfOk, Result, Ok, Err}
+use Rattle.lrc_check.specs.declared.traces.trace.LabelledTrace.{LabelledTrace}
+use Rattle.lrc_check.specs.Traces.FedText.{FedText, IsFedTextOf}
+use Rattle.lrc_check.specs.Traces.Labels.{without_trace_labels}
+use Rattle.lrc_check.specs.Traces.LawfulTraces.{IsLawfulTrace}
+use Rattle.lrc_check.specs.Traces.Sizes.{trace_sizes_of}
+use Rattle.lrc_check.specs.Traces.TraceText.{trace_text}
+use Rattle.lrc_commands.specs.TraceCommand.{IsTraceCommandText}
+use Rattle.lrc_commands.proofs.checking.check_command_reader_ends.Goals as goal
+
+-- of a trace that ends with a line its text
+whole_text : {E : Type 0} (unfinished : Bool) (r : Result LabelledTrace E) (x : FedText) → unfinished ≡ false
+    → IfOk r (λ t. IsLawfulTrace (trace_sizes_of t.trace.sizes) t.trace.events.items
+    × ((bytes : List ℕ) → IsFedTextOf bytes [] [] x → without_trace_labels bytes ≡ trace_text (trace_sizes_of t.trace.sizes) t.trace.events.items))
+    → IfOk r (λ t. (bytes : List ℕ) → IsFedTextOf bytes [] [] x → IsTraceCommandText unfinished bytes (trace_sizes_of t.trace.sizes) t.trace.events.items)
+whole_text unfinished (Ok t) x is found = λ bytes fed.
+    subst (λ u. IsTraceCommandText u bytes (trace_sizes_of t.trace.sizes) t.trace.events.items) (sym is) (found.1 bytes fed)
+whole_text unfinished (Err e) x is found = tt
+
+lawful : {E : Type 0} {Q : LabelledTrace → Type 0} (r : Result LabelledTrace E)
+    → IfOk r (λ t. IsLawfulTrace (trace_sizes_of t.trace.sizes) t.trace.events.items × Q t)
+    → IfOk r (λ t. IsLawfulTrace (trace_sizes_of t.trace.sizes) t.trace.events.items)
+lawful (Ok t) found = found.0
+lawful (Err e) found = tt
+
+pub returns-then-unfinished-clause-text : goal.returns-then-unfinished-clause-text
+returns-then-unfinished-clause-text c =
+    subst (λ u. IfOk c.finish_unfinished.result (λ t. (bytes : List ℕ) → IsFedTextOf bytes [] [] c.args.reader
+    → IsTraceCommandText u bytes (trace_sizes_of t.trace.sizes) t.trace.events.items))
+    (sym c.if-unfinished.true) c.finish_unfinished.ensures.found
+
+pub returns-else-unfinished-clause-trace : goal.returns-else-unfinished-clause-trace
+returns-else-unfinished-clause-trace c = lawful c.finish.result c.finish.ensures.found
+
+pub returns-else-unfinished-clause-text : goal.returns-else-unfinished-clause-text
+returns-else-unfinished-clause-text c =
+    whole_text c.args.unfinished c.finish.result c.args.reader c.if-unfinished.false c.finish.ensures.found
