@@ -118,7 +118,9 @@ fn look_until_allowed<P: Progress>(
     ensures { IfOk result (IsAllowedUntilLooked (plan_of script.now) words.now most) }
 {
     let mut search = AllowedSearch::new(alloc)?;
-    look_at_pending_until(&mut search, alloc, script, steps, words, most, progress)
+    let looked = look_at_pending_until(&mut search, alloc, script, steps, words, most, progress);
+    drop(search);
+    looked
 }
 
 /// The run that the beginning is, with what it shows, told by this detail.

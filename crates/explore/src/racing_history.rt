@@ -92,8 +92,8 @@ fn racing_history_up_to_race(
     requires racing { IsRacingBeginning (plan_of script.now) events.items }
     ensures { IfOk result (IsExploredRacy (plan_of script.now)) }
 {
-    let (first, second) = racing_history_race(alloc, script, &events)?.unwrap();
-    Ok(cut_racing_history(events, first, second))
+    let race = racing_history_race(alloc, script, &events)?.unwrap();
+    Ok(cut_racing_history(events, race.0, race.1))
 }
 
 /// A history in which the two events that conflict race, up to its first race. The only error is running out of memory.

@@ -62,6 +62,13 @@ pub struct SearchEnd {
     through: bool,
 }
 
+/// What a search has found but for outcomes.
+#[derive(Drop)]
+pub struct Findings {
+    verdict: Verdict,
+    hanging: Hanging,
+}
+
 /// Adds an outcome with the place of a state that shows it, if it is a new one. The only error is running out of memory.
 fn note_search_outcome(
     outcomes: &mut IndexMap<ScriptOutcome, usize>,
@@ -346,6 +353,31 @@ impl Search {
         }
     }
 
+    /// Whether the script races and whether it hangs, if the search ended so; it may be known to be race-free, and never to hang. The
+    /// only error is running out of memory.
+    fn findings(
+        &self,
+        alloc: Global,
+        script: &Script,
+        steps: &[Vec<ScriptCall>],
+        end: SearchEnd,
+        race_free: bool,
+        never: bool,
+    ) -> Result<Findings, AllocError>
+        requires steps { AreLawfulMachineSteps (plan_of script.now) steps.now }
+        requires free { IsTrue race_free → AreFlatBeginningsRaceFree (plan_of script.now) }
+        requires never { IsTrue never → (g : List AnEvent) → ¬ IsFlatBeginningHanging (plan_of script.now) g }
+        requires ended { (most : ℕ) × IsFlatSearchEnd (plan_of script.now) self.now steps.now most end }
+        ensures verdict { IfOk result (λ found. IsExploredVerdict (plan_of script.now) found.verdict) }
+        ensures hanging { IfOk result (λ found. IsExploredHanging (plan_of script.now) found.hanging) }
+        ensures verdict_opens { IfOk result (λ found. IsFlatSearchVerdictOpen end.neighbours race_free found.verdict) }
+        ensures hanging_opens { IfOk result (λ found. IsFlatSearchHangingOpen end.through found.hanging) }
+    {
+        let verdict = self.verdict(alloc, script, steps, end.neighbours, race_free)?;
+        let hanging = self.hanging(alloc, script, steps, end.through, never)?;
+        Ok(Findings { verdict, hanging })
+    }
+
     /// Looks at each state that there is, as `look_at_all` does, and says how that ended.
     fn look_to_the_end<P: Progress>(
         &mut self,
@@ -420,9 +452,9 @@ impl Search {
         let race_free = end.through | are_all_guarded(&facts.guarded);
         let run = run_of_given_up(alloc, script, steps, detail, end)?;
         let never = never_gets_stuck_by_text(steps, &run);
-        let verdict = self.verdict(alloc, script, steps, end.neighbours, race_free)?;
-        let hanging = self.hanging(alloc, script, steps, end.through, never)?;
+        let findings = self.findings(alloc, script, steps, end, race_free, never)?;
         let outcomes = self.outcomes_and(alloc, run_to_tell(race_free, run))?;
+        let Findings { verdict, hanging } = findings;
         Ok(Explored {
             states: end.states,
             verdict,
@@ -471,14 +503,17 @@ fn search_steps<P: Progress>(
 {
     let facts = text_facts(alloc, script, steps)?;
     let mut search = Search::new(alloc, script, steps, detail)?;
-    search.explored(alloc, script, steps, &facts, detail, most, progress)
+    let explored = search.explored(alloc, script, steps, &facts, detail, most, progress);
+    drop(search);
+    explored
 }
 
 /// Looks at the states of the script on one flat memory, and says whether it races, whether it can hang, and what it can
 /// show, told by this detail. If all words are guarded (`guarded_words`), it says race-free whatever it finds, and if the
 /// text shows that no schedule hangs (`never_gets_stuck_by_text`), it says that. It ends at the first two accesses that
 /// race, and gives up once it finds more than `most` states. Either way it says what it has found: a hang and outcomes that
-/// it met are there. The only error is running out of memory.
+/// it met are there. If it gives up, and all words are guarded, so is what one run shows, if that comes to its end. The only error
+/// is running out of memory.
 ///
 /// It gives up, too, if it finds more states than fit (`state_room_size`): those of which each has as many words as the
 /// memory, and the replies of the script's loads that are told, and which have 2^27 words together. So the memory that

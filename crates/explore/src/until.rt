@@ -103,8 +103,8 @@ fn run_until_words(
     ensures settled { IfOk result (λ showing. IsTrue (are_ending_words_settled showing)) }
 {
     let events = found.events_to(alloc, steps, place)?;
-    if let Some((first, second)) = racing_history_race(alloc, script, &events)? {
-        return Ok(Showing::Racy(cut_racing_history(events, first, second)));
+    if let Some(race) = racing_history_race(alloc, script, &events)? {
+        return Ok(Showing::Racy(cut_racing_history(events, race.0, race.1)));
     }
     let replies = found.at(place)?.replies()?;
     let outcome = ScriptOutcome { replies };
@@ -179,7 +179,7 @@ fn until_by_steps<P: Progress>(
 {
     let facts = text_facts(alloc, script, steps)?;
     let mut search = Search::new(alloc, script, steps, detail)?;
-    until_by_search(
+    let explored = until_by_search(
         &mut search,
         alloc,
         script,
@@ -189,7 +189,9 @@ fn until_by_steps<P: Progress>(
         words,
         most,
         progress,
-    )
+    );
+    drop(search);
+    explored
 }
 
 /// Looks at the states of the script on one flat memory as `explore` does, until a whole run ends with these words, each at

@@ -3,8 +3,8 @@ use Rattle.explore.specs.declared.outcome_telling.Detail.TheVariants as detail
 use Rattle.explore.proofs.allowed_runs.AllowedUntil.{allowed_until_start}
 use Rattle.explore.proofs.allowed_until_search.look_until_allowed.Goals as goal
 
-pub look_at_pending_until-requires-clause-searched : goal.look_at_pending_until-requires-clause-searched
-look_at_pending_until-requires-clause-searched g c =
+pub look_at_pending_until-looked-requires-clause-searched : goal.look_at_pending_until-looked-requires-clause-searched
+look_at_pending_until-looked-requires-clause-searched g c =
     let s = plan_of c.args.script.now in
     record {
       searched = c.in_ok-search.ensures.searched s detail.Words;

@@ -1,4 +1,4 @@
 use Rattle.explore.proofs.search.search_steps.Goals as goal
 
-pub explored-requires-clause-searched : goal.explored-requires-clause-searched
-explored-requires-clause-searched g c = c.in_ok-search.ensures.searched c.args.steps.now
+pub explored-explored-requires-clause-searched : goal.explored-explored-requires-clause-searched
+explored-explored-requires-clause-searched g c = c.in_ok-search.ensures.searched c.args.steps.now

@@ -36,8 +36,8 @@ returns-clause-showing c = λ words d ends telling.
     let knows = c.in_ok-events.ensures s c.requires.steps c.requires.found m stored.1 in
     record {
       is = ends.ends m events stored.1 knows;
-      race_free = subst RaceFree c.deref.ensures.value (told_none c.in_ok-first.field-0 (RaceFree c.deref.result.now) (λ r. IsFirstRace c.deref.result.now r.0 r.1) c.in_default.not-Some
-          c.in_ok-first.ensures);
+      race_free = subst RaceFree c.deref.ensures.value (told_none c.in_ok-race.field-0 (RaceFree c.deref.result.now) (λ r. IsFirstRace c.deref.result.now r.0 r.1) c.in_default.not-Some
+          c.in_ok-race.ensures);
       outcome =
           subst (AreOutcomeTellingReplies s (outcome_telling_of_script s d) events) (sym (c.in_ok-replies.ensures ∙ (c.in_ok-at.ensures m stored.1).replies))
           (subst (λ t. AreOutcomeTellingReplies s t events (machine_rows m.replies.items))

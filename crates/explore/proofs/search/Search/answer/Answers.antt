@@ -38,27 +38,24 @@ neither : (through all : Bool) → (through || all) ≡ false → through ≡ fa
 neither true all is = is
 neither false all is = refl
 
-pub verdict-requires-clause-free : goal.verdict-requires-clause-free
-verdict-requires-clause-free c =
+pub findings-requires-clause-free : goal.findings-requires-clause-free
+findings-requires-clause-free c =
     let s = plan_of c.args.script.now in
     race_free s c.args.self.now c.args.steps.now c.args.facts.now.guarded.items c.args.end.through c.are_all_guarded.result
     c.requires.steps c.requires.ended.1.searched c.requires.facts.guarded c.requires.long
     (subst (λ ws. IsTrue c.are_all_guarded.result → (w : ℕ) → w < length ws → IsTrue (slice_index_or ws w false)) c.deref.ensures.value
     c.are_all_guarded.ensures)
 
-pub verdict-requires-clause-racing : goal.verdict-requires-clause-racing
-verdict-requires-clause-racing c = c.requires.ended.1.racing
-
-pub hanging-requires-clause-searched : goal.hanging-requires-clause-searched
-hanging-requires-clause-searched c = c.requires.ended.1.searched
+pub findings-requires-clause-ended : goal.findings-requires-clause-ended
+findings-requires-clause-ended c = c.requires.ended
 
 pub outcomes_and-requires : goal.outcomes_and-requires
 outcomes_and-requires c =
     let some = c.requires.ended.1.searched.some in
     (plan_of c.args.script.now, c.requires.steps.lawful, some.1.found, some.1.noted.places)
 
-pub hanging-requires-clause-never : goal.hanging-requires-clause-never
-hanging-requires-clause-never c = λ yes.
+pub findings-requires-clause-never : goal.findings-requires-clause-never
+findings-requires-clause-never c = λ yes.
     c.never_gets_stuck_by_text-never.ensures yes (plan_of c.args.script.now) c.args.detail c.requires.steps c.in_ok-run.ensures
 
 pub returns : goal.returns
@@ -72,8 +69,8 @@ returns c = λ most ended.
     record {
       states = ended.states d telling;
       few = (let few = ended.few in omega (arith, few));
-      verdict = c.in_ok-verdict.ensures.verdict;
-      hanging = c.in_ok-hanging.ensures.hanging;
+      verdict = c.in_ok-findings.ensures.verdict;
+      hanging = c.in_ok-findings.ensures.hanging;
       outcomes = c.in_ok-outcomes.ensures.outcomes s d (searched_states_some_outcomes s d x steps some.0 telling some.1)
           (c.run_to_tell.ensures s d c.in_ok-run.ensures);
       runs = c.in_ok-outcomes.ensures.runs s d some.1.found some.1.noted.places telling (c.run_to_tell.ensures s d c.in_ok-run.ensures);
@@ -82,7 +79,8 @@ returns c = λ most ended.
           (searched_states_all_outcomes s x steps c.requires.steps (ended.searched.all yes) d telling replies outcome);
       given_up = λ opens.
           let both = searched_states_open_only c.args.end.neighbours (c.args.end.through || c.are_all_guarded.result) c.args.end.through
-          c.in_ok-verdict.verdict c.in_ok-hanging.hanging c.in_ok-verdict.ensures.opens c.in_ok-hanging.ensures.opens
+          c.in_ok-findings.findings.verdict c.in_ok-findings.findings.hanging c.in_ok-findings.ensures.verdict_opens
+          c.in_ok-findings.ensures.hanging_opens
           (neither c.args.end.through c.are_all_guarded.result) opens in
           ended.past both.0 both.1;
     }
