@@ -3,7 +3,7 @@
 //!
 //! Each of four processors adds one to a shared word, again and again. At the end the program prints the word.
 //!
-//! **What is proved**: the word is 4 × 250, modulo 2^32 (`count`). A processor says how much it has added to the word
+//! **What is proved**: the word is `PROCESSORS` × `ROUNDS`, modulo 2^32 (`count`). A processor says how much it has added to the word
 //! (`did`), and `Seat::add` says of itself how much that is; so the proof is a loop's invariant and a line for the end.
 //! Besides, what `seats::run_guarded` promises: no two accesses race, since each processor keeps to the layout and no word
 //! of it is open to all.
@@ -11,7 +11,7 @@
 //! **What is only tested**: that it answers.
 #![tactic(auto)]
 
-ghost use Rattle.std.specs.Prelude.{◌≡◌, ◌%◌, ◌^◌, IfOk};
+ghost use Rattle.std.specs.Prelude.{◌≡◌, ◌*◌, ◌%◌, ◌^◌, IfOk};
 ghost use Rattle.seats.specs.Prelude.{AddsUpTo};
 
 use anyhow::Result;
@@ -33,10 +33,12 @@ const COUNT: usize = 0;
 struct Counter;
 
 impl Program for Counter {
+    ghost use Rattle.example_counter.specs.declared.TheConstants.{COUNT, LOCK, ROUNDS};
+
     type Answer = ();
 
-    // To the word at address 0, under lock 0, it has added 250.
-    ghost did = { λ processor deeds answer. AddsUpTo 0 0 250 deeds };
+    // To the word, under its lock, it has added one so often.
+    ghost did = { λ processor deeds answer. AddsUpTo LOCK COUNT ROUNDS deeds };
 
     fn work<S: Sitting>(&self, seat: &mut Seat<'_, S>) -> Result<(), SeatFault> {
         for round in 0..ROUNDS {
@@ -48,7 +50,7 @@ impl Program for Counter {
 
 /// Counts by a thread for each processor, and answers the word at the end.
 fn count<R: Threads + Wait + Sync>(rt: &R, alloc: Global) -> Result<u32, ProcessorFault>
-    ensures { IfOk result (λ count. count % 2 ^ 32 ≡ 1000) }
+    ensures { IfOk result (λ count. count % 2 ^ 32 ≡ (PROCESSORS * ROUNDS) % 2 ^ 32) }
 {
     // Only who holds the lock may access the word.
     let mut layout = Layout::new(alloc, 1, 0, 1)?;

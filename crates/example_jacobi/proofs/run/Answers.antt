@@ -5,4 +5,4 @@ use Rattle.example_jacobi.proofs.run.Goals as goal
 
 pub returns : goal.returns
 returns g c =
-    c.truncate.ensures.items ∙ stencil_run plate 10 c.in_ok-ran.ensures (omega arith, refl, omega arith) (λ p ks y did. did)
+    c.truncate.ensures.items ∙ stencil_run plate 10 c.in_ok-ran.ensures.ran (omega arith, refl, omega arith) (λ p ks y did. did)
