@@ -85,8 +85,8 @@ for size in (1, 7, 40, None):
     status, said, wrong = judged(RACE + BAD + LIE, pieces=size)
     count(f"the bad line comes before the lie, in pieces of {size}", (status, said) == (2, ""), status, said, wrong)
     count(f"the bad line is shown, in pieces of {size}", wrong == HINT, wrong)
-    passed = b"# one\n\n" + RACE + b"\n# two\n\n" + BAD + LIE
-    status, said, wrong = judged(passed, pieces=size)
+    commented = b"# one\n\n" + RACE + b"\n# two\n\n" + BAD + LIE
+    status, said, wrong = judged(commented, pieces=size)
     count(f"lines that are passed over are counted, in pieces of {size}", wrong == HINT.replace(" 4:", " 9:").replace(":4:", ":9:"), wrong)
 STORING = (("--model", "happens-before"), ("--model", "lazy-release"), ("--model", "lazy-release", "--lax"))
 for words in STORING:
