@@ -3,6 +3,7 @@ ghost use Rattle.std.specs.Prelude.{◌≡◌, ◌≢◌, ◌<◌};
 ghost use Rattle.std.specs.Io.KnownBytes.{Keeps};
 ghost use Rattle.lrc_program.specs.Prelude.{IsServedWithoutScript, IsServed, IsServedAsAsked};
 
+use conformance::ScriptRunner;
 use lrc_options::options::Options;
 use lrc_run::OnCluster;
 use std::alloc::Global;
@@ -22,7 +23,8 @@ pub fn program<R: Threads + Wait + Sync, S: Read, W: Write, E: Write>(
 ) -> u8
     requires tries { 0 < options.now.tries }
     // The script that was read was run, and the report of that run was written, whole.
-    ensures served { result ≡ 0 → IsServed (IsServedAsAsked (λ _ _ _ _. Unit {0}) (λ _ _ _ _. Unit {0}) (λ _ _ _ _. Unit {0}) options.now)
+    ensures served { result ≡ 0 → IsServed (IsServedAsAsked ⟦<OnCluster as ScriptRunner>⟧.ran ⟦<OnCluster as ScriptRunner>⟧.stepped
+        ⟦<OnCluster as ScriptRunner>⟧.followed options.now)
         options.now.journal (S.remaining source.old) (W.contents out.old) (W.contents out.new) }
     // What is refused as a script is none.
     ensures refused { result ≡ 2 → IsServedWithoutScript (S.remaining source.old) }

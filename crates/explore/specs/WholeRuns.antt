@@ -1,5 +1,5 @@
 -- One run of a script, as far as it came.
-use Rattle.std.specs.Prelude.{ℕ, ◌≡◌, List, map}
+use Rattle.std.specs.Prelude.{◌≡◌, List, map}
 use Rattle.journal.specs.declared.event.Event.{Event}
 use Rattle.lrc_script.specs.Plan.{Plan}
 use Rattle.explore.specs.declared.wait_code.ProcessorNumber.{ProcessorNumber}

@@ -1,4 +1,4 @@
-use Rattle.std.proofs.Common.{◌≡◌, ◌≢◌, Option, Some, refl, sym, subst, ◌∙◌}
+use Rattle.std.proofs.Common.{◌≢◌, Option, Some, refl, sym, subst, ◌∙◌}
 use Rattle.std.specs.Prelude.{None, IfSome}
 use Rattle.base.specs.InOrderOnce.{Has}
 use Rattle.explore.specs.declared.explored.ShownOutcome.{ShownOutcome}

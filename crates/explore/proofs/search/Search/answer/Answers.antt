@@ -1,12 +1,10 @@
-use Rattle.std.proofs.Common.{◌≡◌, ◌<◌, inl, inr, Bool, true, false, IsTrue, ℕ, List, length, refl, sym, subst, ◌∙◌, arith}
+use Rattle.std.proofs.Common.{◌≡◌, ◌<◌, inl, inr, Bool, true, false, IsTrue, ℕ, List, length, refl, subst, arith}
 use Rattle.std.specs.Prelude.{◌||◌, slice_index_or}
 use Rattle.std.specs.Global.{Vec}
 use Rattle.std.proofs.lemmas.Bool.{cases_lt}
 use Rattle.lrc_script.specs.Plan.{Plan, plan_of}
 use Rattle.explore.specs.declared.prefixes.script_call.ScriptCall.{ScriptCall}
 use Rattle.explore.specs.declared.search.Search.{Search}
-use Rattle.explore.specs.Explored.{AreAllOutcomesExplored, AreExploredOutcomes}
-use Rattle.explore.specs.FoundStates.{found_states}
 use Rattle.explore.specs.TextGuards.{AreGuardedByText}
 use Rattle.explore.specs.Machines.{AreLawfulMachineSteps}
 use Rattle.explore.specs.Prefixes.FlatBeginnings.{AreFlatBeginningsRaceFree}
@@ -14,8 +12,7 @@ use Rattle.lrc_script.specs.Lawful.{plan_addresses}
 use Rattle.explore.proofs.locksets.TextGuardLaw.{text_guard_law}
 use Rattle.explore.proofs.locksets.Noted.{lockset_noted_address_within, lockset_noted_rows_within, lockset_noted_unused_guarded}
 use Rattle.explore.proofs.prefixes.Neighbours.NoNeighbours.{no_neighbours_law}
-use Rattle.explore.specs.FlatSearch.{AreFlatSearchPlaces, IsFlatSearched}
-use Rattle.explore.specs.NotedOutcomes.{noted_outcomes}
+use Rattle.explore.specs.FlatSearch.{IsFlatSearched}
 use Rattle.explore.proofs.SearchedStates.{searched_states_all_outcomes, searched_states_without_neighbours, searched_states_open_only, searched_states_some_outcomes}
 use Rattle.explore.proofs.search.Search.answer.Goals as goal
 

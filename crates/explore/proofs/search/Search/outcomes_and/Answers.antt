@@ -1,10 +1,7 @@
-use Rattle.std.proofs.Common.{ℕ, ◌≡◌, List, map, sym, ap, subst, ◌∙◌}
+use Rattle.std.proofs.Common.{◌≡◌, map, sym, ap, subst, ◌∙◌}
 use Rattle.base.specs.InOrderOnce.{Has}
-use Rattle.indexmap.specs.IndexMap.{IndexMap}
-use Rattle.explore.specs.declared.explored.ScriptOutcome.{ScriptOutcome}
-use Rattle.explore.specs.declared.explored.ShownOutcome.{ShownOutcome}
 use Rattle.std.specs.Prelude.{IfSome}
-use Rattle.explore.specs.Explored.{AreExploredOutcomes, IsRunOfShownOutcome, shown_outcome}
+use Rattle.explore.specs.Explored.{AreExploredOutcomes, shown_outcome}
 use Rattle.explore.specs.FlatSearch.{AreFlatSearchPlaces}
 use Rattle.explore.specs.FoundStates.{found_states}
 use Rattle.explore.specs.NotedOutcomes.{noted_outcomes}

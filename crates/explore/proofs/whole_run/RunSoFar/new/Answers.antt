@@ -1,4 +1,4 @@
-use Rattle.std.proofs.Common.{refl, ap}
+use Rattle.std.proofs.Common.{ap}
 use Rattle.explore.specs.declared.wait_code.ProcessorNumber.{ProcessorNumber}
 use Rattle.std.specs.Prelude.{List, map}
 use Rattle.explore.proofs.whole_run.RunSoFar.new.Goals as goal
