@@ -1,7 +1,7 @@
 -- A trace that was read and judged.
 use Rattle.std.proofs.Common.{◌≡◌, ◌≢◌, ◌∙◌, ℕ, suc, Bool, true, false, List, [], ◌++◌, ◌≤◌, Option, Some, None, Result, Ok, Err, length, take, drop, refl, sym, ap, subst, append_assoc, append-nil, take-append-drop, arith}
 use Rattle.std.proofs.lemmas.List.{take_all}
-use Rattle.std.specs.Prelude.{IfSome}
+use Rattle.std.specs.Prelude.{IfOk, IfSome}
 use Rattle.std.specs.Io.KnownBytes.{Consumes, IsAtEnd}
 use Rattle.journal.specs.declared.event.Event.{Event}
 use Rattle.journal.specs.Sizes.{Sizes}
@@ -202,6 +202,20 @@ pub judged_source_by : (r : Rules) (m : MemoryModel) (lax unfinished : Bool) (so
 judged_source_by r m lax unfinished source a b model same is judged =
     subst (IsTraceCommandJudgedAs m lax unfinished source) (sym is)
     (subst (λ x. IsTraceCommandJudgedAs x lax unfinished source a) model (subst (λ y. IsTraceCommandJudgedAs r.model y unfinished source a) same judged))
+
+-- also of the judgement that a call answers
+pub judged_source_answered : {E : Type 0} (m : MemoryModel) (lax unfinished : Bool) (source : Option (List ℕ)) (a : Judgement)
+    (x : Result Judgement E) → IfOk x (λ b. b ≡ a) → IsTraceCommandJudgedAs m lax unfinished source a
+    → IfOk x (IsTraceCommandJudgedAs m lax unfinished source)
+judged_source_answered m lax unfinished source a (Ok b) is judged = subst (IsTraceCommandJudgedAs m lax unfinished source) (sym is) judged
+judged_source_answered m lax unfinished source a (Err e) is judged = tt
+
+pub judged_source_answered_by : {E : Type 0} (r : Rules) (m : MemoryModel) (lax unfinished : Bool) (source : Option (List ℕ))
+    (x : Result Judgement E) → r.model ≡ m → r.lax ≡ lax → IfOk x (IsTraceCommandJudgedAs r.model r.lax unfinished source)
+    → IfOk x (IsTraceCommandJudgedAs m lax unfinished source)
+judged_source_answered_by r m lax unfinished source (Ok a) model same judged =
+    judged_source_by r m lax unfinished source a a model same refl judged
+judged_source_answered_by r m lax unfinished source (Err e) model same judged = tt
 
 -- what was told of the trace that the source had is said of the source
 pub judged_source_told_as : (lies : Bool) (m : MemoryModel) (lax unfinished : Bool) (source : Option (List ℕ)) {s : Sizes} {es : List Event} (told : List Event)

@@ -18,11 +18,13 @@ whole_text unfinished (Ok t) x is found = λ bytes fed.
     subst (λ u. IsTraceCommandText u bytes (trace_sizes_of t.trace.sizes) t.trace.events.items) (sym is) (found.1 bytes fed)
 whole_text unfinished (Err e) x is found = tt
 
-lawful : {E : Type 0} {Q : LabelledTrace → Type 0} (r : Result LabelledTrace E)
-    → IfOk r (λ t. IsLawfulTrace (trace_sizes_of t.trace.sizes) t.trace.events.items × Q t)
+-- and it is a trace
+lawful_whole : {E : Type 0} (r : Result LabelledTrace E) (x : FedText)
+    → IfOk r (λ t. IsLawfulTrace (trace_sizes_of t.trace.sizes) t.trace.events.items
+    × ((bytes : List ℕ) → IsFedTextOf bytes [] [] x → without_trace_labels bytes ≡ trace_text (trace_sizes_of t.trace.sizes) t.trace.events.items))
     → IfOk r (λ t. IsLawfulTrace (trace_sizes_of t.trace.sizes) t.trace.events.items)
-lawful (Ok t) found = found.0
-lawful (Err e) found = tt
+lawful_whole (Ok t) x found = found.0
+lawful_whole (Err e) x found = tt
 
 pub returns-then-unfinished-clause-text : goal.returns-then-unfinished-clause-text
 returns-then-unfinished-clause-text c =
@@ -31,7 +33,7 @@ returns-then-unfinished-clause-text c =
     (sym c.if-unfinished.true) c.finish_unfinished.ensures.found
 
 pub returns-else-unfinished-clause-trace : goal.returns-else-unfinished-clause-trace
-returns-else-unfinished-clause-trace c = lawful c.finish.result c.finish.ensures.found
+returns-else-unfinished-clause-trace c = lawful_whole c.finish.result c.args.reader c.finish.ensures.found
 
 pub returns-else-unfinished-clause-text : goal.returns-else-unfinished-clause-text
 returns-else-unfinished-clause-text c =
