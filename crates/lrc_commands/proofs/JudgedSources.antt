@@ -1,7 +1,7 @@
 -- A trace that was read and judged.
 use Rattle.std.proofs.Common.{◌≡◌, ◌≢◌, ◌∙◌, ℕ, suc, Bool, true, false, List, [], ◌++◌, ◌≤◌, Option, Some, None, Result, Ok, Err, length, take, drop, refl, sym, ap, subst, append_assoc, append-nil, take-append-drop, arith}
 use Rattle.std.proofs.lemmas.List.{take_all}
-use Rattle.std.specs.Prelude.{IfOk, IfSome}
+use Rattle.std.specs.Prelude.{IfErr, IfOk, IfSome}
 use Rattle.std.specs.Io.KnownBytes.{Consumes, IsAtEnd}
 use Rattle.journal.specs.declared.event.Event.{Event}
 use Rattle.journal.specs.Sizes.{Sizes}
@@ -24,6 +24,8 @@ use Rattle.lrc_check.specs.Traces.Labels.{without_trace_labels}
 use Rattle.lrc_check.specs.Traces.LawfulTraces.{IsNoLawfulTrace, IsLawfulTrace}
 use Rattle.lrc_check.specs.Traces.TraceText.{trace_text}
 use Rattle.lrc_commands.specs.declared.checking.Judgement.{Judgement}
+use Rattle.lrc_commands.specs.declared.fault.CommandFault.{CommandFault}
+use Rattle.lrc_commands.specs.ExitStatus.{IsCommandExitStatusOfInput}
 use Rattle.lrc_commands.specs.TraceCommand.{BeginsWithTraceCommandText, HasTraceCommandText, IsTraceCommandFound, IsTraceCommandText, IsTraceCommandJudgedAs, IsTraceCommandOnNone, IsTraceCommandToldAs, IsTraceCommandReadSoFar, trace_command_judgement}
 
 -- nothing was read yet
@@ -216,6 +218,12 @@ pub judged_source_answered_by : {E : Type 0} (r : Rules) (m : MemoryModel) (lax 
 judged_source_answered_by r m lax unfinished source (Ok a) model same judged =
     judged_source_by r m lax unfinished source a a model same refl judged
 judged_source_answered_by r m lax unfinished source (Err e) model same judged = tt
+
+-- writing what was found refuses no trace
+pub judged_source_never_refused : {T : Type 0} (source : Option (List ℕ)) (x : Result T CommandFault)
+    → IfErr x (λ fault. IsCommandExitStatusOfInput fault → ⊥) → IfErr x (λ fault. IsCommandExitStatusOfInput fault → IsTraceCommandOnNone source)
+judged_source_never_refused source (Ok a) never = tt
+judged_source_never_refused source (Err fault) never = λ its. absurd (never its)
 
 -- what was told of the trace that the source had is said of the source
 pub judged_source_told_as : (lies : Bool) (m : MemoryModel) (lax unfinished : Bool) (source : Option (List ℕ)) {s : Sizes} {es : List Event} (told : List Event)
