@@ -13,7 +13,7 @@ pub use cluster::{
 };
 pub use journal::{CutFault, Traffic, first_race_of, traffic_of};
 pub use lrc_options::command_line::options;
-pub use lrc_options::options::{Asked, Commands, Options};
+pub use lrc_options::options::{Asked, Options};
 pub use lrc_report::Report;
 pub use lrc_report::render::render;
 pub use lrc_run::{

@@ -12,7 +12,7 @@ use crate::studies::{
     study_by_check, study_by_explain, study_by_explore, study_by_sample, study_by_tell,
 };
 use lrc_options::command_line::options;
-use lrc_options::options::{Asked, Commands};
+use lrc_options::options::Asked;
 use lrc_program::{answer_program_words, program_words_of, refuse_program_words, run_program_file};
 use lrc_run::OnCluster;
 use std::process::ExitCode;
@@ -21,7 +21,7 @@ use std::thread::Threads;
 
 /// Does what the words ask for.
 fn start_lrc<R: Threads + Wait + Sync>(rt: &HostRuntime, handle: &R, words: &[String]) -> u8 {
-    match options(rt.alloc(), words, Commands::All) {
+    match options(rt.alloc(), words) {
         Ok(Asked::Script(options)) => run_program_file(rt, handle, &OnCluster, &options),
         Ok(Asked::Explain(options)) => study_by_explain(rt, handle, &options),
         Ok(Asked::Tell(options)) => study_by_tell(rt, &options),

@@ -1,3 +1,4 @@
+pub mod AskedScripts
 pub mod MatchedOptions
 pub mod WrittenProcessors
 pub mod FinalWordItems

@@ -7,13 +7,13 @@ ghost use Rattle.lrc_options.specs.OptionRules.{flag_option_rule, lock_option_ru
 ghost use Rattle.lrc_options.specs.OptionRules.{IsCommandByOptionRules, bare_option_rules, check_option_rules, explain_option_rules, explore_option_rules, file_option_rules, outcomes_option_rule};
 ghost use Rattle.lrc_options.specs.OptionRules.{flagged_option_rules, lrc_option_rules, run_option_rules, sample_option_rules, script_option_rules, step_option_rules};
 ghost use Rattle.lrc_options.specs.OptionRules.{judged_option_rules, locksets_option_rule, told_option_rules, tries_option_rule};
+ghost use Rattle.lrc_options.specs.ScriptWords.{script_word_rules};
 
 use crate::help::{
     ABOUT, AFTER, AFTER_RUN_AND_STEP, EVENTS, EXPLAIN, EXPLORE, HTML, JOURNAL, JSON, LAX, LOCKSETS,
     MODEL, MOST, OUTCOMES, PROCESSORS, RACE_IS_ERROR, SAMPLE, SCHEDULE, SCRIPT, SCRIPT_FILE, SEED,
     SEEDS, STATE, STRICT, SVG, TRACE, TRACE_FILE, TRACED, TRIES, UNFINISHED, UNTIL, VERSION,
 };
-use crate::options::Commands;
 use clap::builder::ValueParser;
 use clap::{Arg, ArgAction, Command};
 use std::alloc::{AllocError, Global};
@@ -354,16 +354,6 @@ fn clap_check_command<'a>(
     with_clap_arg(command, clap_flag_arg(alloc, "json", JSON))
 }
 
-/// The command, which help names only if it is shown.
-fn clap_command_shown_if<'a>(
-    shown: bool,
-    command: Result<Command<'a>, AllocError>,
-) -> Result<Command<'a>, AllocError>
-    ensures { (a : App) → IfOk command.entry (IsCommandByOptionRules a) → IfOk result (IsCommandByOptionRules a) }
-{
-    Ok(command?.hide(!shown))
-}
-
 /// `lrc` without its commands, with this text at the end of its help.
 fn clap_bare_command<'a>(alloc: Global, after: &'a str) -> Command<'a>
     ensures { IsCommandByOptionRules bare_option_rules result }
@@ -375,33 +365,36 @@ fn clap_bare_command<'a>(alloc: Global, after: &'a str) -> Command<'a>
         .subcommand_required(true)
 }
 
-/// The command that the words are read by. The words of each command are understood, also of one that the program lacks;
-/// help names those that it has.
+/// The command that the words are read by of a program that has `run` and `step` alone.
+pub(crate) fn clap_scripts_command<'a>(
+    alloc: Global,
+    locks: &'a [&'a str],
+) -> Result<Command<'a>, AllocError>
+    ensures command { IfOk result (IsCommandByOptionRules (script_word_rules (vp.Names locks.entry))) }
+    ensures wants { IfOk result (λ c. (out-Command c).subcommand_required ≡ true) }
+{
+    let lrc = Ok(clap_bare_command(alloc, AFTER_RUN_AND_STEP));
+    let lrc = with_clap_subcommand(lrc, clap_run_command(alloc, locks));
+    with_clap_subcommand(lrc, clap_step_command(alloc, locks))
+}
+
+/// The command that the words are read by.
 pub(crate) fn clap_lrc_command<'a>(
     alloc: Global,
     locks: &'a [&'a str],
     models: &'a [&'a str],
     words: &'a [&'a str],
     details: &'a [&'a str],
-    commands: Commands,
 ) -> Result<Command<'a>, AllocError>
     ensures command { IfOk result (IsCommandByOptionRules (lrc_option_rules (option_parsers (vp.Names locks.entry) (vp.Names models.entry)
         (vp.Names words.entry) (vp.Names details.entry)))) }
     ensures wants { IfOk result (λ c. (out-Command c).subcommand_required ≡ true) }
 {
-    let (shown, after) = match commands {
-        Commands::All => (true, AFTER),
-        Commands::RunAndStep => (false, AFTER_RUN_AND_STEP),
-    };
-    let explain = clap_command_shown_if(shown, clap_explain_command(alloc, locks, models));
-    let sample = clap_command_shown_if(shown, clap_sample_command(alloc, locks));
-    let explore = clap_command_shown_if(shown, clap_explore_command(alloc, details));
-    let check = clap_command_shown_if(shown, clap_check_command(alloc, models, words));
-    let lrc = Ok(clap_bare_command(alloc, after));
+    let lrc = Ok(clap_bare_command(alloc, AFTER));
     let lrc = with_clap_subcommand(lrc, clap_run_command(alloc, locks));
     let lrc = with_clap_subcommand(lrc, clap_step_command(alloc, locks));
-    let lrc = with_clap_subcommand(lrc, explain);
-    let lrc = with_clap_subcommand(lrc, sample);
-    let lrc = with_clap_subcommand(lrc, explore);
-    with_clap_subcommand(lrc, check)
+    let lrc = with_clap_subcommand(lrc, clap_explain_command(alloc, locks, models));
+    let lrc = with_clap_subcommand(lrc, clap_sample_command(alloc, locks));
+    let lrc = with_clap_subcommand(lrc, clap_explore_command(alloc, details));
+    with_clap_subcommand(lrc, clap_check_command(alloc, models, words))
 }

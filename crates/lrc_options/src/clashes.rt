@@ -14,8 +14,12 @@ fn is_given(matches: &ArgMatches<'_>, id: &str) -> bool
     matches.get_str(id).is_some()
 }
 
+/// What is said if a seed and a schedule are given.
+pub(crate) const SEED_AND_SCHEDULE: &str =
+    "the argument '--seed <N>' cannot be used with '--schedule <S>'";
+
 /// Whether a seed and a schedule are given.
-fn seed_clashes_with_schedule(matches: &ArgMatches<'_>) -> bool
+pub(crate) fn seed_clashes_with_schedule(matches: &ArgMatches<'_>) -> bool
     ensures { result ≡ do_seed_and_schedule_clash (rows_of (found_of matches.now)) }
 {
     is_given(matches, "seed") && is_given(matches, "schedule")
@@ -119,7 +123,7 @@ pub(crate) fn option_clash_of(name: &str, matches: &ArgMatches<'_>) -> Option<&'
     ensures { is_some result ≡ do_options_clash_together name.now (rows_of (found_of matches.now)) }
 {
     if seed_clashes_with_schedule(matches) {
-        return Some("the argument '--seed <N>' cannot be used with '--schedule <S>'");
+        return Some(SEED_AND_SCHEDULE);
     }
     if lax_clashes_with_strict(matches) {
         return Some("the argument '--lax' cannot be used with '--strict'");

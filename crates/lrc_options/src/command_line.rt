@@ -18,7 +18,7 @@ use crate::clashes::{is_in_words, is_lazy_release, option_clash_of};
 use crate::final_words::final_words;
 use crate::misuse::{misuse_by_exclusion, misuse_by_unread_value, with_misuse_tip};
 use crate::options::{
-    Asked, Commands, DEFAULT_MOST, DEFAULT_SEEDS, DEFAULT_TRIES, ExplainOptions, ExploreOptions,
+    Asked, DEFAULT_MOST, DEFAULT_SEEDS, DEFAULT_TRIES, ExplainOptions, ExploreOptions,
     MOST_TRACE_PROCESSORS, Options, OutcomeDetail, SampleOptions, ShowOptions, TellOptions,
     TraceLocksets, TraceModel, TraceOptions,
 };
@@ -323,7 +323,7 @@ fn command_line_text(
 }
 
 /// The options that the name of a command on a script, and its matches, give.
-fn command_line_script_options(
+pub(crate) fn command_line_script_options(
     alloc: Global,
     name: &str,
     matches: &ArgMatches<'_>,
@@ -528,14 +528,13 @@ fn command_line_answer(alloc: Global, name: &str, matches: &ArgMatches<'_>) -> R
 /// `lrc explain [FILE] --trace [--model NAME] [--strict] [--lax] [--unfinished]` with the same to say what is shown,
 /// `lrc sample [FILE] [--seeds N] [--lock KIND] [--json]`, `lrc explore [FILE] [--most N] [--until A=V,..] [--outcomes WHAT] [--json]` or
 /// `lrc check [FILE] [--model NAME] [--strict] [--lax] [--unfinished] [--race-is-error] [--locksets WHICH] [--json]`.
-/// Help names the commands that the program has; the words of the others are read all the same.
 ///
 /// # Errors
 ///
 /// clap's, of just the kind that its own function of the command finds in the words: words that give no such command,
 /// a question for help; a conflict, if they give options that exclude each other; a bad value, if they give events, processors
 /// or words that can't be read; or running out of memory.
-pub fn options<'a>(alloc: Global, words: &'a [String], commands: Commands) -> Result<Asked, Error>
+pub fn options<'a>(alloc: Global, words: &'a [String]) -> Result<Asked, Error>
     ensures given { IfOk result (AreOptionsGivenByRules (map (λ w. string_bytes w) words.entry.now)) }
     ensures refused { IfErr result (AreOptionsRefusedByRules (map (λ w. string_bytes w) words.entry.now)) }
 {
@@ -545,7 +544,6 @@ pub fn options<'a>(alloc: Global, words: &'a [String], commands: Commands) -> Re
         MODELS.as_slice(),
         LOCKSET_WORDS.as_slice(),
         DETAILS.as_slice(),
-        commands,
     )?
     .try_get_matches_from(words)
     {

@@ -5,15 +5,6 @@ use crate::ranges::EventRange;
 /// The most processors that a trace may have which is told.
 pub const MOST_TRACE_PROCESSORS: usize = 64;
 
-/// Which commands the program has.
-#[derive(Clone, Copy)]
-pub enum Commands {
-    /// All of them, as `lrc` has.
-    All,
-    /// `run` and `step` alone, as `lrc_quick` has.
-    RunAndStep,
-}
-
 /// What the words ask for.
 #[derive(Drop)]
 pub enum Asked {

@@ -4,8 +4,7 @@
 //! first that is given.
 #![tactic(auto)]
 
-use lrc_options::command_line::options;
-use lrc_options::options::{Asked, Commands};
+use lrc_options::script_words::script_options;
 use lrc_program::{answer_program_words, program_words_of, refuse_program_words, run_program_file};
 use lrc_run::OnCluster;
 use std::process::ExitCode;
@@ -15,6 +14,9 @@ use std::thread::Threads;
 /// The exit status if another command is asked for.
 const NOT_HERE: u8 = 5;
 
+/// The commands of `lrc` that this program lacks.
+const STUDIES: [&str; 4] = ["explain", "sample", "explore", "check"];
+
 /// Says that this program has no such command.
 fn say_not_in_lrc_quick(rt: &HostRuntime) -> u8 {
     let _ = eprintln!(rt;
@@ -23,11 +25,21 @@ fn say_not_in_lrc_quick(rt: &HostRuntime) -> u8 {
     NOT_HERE
 }
 
+/// Whether the words ask for a command that this program lacks.
+fn is_study(words: &[String]) -> bool {
+    match words.get(1) {
+        Some(command) => STUDIES.iter().any(|study| *study == command.as_str()),
+        None => false,
+    }
+}
+
 /// Does what the words ask for.
 fn start_lrc_quick<R: Threads + Wait + Sync>(rt: &HostRuntime, handle: &R, words: &[String]) -> u8 {
-    match options(rt.alloc(), words, Commands::RunAndStep) {
-        Ok(Asked::Script(options)) => run_program_file(rt, handle, &OnCluster, &options),
-        Ok(_) => say_not_in_lrc_quick(rt),
+    if is_study(words) {
+        return say_not_in_lrc_quick(rt);
+    }
+    match script_options(rt.alloc(), words) {
+        Ok(options) => run_program_file(rt, handle, &OnCluster, &options),
         Err(error) => answer_program_words(rt, &error),
     }
 }

@@ -7,10 +7,10 @@ pub returns-clause-command : goal.returns-clause-command
 returns-clause-command c =
     let run = c.with_clap_subcommand-lrc.ensures _ _ c.clap_bare_command.ensures c.clap_run_command.ensures in
     let step = c.with_clap_subcommand-lrc-2.ensures _ _ run c.clap_step_command.ensures in
-    let explain = c.with_clap_subcommand-lrc-3.ensures _ _ step (c.clap_command_shown_if-explain.ensures _ c.clap_explain_command.ensures) in
-    let sample = c.with_clap_subcommand-lrc-4.ensures _ _ explain (c.clap_command_shown_if-sample.ensures _ c.clap_sample_command.ensures) in
-    let explore = c.with_clap_subcommand-lrc-5.ensures _ _ sample (c.clap_command_shown_if-explore.ensures _ c.clap_explore_command.ensures) in
-    c.with_clap_subcommand.ensures _ _ explore (c.clap_command_shown_if-check.ensures _ c.clap_check_command.ensures)
+    let explain = c.with_clap_subcommand-lrc-3.ensures _ _ step c.clap_explain_command.ensures in
+    let sample = c.with_clap_subcommand-lrc-4.ensures _ _ explain c.clap_sample_command.ensures in
+    let explore = c.with_clap_subcommand-lrc-5.ensures _ _ sample c.clap_explore_command.ensures in
+    c.with_clap_subcommand.ensures _ _ explore c.clap_check_command.ensures
 
 pub returns-clause-wants : goal.returns-clause-wants
 returns-clause-wants c =

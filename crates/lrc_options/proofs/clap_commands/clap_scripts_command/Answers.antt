@@ -1,0 +1,14 @@
+use Rattle.std.proofs.Common.{ap}
+use Rattle.clap.specs.Words.{App}
+use Rattle.lrc_options.proofs.MatchedOptions.{matched_option_if_ok_map}
+use Rattle.lrc_options.proofs.clap_commands.clap_scripts_command.Goals as goal
+
+pub returns-clause-command : goal.returns-clause-command
+returns-clause-command c =
+    let run = c.with_clap_subcommand-lrc.ensures _ _ c.clap_bare_command.ensures c.clap_run_command.ensures in
+    c.with_clap_subcommand.ensures _ _ run c.clap_step_command.ensures
+
+pub returns-clause-wants : goal.returns-clause-wants
+returns-clause-wants c =
+    matched_option_if_ok_map c.with_clap_subcommand.result (λ made is. ap (λ (a : App). a.top.subcommand_required) is.shape)
+    (returns-clause-command c)
