@@ -1,0 +1,26 @@
+/* racy: a relaxed load takes nothing over */
+#include "../threads.h"
+
+static _Atomic int ready;
+int word;
+
+static void *one(void *given)
+{
+    word = 1;
+    atomic_store_explicit(&ready, 1, memory_order_release);
+    return given;
+}
+
+static void *other(void *given)
+{
+    while (!atomic_load_explicit(&ready, memory_order_relaxed))
+        sched_yield();
+    word = 2;
+    return given;
+}
+
+int main(void)
+{
+    run(one, other);
+    return 0;
+}

@@ -1,0 +1,28 @@
+/* race-free: a release fence before a relaxed store, and an acquire fence after a relaxed load */
+#include "../threads.h"
+
+static _Atomic int ready;
+int word;
+
+static void *one(void *given)
+{
+    word = 1;
+    atomic_thread_fence(memory_order_release);
+    atomic_store_explicit(&ready, 1, memory_order_relaxed);
+    return given;
+}
+
+static void *other(void *given)
+{
+    while (!atomic_load_explicit(&ready, memory_order_relaxed))
+        sched_yield();
+    atomic_thread_fence(memory_order_acquire);
+    word = 2;
+    return given;
+}
+
+int main(void)
+{
+    run(one, other);
+    return 0;
+}

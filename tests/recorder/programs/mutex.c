@@ -1,0 +1,21 @@
+/* race-free: a counter under its mutex */
+#include "../threads.h"
+
+static pthread_mutex_t mutex = PTHREAD_MUTEX_INITIALIZER;
+int word;
+
+static void *one(void *given)
+{
+    for (int at = 0; at < 100; at++) {
+        pthread_mutex_lock(&mutex);
+        word++;
+        pthread_mutex_unlock(&mutex);
+    }
+    return given;
+}
+
+int main(void)
+{
+    run(one, one);
+    return 0;
+}

@@ -1,0 +1,26 @@
+/* race-free: a semaphore hands a word over */
+#include "../threads.h"
+
+static sem_t semaphore;
+int word;
+
+static void *one(void *given)
+{
+    word = 1;
+    sem_post(&semaphore);
+    return given;
+}
+
+static void *other(void *given)
+{
+    sem_wait(&semaphore);
+    word = 2;
+    return given;
+}
+
+int main(void)
+{
+    sem_init(&semaphore, 0, 0);
+    run(one, other);
+    return 0;
+}
