@@ -25,11 +25,11 @@ most_flags = 32
 abbrev pub most_in_block : ℕ
 most_in_block = 256
 
--- events of a journal, except what `finish` hands in
+-- events of a journal, except what the cluster's end hands in
 abbrev pub most_events : ℕ
 most_events = 2 ^ 20
 
--- events that a journal can hold: those, what `finish` hands in, and room to spare
+-- events that a journal can hold: those, what the cluster's end hands in, and room to spare
 abbrev pub most_held : ℕ
 most_held = 2 ^ 21
 

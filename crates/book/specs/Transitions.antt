@@ -1,6 +1,6 @@
 -- The transitions of the book, as functions of its value.
--- Names: a value after something is a past participle behind `transition_`; what a transition makes of one part has that
--- part's name before the participle (`transition_mail_passed`). A message is its kind and `_to`, of the closed intervals,
+-- Names: a value after something is a past participle after transition_; what a transition makes of one part has that
+-- part's name before the participle (`transition_mail_passed`). A message is its kind and _to, of the closed intervals,
 -- the message's time and the receiver's timestamp.
 use Rattle.std.specs.Prelude.{ℕ, zero, suc, ◌≡◌, ◌-◌, ◌*◌, min, Bool, true, false, cond, Option, Some, None, List, [], ◌∷◌, ◌++◌, map, length, slice_get, slice_index, slice_index_or, slice_set, replicate, fold}
 use Rattle.base.specs.Limits.{most_in_block}

@@ -4,7 +4,7 @@
 //! processor waits for, and the messages on their way (Keleher, Cox and Zwaenepoel, Lazy Release Consistency for
 //! Software Distributed Shared Memory, ISCA 1992, sections 3 and 4).
 //!
-//! **What contracts see**: a [`Book`] as its parts' own values in one record, `State`. Each call's new value is a
+//! **What contracts see**: a [`Book`] as its parts' own values in one record, `BookState`. Each call's new value is a
 //! function of the old one (specs/Transitions). A call may be made if some history that the book represents allows it
 //! (specs/AllowedCalls, specs/RepresentedHistory).
 //!

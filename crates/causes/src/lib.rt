@@ -13,19 +13,19 @@
 //! holds a lock. A history is a `judge::History`; it need not be one that a cluster can make. What copies have and lack is told of
 //! one with at most 16 processors (`origins`, `dues`, `event_states`, `written_words`, `explain`), all else of any.
 //!
-//! **What is proved.** `loads` names for each load a latest store of its past whose value it answers; or that its past
+//! **What is proved.** `sources_of_loads` names for each load a latest store of its past whose value it answers; or that its past
 //! has no store and it answers 0; or that it may not answer what it does. `race` is the first race, with the last event
 //! of the first access's processor that happens before the second access. `edges` has, of one event, exactly the events of
-//! other processors with an edge to it; `incoming` has, of each event, exactly those of them that its processor had not
+//! other processors with an edge to it; `incoming_news` has, of each event, exactly those of them that its processor had not
 //! heard of, `hand_overs` the last of these. `origins` has, of each load, the store from which its copy's word comes, and by
 //! which event. `way` has, of two events, a way along edges from the one to the other, exactly where the one is the other or
 //! happens before it; `Ways` finds many. `dues` has, of each event that takes, exactly the records that its processor's
 //! copies lack after it and did not lack before, and of each fetch those that its copy of the page lacked, by page and
-//! writer. `states` has, of each event that is asked for, its processor's timestamp after it, the interval that it lies in, that
+//! writer. `event_states` has, of each event that is asked for, its processor's timestamp after it, the interval that it lies in, that
 //! one's records if it closes it, exactly the write notices that it brings, and exactly the pages of which its processor's copy
-//! is stale after it, and dirty. `waits` has, of each processor, what it waits for at the end: a lock, who holds it and whose asks of it are
-//! earlier; a flag, and whether it is set; or exactly the processors that have not arrived. `explain` has what `loads`,
-//! `race`, `incoming` and `waits` tell.
+//! is stale after it, and dirty. `final_waits` has, of each processor, what it waits for at the end: a lock, who holds it and whose asks of it are
+//! earlier; a flag, and whether it is set; or exactly the processors that have not arrived. `explain` has what
+//! `sources_of_loads`, `race`, `incoming_news` and `final_waits` tell.
 //!
 //! **What is only tested** (crate `test_explanations`): that memory isn't refused needlessly, and that each refusal is answered.
 #![tactic(auto)]

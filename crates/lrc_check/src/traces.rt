@@ -4,7 +4,7 @@
 //! them: `event 8 1 fetch 0 1 1 1`, numbered from 0, each with its line feed, and nothing else. What stands on a line
 //! behind two spaces in a row is its label (module `labels`).
 //!
-//! **What contracts see.** A `Trace` as it is; its sizes as the journal's (`sizes_of`). `IsLawfulTrace` says which sizes
+//! **What contracts see.** A `Trace` as it is; its sizes as the journal's. `IsLawfulTrace` says which sizes
 //! and events a trace may have, `trace_text` what its bytes are, `bare` what a text is without its labels. `IsTraceFault` says
 //! what a fault says of such bytes. Of a `Reader`, `IsFedTextOf` says which bytes it was fed, and which events and labels it
 //! let go of; `HasReadFedText` says of which bytes it has the first lines' events, also where a line behind them was refused.

@@ -4,8 +4,8 @@
 //! These are the commands that study a script or a trace. They stand apart from `lrc_program`, which has `run` and `step`,
 //! so that a program with these two alone stands on fewer crates.
 //!
-//! **What contracts see.** A reader by the bytes that it has left (`remaining`), a writer by those that it was given
-//! (`contents`). Scripts are run by whatever has the contract `Runs`.
+//! **What contracts see.** A reader by the bytes that it has left, a writer by those that it was given
+//! (`contents`). Scripts are run by whatever has the contract `ScriptRunner`.
 //!
 //! **What is proved.** `run_check_command` judges a trace: it answers 0 only if the source had the text of a faithful one,
 //! 6 only if it had one that isn't faithful, 2 only if it had none; `run_tell_command` answers so of a trace that it tells.

@@ -1,6 +1,6 @@
 //! What a script may come to: it is run by turns of many schedules, and each kind of result is told once.
 //!
-//! **What contracts see.** The `SampleOutcomeAnswers` of a run as plain lists (`Answered`), everything else as it is.
+//! **What contracts see.** The `SampleOutcomeAnswers` of a run as plain lists (`SampleAnswers`), everything else as it is.
 //!
 //! **What is proved.** `sample` tells of the script's runs on the lock that is asked for (`IsSampleOfRuns`): `step_by` made the
 //! first, of no turns, and `step_drawn` then one by each seed in order (`CameBySampleRunSeed`). Each outcome that these runs came to has

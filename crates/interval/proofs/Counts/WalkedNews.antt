@@ -107,7 +107,7 @@ walked_news_within {held} {queue} {k} from to i same after before is =
 abbrev pub walked_news_pages : List ℕ → List ℕ → IntervalQueue → List ℕ
 walked_news_pages old new queue = counted_pages_of (filter (is_news_of_kept_closings old new) queue.kept)
 
--- `placed` adds an interval whose closing number is new
+-- `interval_queue_placed` adds an interval whose closing number is new
 sum_by-placed_walked_news : (w : KeptInterval → ℕ) (k : KeptInterval) (xs : List KeptInterval) → ((j : KeptInterval) → Has xs j → k.place ≢ j.place)
     → sum_by w (interval_queue_placed k xs) ≡ w k + sum_by w xs
 sum_by-placed_walked_news w k [] apart = sum_by-cons w k []
