@@ -125,6 +125,13 @@ void release_value(uintptr_t address, uintptr_t place)
     leave_object(address);
 }
 
+/* An atomic access: another thread may go on before it. */
+static void comes_to(struct thread *thread, uintptr_t address, size_t size, uintptr_t place)
+{
+    turn_passes(thread, false);
+    access_atomically(thread, address, size, place);
+}
+
 /* Whether a store of this order, by this thread, has to be known of. */
 static bool matters(struct thread *thread, uintptr_t address, int order)
 {
@@ -147,7 +154,7 @@ __extension__ typedef unsigned __int128 number128;
         struct thread *thread = recorded(); \
         uintptr_t address = (uintptr_t)from; \
         if (thread) \
-            access_atomically(thread, address, sizeof *from, HERE); \
+            comes_to(thread, address, sizeof *from, HERE); \
         number##bits value = real_load##bits(from); \
         struct object *object = thread && is_synchronizing(address) ? take_object(address) : NULL; \
         if (!object) \
@@ -164,7 +171,7 @@ __extension__ typedef unsigned __int128 number128;
         struct thread *thread = recorded(); \
         uintptr_t address = (uintptr_t)to; \
         if (thread) \
-            access_atomically(thread, address, sizeof *to, HERE); \
+            comes_to(thread, address, sizeof *to, HERE); \
         struct object *object = thread && matters(thread, address, order) ? take_object(address) : NULL; \
         if (object) \
             stores(thread, object, order, HERE); \
@@ -178,7 +185,7 @@ __extension__ typedef unsigned __int128 number128;
     struct thread *thread = recorded(); \
     uintptr_t address = (uintptr_t)to; \
     if (thread) \
-        access_atomically(thread, address, sizeof *to, HERE); \
+        comes_to(thread, address, sizeof *to, HERE); \
     struct object *object = thread && matters(thread, address, order) ? take_object(address) : NULL; \
     number##bits was = call; \
     if (object) { \
@@ -207,7 +214,7 @@ __extension__ typedef unsigned __int128 number128;
         struct thread *thread = recorded(); \
         uintptr_t address = (uintptr_t)to; \
         if (thread) \
-            access_atomically(thread, address, sizeof *to, place); \
+            comes_to(thread, address, sizeof *to, place); \
         bool is_known = thread && (matters(thread, address, order) || matters(thread, address, otherwise)); \
         struct object *object = is_known ? take_object(address) : NULL; \
         number##bits was = real_compare##bits(to, *expected, value); \

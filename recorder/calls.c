@@ -4,13 +4,19 @@
 
 #include <dlfcn.h>
 #include <malloc.h>
+#include <poll.h>
+#include <sched.h>
 #include <stdio.h>
 #include <stdlib.h>
 #include <string.h>
+#include <sys/epoll.h>
 #include <sys/mman.h>
+#include <sys/select.h>
 #include <sys/socket.h>
+#include <sys/stat.h>
 #include <sys/syscall.h>
 #include <sys/types.h>
+#include <time.h>
 #include <unistd.h>
 
 /* Not by the C library's function, which is the recorder's here. */
@@ -159,6 +165,26 @@ PUBLIC int strncmp(const char *one, const char *other, size_t most)
     return NEXT(strncmp)(one, other, most);
 }
 
+/* With a seed: reading may wait for somebody outside, unless it is a file that is read. */
+static bool may_wait(int file)
+{
+    struct stat about;
+
+    return is_scheduled && known() && (fstat(file, &about) || !S_ISREG(about.st_mode));
+}
+
+/* A call that may wait for somebody outside. */
+#define OUTSIDE(type, is_meant, call) \
+    __extension__({ \
+        struct thread *away = is_scheduled && (is_meant) ? known() : NULL; \
+        if (away) \
+            goes_away(away); \
+        type result = call; \
+        if (away) \
+            comes_back(away); \
+        result; \
+    })
+
 static inline ssize_t came(ssize_t count, void *to, uintptr_t place)
 {
     if (count > 0)
@@ -168,7 +194,7 @@ static inline ssize_t came(ssize_t count, void *to, uintptr_t place)
 
 PUBLIC ssize_t read(int file, void *to, size_t size)
 {
-    return came(NEXT(read)(file, to, size), to, HERE);
+    return came(OUTSIDE(ssize_t, may_wait(file), NEXT(read)(file, to, size)), to, HERE);
 }
 
 PUBLIC ssize_t pread(int file, void *to, size_t size, off_t offset)
@@ -178,7 +204,7 @@ PUBLIC ssize_t pread(int file, void *to, size_t size, off_t offset)
 
 PUBLIC ssize_t recv(int file, void *to, size_t size, int how)
 {
-    return came(NEXT(recv)(file, to, size, how), to, HERE);
+    return came(OUTSIDE(ssize_t, true, NEXT(recv)(file, to, size, how)), to, HERE);
 }
 
 PUBLIC size_t fread(void *to, size_t size, size_t count, FILE *file)
@@ -211,6 +237,71 @@ PUBLIC size_t fwrite(const void *from, size_t size, size_t count, FILE *file)
 {
     loads(from, size * count, HERE);
     return NEXT(fwrite)(from, size, count, file);
+}
+
+PUBLIC int accept(int file, struct sockaddr *address, socklen_t *size)
+{
+    return OUTSIDE(int, true, NEXT(accept)(file, address, size));
+}
+
+PUBLIC int accept4(int file, struct sockaddr *address, socklen_t *size, int how)
+{
+    return OUTSIDE(int, true, NEXT(accept4)(file, address, size, how));
+}
+
+PUBLIC int poll(struct pollfd *files, nfds_t count, int time)
+{
+    return OUTSIDE(int, time != 0, NEXT(poll)(files, count, time));
+}
+
+PUBLIC int epoll_wait(int file, struct epoll_event *events, int most, int time)
+{
+    return OUTSIDE(int, time != 0, NEXT(epoll_wait)(file, events, most, time));
+}
+
+PUBLIC int select(int count, fd_set *in, fd_set *out, fd_set *except, struct timeval *time)
+{
+    return OUTSIDE(int, true, NEXT(select)(count, in, out, except, time));
+}
+
+PUBLIC int pause(void)
+{
+    return OUTSIDE(int, true, NEXT(pause)());
+}
+
+/* With a seed time does not pass: who sleeps lets another one go on. */
+static bool slept(void)
+{
+    struct thread *thread = is_scheduled ? known() : NULL;
+
+    if (thread)
+        turn_passes(thread, true);
+    return thread != NULL;
+}
+
+PUBLIC int usleep(useconds_t time)
+{
+    return slept() ? 0 : NEXT(usleep)(time);
+}
+
+PUBLIC unsigned sleep(unsigned time)
+{
+    return slept() ? 0 : NEXT(sleep)(time);
+}
+
+PUBLIC int nanosleep(const struct timespec *time, struct timespec *left)
+{
+    return slept() ? 0 : NEXT(nanosleep)(time, left);
+}
+
+PUBLIC int clock_nanosleep(clockid_t clock, int how, const struct timespec *time, struct timespec *left)
+{
+    return slept() ? 0 : NEXT(clock_nanosleep)(clock, how, time, left);
+}
+
+PUBLIC int sched_yield(void)
+{
+    return slept() ? 0 : NEXT(sched_yield)();
 }
 
 static void frees(void *block, uintptr_t place)

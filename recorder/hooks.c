@@ -5,8 +5,11 @@ static inline void accesses(uintptr_t address, size_t size, bool is_store, uintp
 {
     struct thread *thread = recorded();
 
-    if (__builtin_expect(thread && !thread->ignored, 1))
-        access_bytes(thread, address, size, is_store, place);
+    if (__builtin_expect(!thread || thread->ignored, 0))
+        return;
+    if (__builtin_expect(is_scheduled, 0) && !--thread->turn.left)
+        turn_passes(thread, false);
+    access_bytes(thread, address, size, is_store, place);
 }
 
 /* A load and a store of these bytes, with or without the place in the program. */

@@ -101,16 +101,68 @@ static int took(struct thread *thread, const void *lock, int fault, uintptr_t pl
     return fault;
 }
 
+/* How a lock is taken if it is free: 0, EBUSY if somebody has it, or another fault. */
+typedef int attempt(void *lock);
+
+static int try_mutex(void *lock)
+{
+    return NEXT(pthread_mutex_trylock)(lock);
+}
+
+static int try_spin_lock(void *lock)
+{
+    return NEXT(pthread_spin_trylock)(lock);
+}
+
+static int try_read(void *lock)
+{
+    return NEXT(pthread_rwlock_tryrdlock)(lock);
+}
+
+static int try_write(void *lock)
+{
+    return NEXT(pthread_rwlock_trywrlock)(lock);
+}
+
+static int try_semaphore(void *semaphore)
+{
+    return !NEXT(sem_trywait)(semaphore) ? 0 : errno == EAGAIN ? EBUSY : errno;
+}
+
+/* With a seed: tries at each turn, up to the end of its time if that counts. */
+static int take_by_turns(struct thread *thread, void *lock, attempt *attempt, bool is_timed, bool is_at_lock, uintptr_t place)
+{
+    int fault;
+
+    while ((fault = attempt(lock)) == EBUSY)
+        if (!wait_turn(thread, lock, is_timed, is_at_lock, place))
+            return ETIMEDOUT;
+    return fault;
+}
+
+/* With a seed: the lock is free, and another thread may go on. */
+static int freed(int fault, const void *lock)
+{
+    struct thread *thread = is_scheduled ? recorded() : NULL;
+
+    if (thread) {
+        wake(lock, true);
+        turn_passes(thread, false);
+    }
+    return fault;
+}
+
 static int lock_mutex(pthread_mutex_t *mutex, uintptr_t place)
 {
     struct thread *thread = recorded();
 
     if (!thread || held_by(thread, mutex))
         return took(thread, mutex, NEXT(pthread_mutex_lock)(mutex), place);
-    int fault = NEXT(pthread_mutex_trylock)(mutex);
+    turn_passes(thread, false);
+    int fault = try_mutex(mutex);
     if (fault == EBUSY) {
         asked(thread, mutex, place);
-        fault = NEXT(pthread_mutex_lock)(mutex);
+        fault = is_scheduled ? take_by_turns(thread, mutex, try_mutex, false, true, place) : NEXT(pthread_mutex_lock)(mutex);
     }
     return took(thread, mutex, fault, place);
 }
@@ -121,8 +173,20 @@ static int unlock_mutex(pthread_mutex_t *mutex, uintptr_t place)
 
     if (thread)
         releases(thread, mutex, place);
-    return NEXT(pthread_mutex_unlock)(mutex);
+    return freed(NEXT(pthread_mutex_unlock)(mutex), mutex);
 }
+
+/* A lock with a time, which with a seed is over once nobody else can go on. */
+#define UNTIL(lock, attempt, call, took) \
+    struct thread *thread = recorded(); \
+    if (!thread || !is_scheduled || held_by(thread, lock)) \
+        return took(call); \
+    turn_passes(thread, false); \
+    return took(take_by_turns(thread, lock, attempt, true, false, HERE))
+
+#define TOOK_MUTEX(fault) took(recorded(), mutex, fault, HERE)
+#define TOOK_READ(fault) took_shared(lock, fault, false, HERE)
+#define TOOK_WRITE(fault) took_shared(lock, fault, true, HERE)
 
 PUBLIC int pthread_mutex_lock(pthread_mutex_t *mutex)
 {
@@ -136,12 +200,12 @@ PUBLIC int pthread_mutex_trylock(pthread_mutex_t *mutex)
 
 PUBLIC int pthread_mutex_timedlock(pthread_mutex_t *mutex, const struct timespec *until)
 {
-    return took(recorded(), mutex, NEXT(pthread_mutex_timedlock)(mutex, until), HERE);
+    UNTIL(mutex, try_mutex, NEXT(pthread_mutex_timedlock)(mutex, until), TOOK_MUTEX);
 }
 
 PUBLIC int pthread_mutex_clocklock(pthread_mutex_t *mutex, clockid_t clock, const struct timespec *until)
 {
-    return took(recorded(), mutex, NEXT(pthread_mutex_clocklock)(mutex, clock, until), HERE);
+    UNTIL(mutex, try_mutex, NEXT(pthread_mutex_clocklock)(mutex, clock, until), TOOK_MUTEX);
 }
 
 PUBLIC int pthread_mutex_unlock(pthread_mutex_t *mutex)
@@ -157,7 +221,17 @@ PUBLIC int pthread_mutex_destroy(pthread_mutex_t *mutex)
 
 PUBLIC int pthread_spin_lock(pthread_spinlock_t *lock)
 {
-    return took(recorded(), (const void *)lock, NEXT(pthread_spin_lock)(lock), HERE);
+    struct thread *thread = recorded();
+
+    if (!thread || !is_scheduled)
+        return took(thread, (const void *)lock, NEXT(pthread_spin_lock)(lock), HERE);
+    turn_passes(thread, false);
+    int fault = try_spin_lock((void *)lock);
+    if (fault == EBUSY) {
+        asked(thread, (const void *)lock, HERE);
+        fault = take_by_turns(thread, (void *)lock, try_spin_lock, false, true, HERE);
+    }
+    return took(thread, (const void *)lock, fault, HERE);
 }
 
 PUBLIC int pthread_spin_trylock(pthread_spinlock_t *lock)
@@ -171,7 +245,7 @@ PUBLIC int pthread_spin_unlock(pthread_spinlock_t *lock)
 
     if (thread)
         releases(thread, (const void *)lock, HERE);
-    return NEXT(pthread_spin_unlock)(lock);
+    return freed(NEXT(pthread_spin_unlock)(lock), (const void *)lock);
 }
 
 PUBLIC int pthread_spin_destroy(pthread_spinlock_t *lock)
@@ -213,8 +287,28 @@ static void wait_ends(void *given)
         held->depth = wait->depth;
 }
 
-#define WAIT(mutex, place, call) \
+/* With a seed: the wait is over when somebody signals, or its time is once nobody else can go on. */
+static int wait_by_turns(const void *condition, pthread_mutex_t *mutex, bool is_timed, uintptr_t place)
+{
+    struct thread *thread = self;
+
+    NEXT(pthread_mutex_unlock)(mutex);
+    wake(mutex, true);
+    bool is_signalled = wait_turn(thread, condition, is_timed, false, place);
+    take_by_turns(thread, mutex, try_mutex, false, false, place);
+    return is_signalled ? 0 : ETIMEDOUT;
+}
+
+#define WAIT(mutex, place, is_timed, call) \
+    if (is_scheduled) \
+        pthread_testcancel(); \
     struct wait wait = wait_begins(mutex, place); \
+    if (is_scheduled && wait.thread) { \
+        int result = wait_by_turns(condition, mutex, is_timed, place); \
+        wait_ends(&wait); \
+        pthread_testcancel(); \
+        return result; \
+    } \
     int fault; \
     pthread_cleanup_push(wait_ends, &wait); \
     fault = call; \
@@ -223,18 +317,31 @@ static void wait_ends(void *given)
 
 PUBLIC int pthread_cond_wait(pthread_cond_t *condition, pthread_mutex_t *mutex)
 {
-    WAIT(mutex, HERE, NEXT(pthread_cond_wait)(condition, mutex));
+    WAIT(mutex, HERE, false, NEXT(pthread_cond_wait)(condition, mutex));
 }
 
 PUBLIC int pthread_cond_timedwait(pthread_cond_t *condition, pthread_mutex_t *mutex, const struct timespec *until)
 {
-    WAIT(mutex, HERE, NEXT(pthread_cond_timedwait)(condition, mutex, until));
+    WAIT(mutex, HERE, true, NEXT(pthread_cond_timedwait)(condition, mutex, until));
 }
 
 PUBLIC int pthread_cond_clockwait(
     pthread_cond_t *condition, pthread_mutex_t *mutex, clockid_t clock, const struct timespec *until)
 {
-    WAIT(mutex, HERE, NEXT(pthread_cond_clockwait)(condition, mutex, clock, until));
+    WAIT(mutex, HERE, true, NEXT(pthread_cond_clockwait)(condition, mutex, clock, until));
+}
+
+/* With a seed it is drawn who of those that wait goes on. */
+PUBLIC int pthread_cond_signal(pthread_cond_t *condition)
+{
+    wake(condition, false);
+    return NEXT(pthread_cond_signal)(condition);
+}
+
+PUBLIC int pthread_cond_broadcast(pthread_cond_t *condition)
+{
+    wake(condition, true);
+    return NEXT(pthread_cond_broadcast)(condition);
 }
 
 /* Who frees a read-write lock sets its writers' or its readers' flag. A reader awaits the writers', a writer both. */
@@ -254,9 +361,16 @@ static int took_shared(const void *lock, int fault, bool is_writer, uintptr_t pl
     return 0;
 }
 
+#define SHARED(lock, attempt, is_timed, call, took) \
+    struct thread *thread = is_scheduled ? recorded() : NULL; \
+    if (!thread) \
+        return took(call); \
+    turn_passes(thread, false); \
+    return took(take_by_turns(thread, lock, attempt, is_timed, false, HERE))
+
 PUBLIC int pthread_rwlock_rdlock(pthread_rwlock_t *lock)
 {
-    return took_shared(lock, NEXT(pthread_rwlock_rdlock)(lock), false, HERE);
+    SHARED(lock, try_read, false, NEXT(pthread_rwlock_rdlock)(lock), TOOK_READ);
 }
 
 PUBLIC int pthread_rwlock_tryrdlock(pthread_rwlock_t *lock)
@@ -266,17 +380,17 @@ PUBLIC int pthread_rwlock_tryrdlock(pthread_rwlock_t *lock)
 
 PUBLIC int pthread_rwlock_timedrdlock(pthread_rwlock_t *lock, const struct timespec *until)
 {
-    return took_shared(lock, NEXT(pthread_rwlock_timedrdlock)(lock, until), false, HERE);
+    SHARED(lock, try_read, true, NEXT(pthread_rwlock_timedrdlock)(lock, until), TOOK_READ);
 }
 
 PUBLIC int pthread_rwlock_clockrdlock(pthread_rwlock_t *lock, clockid_t clock, const struct timespec *until)
 {
-    return took_shared(lock, NEXT(pthread_rwlock_clockrdlock)(lock, clock, until), false, HERE);
+    SHARED(lock, try_read, true, NEXT(pthread_rwlock_clockrdlock)(lock, clock, until), TOOK_READ);
 }
 
 PUBLIC int pthread_rwlock_wrlock(pthread_rwlock_t *lock)
 {
-    return took_shared(lock, NEXT(pthread_rwlock_wrlock)(lock), true, HERE);
+    SHARED(lock, try_write, false, NEXT(pthread_rwlock_wrlock)(lock), TOOK_WRITE);
 }
 
 PUBLIC int pthread_rwlock_trywrlock(pthread_rwlock_t *lock)
@@ -286,12 +400,12 @@ PUBLIC int pthread_rwlock_trywrlock(pthread_rwlock_t *lock)
 
 PUBLIC int pthread_rwlock_timedwrlock(pthread_rwlock_t *lock, const struct timespec *until)
 {
-    return took_shared(lock, NEXT(pthread_rwlock_timedwrlock)(lock, until), true, HERE);
+    SHARED(lock, try_write, true, NEXT(pthread_rwlock_timedwrlock)(lock, until), TOOK_WRITE);
 }
 
 PUBLIC int pthread_rwlock_clockwrlock(pthread_rwlock_t *lock, clockid_t clock, const struct timespec *until)
 {
-    return took_shared(lock, NEXT(pthread_rwlock_clockwrlock)(lock, clock, until), true, HERE);
+    SHARED(lock, try_write, true, NEXT(pthread_rwlock_clockwrlock)(lock, clock, until), TOOK_WRITE);
 }
 
 PUBLIC int pthread_rwlock_unlock(pthread_rwlock_t *lock)
@@ -307,7 +421,7 @@ PUBLIC int pthread_rwlock_unlock(pthread_rwlock_t *lock)
             let_go(thread, held);
         trace_leave(thread);
     }
-    return NEXT(pthread_rwlock_unlock)(lock);
+    return freed(NEXT(pthread_rwlock_unlock)(lock), lock);
 }
 
 PUBLIC int pthread_rwlock_destroy(pthread_rwlock_t *lock)
@@ -326,6 +440,17 @@ PUBLIC int pthread_barrier_init(pthread_barrier_t *barrier, const pthread_barrie
     return NEXT(pthread_barrier_init)(barrier, attributes, count);
 }
 
+/* With a seed: the last one that comes wakes the others. */
+static int meet_by_turns(struct thread *thread, pthread_barrier_t *barrier, struct object *object, uintptr_t place)
+{
+    if (object->arrivals % object->count) {
+        wait_turn(thread, barrier, false, false, place);
+        return 0;
+    }
+    wake(barrier, true);
+    return PTHREAD_BARRIER_SERIAL_THREAD;
+}
+
 PUBLIC int pthread_barrier_wait(pthread_barrier_t *barrier)
 {
     struct thread *thread = recorded();
@@ -338,7 +463,7 @@ PUBLIC int pthread_barrier_wait(pthread_barrier_t *barrier)
         set_flag(thread, flag, HERE);
         trace_leave(thread);
     }
-    int result = NEXT(pthread_barrier_wait)(barrier);
+    int result = is_scheduled && flag ? meet_by_turns(thread, barrier, object, HERE) : NEXT(pthread_barrier_wait)(barrier);
     if (flag)
         take_over(flag, HERE);
     return result;
@@ -357,7 +482,7 @@ PUBLIC int sem_post(sem_t *semaphore)
 
     if (object)
         hand_on(&object->flags[0], HERE);
-    return NEXT(sem_post)(semaphore);
+    return freed(NEXT(sem_post)(semaphore), semaphore);
 }
 
 static int took_semaphore(sem_t *semaphore, int fault, uintptr_t place)
@@ -369,9 +494,24 @@ static int took_semaphore(sem_t *semaphore, int fault, uintptr_t place)
     return fault;
 }
 
+static int as_error(int fault)
+{
+    if (fault)
+        errno = fault;
+    return fault ? -1 : 0;
+}
+
+#define TOOK_SEMAPHORE(fault) took_semaphore(semaphore, fault, HERE)
+#define TAKE_SEMAPHORE(is_timed, call) \
+    struct thread *thread = is_scheduled ? recorded() : NULL; \
+    if (!thread) \
+        return TOOK_SEMAPHORE(call); \
+    turn_passes(thread, false); \
+    return TOOK_SEMAPHORE(as_error(take_by_turns(thread, semaphore, try_semaphore, is_timed, false, HERE)))
+
 PUBLIC int sem_wait(sem_t *semaphore)
 {
-    return took_semaphore(semaphore, NEXT(sem_wait)(semaphore), HERE);
+    TAKE_SEMAPHORE(false, NEXT(sem_wait)(semaphore));
 }
 
 PUBLIC int sem_trywait(sem_t *semaphore)
@@ -381,12 +521,12 @@ PUBLIC int sem_trywait(sem_t *semaphore)
 
 PUBLIC int sem_timedwait(sem_t *semaphore, const struct timespec *until)
 {
-    return took_semaphore(semaphore, NEXT(sem_timedwait)(semaphore, until), HERE);
+    TAKE_SEMAPHORE(true, NEXT(sem_timedwait)(semaphore, until));
 }
 
 PUBLIC int sem_clockwait(sem_t *semaphore, clockid_t clock, const struct timespec *until)
 {
-    return took_semaphore(semaphore, NEXT(sem_clockwait)(semaphore, clock, until), HERE);
+    TAKE_SEMAPHORE(true, NEXT(sem_clockwait)(semaphore, clock, until));
 }
 
 PUBLIC int sem_destroy(sem_t *semaphore)
@@ -411,16 +551,31 @@ static void does_errand(void)
     hand_on(&mine.object->flags[0], 0);
 }
 
+/* With a seed: it is begun by one thread, and the others wait for that. */
+enum { IS_BEGUN = 1, IS_DONE = 2 };
+
+static void do_once_by_turns(struct thread *thread, pthread_once_t *once, struct object *object, uintptr_t place)
+{
+    while (object->count == IS_BEGUN)
+        wait_turn(thread, once, false, false, place);
+    object->count = object->count == IS_DONE ? IS_DONE : IS_BEGUN;
+}
+
 static int do_once(pthread_once_t *once, void (*routine)(void), uintptr_t place)
 {
-    struct object *object = recorded() ? object_at((uintptr_t)once) : NULL;
+    struct thread *thread = recorded();
+    struct object *object = thread ? object_at((uintptr_t)once) : NULL;
 
     if (!object)
         return NEXT(pthread_once)(once, routine);
+    if (is_scheduled)
+        do_once_by_turns(thread, once, object, place);
     struct errand outer = errand;
     errand = (struct errand){routine, object};
     int fault = NEXT(pthread_once)(once, does_errand);
     errand = outer;
+    object->count = IS_DONE;
+    wake(once, true);
     take_over(&object->flags[0], place);
     return fault;
 }
@@ -448,7 +603,7 @@ PUBLIC int mtx_trylock(mtx_t *mutex)
 
 PUBLIC int mtx_timedlock(mtx_t *mutex, const struct timespec *until)
 {
-    return as_thrd(took(recorded(), mutex, NEXT(pthread_mutex_timedlock)((pthread_mutex_t *)mutex, until), HERE));
+    return as_thrd(pthread_mutex_timedlock((pthread_mutex_t *)mutex, until));
 }
 
 PUBLIC int mtx_unlock(mtx_t *mutex)
@@ -464,12 +619,22 @@ PUBLIC void mtx_destroy(mtx_t *mutex)
 
 static int wait_for(pthread_cond_t *condition, pthread_mutex_t *mutex, uintptr_t place)
 {
-    WAIT(mutex, place, NEXT(pthread_cond_wait)(condition, mutex));
+    WAIT(mutex, place, false, NEXT(pthread_cond_wait)(condition, mutex));
 }
 
 static int wait_until(pthread_cond_t *condition, pthread_mutex_t *mutex, const struct timespec *until, uintptr_t place)
 {
-    WAIT(mutex, place, NEXT(pthread_cond_timedwait)(condition, mutex, until));
+    WAIT(mutex, place, true, NEXT(pthread_cond_timedwait)(condition, mutex, until));
+}
+
+PUBLIC int cnd_signal(cnd_t *condition)
+{
+    return as_thrd(pthread_cond_signal((pthread_cond_t *)condition));
+}
+
+PUBLIC int cnd_broadcast(cnd_t *condition)
+{
+    return as_thrd(pthread_cond_broadcast((pthread_cond_t *)condition));
 }
 
 PUBLIC int cnd_wait(cnd_t *condition, mtx_t *mutex)

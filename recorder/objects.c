@@ -169,6 +169,11 @@ uint32_t lock_of(struct object *object)
     return object->lock;
 }
 
+static uint32_t flag_number(void)
+{
+    return one_more(&next_flag, MOST_FLAGS, "more flags than a trace may have: the last one orders more than the program did");
+}
+
 bool has_heard(const struct flag *flag, const struct thread *thread)
 {
     return flag->heard.members[thread->processor / 64] >> thread->processor % 64 & 1;
@@ -182,7 +187,7 @@ static void hears(struct flag *flag, const struct thread *thread)
 void set_flag(struct thread *thread, struct flag *flag, uintptr_t place)
 {
     if (flag->number == NONE)
-        flag->number = one_more(&next_flag, MOST_FLAGS, "more flags than a trace may have: the last one orders more than the program did");
+        flag->number = flag_number();
     /* Who sets it has heard of all that did so if it had before. */
     bool knows = !flag->is_set || has_heard(flag, thread);
     clear(&flag->heard, sizeof flag->heard);
@@ -198,6 +203,12 @@ void await_flag(struct thread *thread, struct flag *flag, uintptr_t place)
         return;
     hears(flag, thread);
     trace_line(thread, "await", flag->number, place);
+}
+
+void await_never(struct thread *thread, struct flag *flag, uintptr_t place)
+{
+    if (flag)
+        trace_line(thread, "watch", flag->number = flag_number(), place);
 }
 
 void hand_on(struct flag *flag, uintptr_t place)

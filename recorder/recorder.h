@@ -73,6 +73,7 @@ struct start {
     void *argument;
     struct flag begun, ended;
     _Atomic uintptr_t id;
+    _Atomic uint32_t is_made;
     bool is_joined;
     struct thread *thread;
     struct start *next;
@@ -80,6 +81,16 @@ struct start {
 
 /* What is known of who has a processor's number: nobody had it, one has, one has ended, one was joined. */
 enum stage { UNUSED, RUNNING, ENDED, JOINED };
+
+/* With a seed: whether the thread may run, how many accesses are left to it, and what it waits for. */
+struct turn {
+    _Atomic uint32_t go;
+    uint32_t left;
+    uint64_t priority;
+    const void *awaits;
+    uintptr_t place;
+    bool is_here, is_away, is_timed, is_at_lock, is_too_late;
+};
 
 struct thread {
     uint32_t processor;
@@ -103,6 +114,7 @@ struct thread {
     struct flag *pending[MOST_PENDING];
     uint32_t pendings;
     struct start *start;
+    struct turn turn;
 };
 
 extern __thread struct thread *self __attribute__((tls_model("initial-exec")));
@@ -181,12 +193,31 @@ void renew_flag(struct flag *flag);
 void set_flag(struct thread *thread, struct flag *flag, uintptr_t place);
 void await_flag(struct thread *thread, struct flag *flag, uintptr_t place);
 bool has_heard(const struct flag *flag, const struct thread *thread);
+/* It waits for a flag that nobody sets. Inside. */
+void await_never(struct thread *thread, struct flag *flag, uintptr_t place);
 /* The same with the trace round it. */
 void hand_on(struct flag *flag, uintptr_t place);
 void take_over(struct flag *flag, uintptr_t place);
 
 /* atomics.c: the value at this address is one that a release store has left. Nothing else is at hand. */
 void release_value(uintptr_t address, uintptr_t place);
+
+/* schedule.c: with a seed, one thread runs at a time; without one these do nothing. */
+extern bool is_scheduled;
+void schedule_begin(void);
+/* The thread waits for its first turn, once who made it may know. */
+void turn_begins(struct thread *thread, _Atomic uint32_t *is_made);
+void turn_is_made(_Atomic uint32_t *is_made);
+void turn_ends(struct thread *thread);
+/* Another thread may go on here, or this one. */
+void turn_passes(struct thread *thread, bool to_another);
+/* With a seed: the thread can't go on until somebody wakes those who wait for this. False if its time was over first. */
+bool wait_turn(struct thread *thread, const void *awaits, bool is_timed, bool is_at_lock, uintptr_t place);
+void wake(const void *awaited, bool all);
+void wake_thread(struct thread *thread);
+/* Round a call that waits for something outside. */
+void goes_away(struct thread *thread);
+void comes_back(struct thread *thread);
 
 /* threads.c */
 /* The calling thread; it is given a number if it has none. NULL if nothing is recorded of it. */

@@ -78,6 +78,8 @@ struct thread *this_thread(void)
 {
     self = new_thread();
     trace_says("a thread's start was not seen, so nothing is ordered before it");
+    if (self != &nobody)
+        turn_begins(self, NULL);
     return self;
 }
 
@@ -87,6 +89,7 @@ void begin_main_thread(void)
 {
     pthread_key_create(&at_end, ends);
     self = new_thread();
+    turn_begins(self, NULL);
 }
 
 /* The thread's last deed. Other destructors come first: it is put off as often as may be. */
@@ -99,6 +102,8 @@ static void ends(void *given)
     hand_on(&thread->start->ended, 0);
     self = &nobody;
     atomic_store(&thread->stage, ENDED);
+    wake(thread->start, true);
+    turn_ends(thread);
 }
 
 /* What stood on the stack before was another thread's. */
@@ -127,6 +132,7 @@ static void *begins(void *given)
         if (self != &nobody) {
             self->start = start;
             start->thread = self;
+            turn_begins(self, &start->is_made);
             stack_is_new(self);
             take_over(&start->begun, 0);
             pthread_setspecific(at_end, self);
@@ -159,9 +165,12 @@ static int create(pthread_t *id, const pthread_attr_t *attributes, void *(*routi
         return NEXT(pthread_create)(id, attributes, routine, argument);
     hand_on(&start->begun, place);
     int fault = NEXT(pthread_create)(id, attributes, begins, start);
-    if (!fault)
-        atomic_store(&start->id, (uintptr_t)*id);
-    return fault;
+    if (fault)
+        return fault;
+    atomic_store(&start->id, (uintptr_t)*id);
+    turn_is_made(&start->is_made);
+    turn_passes(self, false);
+    return 0;
 }
 
 PUBLIC int pthread_create(pthread_t *id, const pthread_attr_t *attributes, void *(*routine)(void *), void *argument)
@@ -191,11 +200,33 @@ static int joined(int fault, struct start *start, uintptr_t place)
     return 0;
 }
 
+/* With a seed: until the thread has ended. */
+static void wait_for_end(struct start *start, uintptr_t place)
+{
+    struct thread *thread = recorded();
+
+    while (is_scheduled && thread && start && start->thread && atomic_load(&start->thread->stage) == RUNNING
+        && start->thread->start == start)
+        wait_turn(thread, start, false, false, place);
+}
+
 PUBLIC int pthread_join(pthread_t id, void **result)
 {
     struct start *start = start_of(id);
 
+    wait_for_end(start, HERE);
     return joined(NEXT(pthread_join)(id, result), start, HERE);
+}
+
+/* With a seed: a wait for a condition ends, since it may be cancelled. */
+PUBLIC int pthread_cancel(pthread_t id)
+{
+    int fault = NEXT(pthread_cancel)(id);
+    struct start *start = is_scheduled && !fault ? start_of(id) : NULL;
+
+    if (start && start->thread)
+        wake_thread(start->thread);
+    return fault;
 }
 
 PUBLIC int pthread_tryjoin_np(pthread_t id, void **result)
@@ -248,6 +279,7 @@ PUBLIC int thrd_join(thrd_t id, int *result)
     struct start *start = start_of(id);
     void *returned;
 
+    wait_for_end(start, HERE);
     if (joined(NEXT(pthread_join)(id, &returned), start, HERE))
         return thrd_error;
     if (result)

@@ -369,6 +369,7 @@ static void end_in_child(void)
 static void begin_once(void)
 {
     words_begin();
+    schedule_begin();
     file = open_trace();
     if (file < 0) {
         say("the trace can't be opened: CEVANDLE_TRACE names a file, or &N for descriptor N");
