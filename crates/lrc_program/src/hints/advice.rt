@@ -219,28 +219,33 @@ fn put_size_advice(text: &mut String, at: FaultyLine<'_>) -> Result<(), AllocErr
     )
 }
 
+/// Adds what may stand there, and the likely cause.
+fn put_advice(alloc: Global, text: &mut String, at: FaultyLine<'_>) -> Result<(), AllocError> {
+    let bounds = advice_bounds_of(alloc, at.script);
+    match at.fault {
+        ScriptFault::Truncated => put_end_advice(text, at, bounds),
+        ScriptFault::BadLine => put_line_advice(alloc, text, at, bounds),
+        ScriptFault::BadNumber => put_number_advice(text, at),
+        ScriptFault::BadSize => put_size_advice(text, at),
+        ScriptFault::OutOfRange => put_bound_advice(text, "an address", bounds.addresses),
+        ScriptFault::BadLock => put_bound_advice(text, "a lock", bounds.locks),
+        ScriptFault::BadFlag => put_bound_advice(text, "a flag", bounds.flags),
+        ScriptFault::AlreadyHeld => text.push_str(
+            "  expected a lock that the section doesn't hold\n",
+        ),
+        ScriptFault::NotHeld => text.push_str("  expected a lock that the section holds\n"),
+        ScriptFault::TooLong => put_count_advice(text, at),
+        ScriptFault::Uneven => text.push_str(
+            "  expected a section with as many barriers as section 0\n",
+        ),
+        ScriptFault::NoMemory => Ok(()),
+    }
+}
+
 /// What may stand there, and the likely cause, each in a line that begins with two spaces.
 pub(crate) fn hint_advice(alloc: Global, at: FaultyLine<'_>) -> Result<String, AllocError> {
     let mut text = String::new(alloc);
-    let bounds = advice_bounds_of(alloc, at.script);
-    match at.fault {
-        ScriptFault::Truncated => put_end_advice(&mut text, at, bounds)?,
-        ScriptFault::BadLine => put_line_advice(alloc, &mut text, at, bounds)?,
-        ScriptFault::BadNumber => put_number_advice(&mut text, at)?,
-        ScriptFault::BadSize => put_size_advice(&mut text, at)?,
-        ScriptFault::OutOfRange => put_bound_advice(&mut text, "an address", bounds.addresses)?,
-        ScriptFault::BadLock => put_bound_advice(&mut text, "a lock", bounds.locks)?,
-        ScriptFault::BadFlag => put_bound_advice(&mut text, "a flag", bounds.flags)?,
-        ScriptFault::AlreadyHeld => text.push_str(
-            "  expected a lock that the section doesn't hold\n",
-        )?,
-        ScriptFault::NotHeld => text.push_str("  expected a lock that the section holds\n")?,
-        ScriptFault::TooLong => put_count_advice(&mut text, at)?,
-        ScriptFault::Uneven => text.push_str(
-            "  expected a section with as many barriers as section 0\n",
-        )?,
-        ScriptFault::NoMemory => {}
-    }
+    put_advice(alloc, &mut text, at)?;
     Ok(text)
 }
 
