@@ -22,12 +22,6 @@ block_done s n page block = written (λ (e : Event). block_write s n e.kind) pag
 abbrev pub IsBlock : ℕ → List Event → Type 0
 IsBlock p block = (k : ℕ) (e : Event) → EventAt block k e → (e.processor ≡ p) × (event_takes e.kind ≡ false)
 
--- the copy is what the block's stores make of a copy that is lawful before the block
-pub record BlockOverLawfulPage (s : Sizes) (j block : List Event) (p n : ℕ) (page : List ℕ) : Type 0 where
-  pub base : List ℕ
-  pub lawful : Lawful s j p n base
-  pub gives : page ≡ block_done s n base block
-
 -- each load of the block answers the word of its page, which is lawful, after the block's earlier stores
 pub record BlockAnswers (s : Sizes) (j block : List Event) (p : ℕ) (base : ℕ → List ℕ) : Type 0 where
   pub lawful : (k a v : ℕ) → Does block k p (Load a v) → Lawful s j p (a / s.words) (base (a / s.words))

@@ -1,5 +1,5 @@
 -- What a stale copy of a page misses, by intervals.
-use Rattle.std.specs.Prelude.{ℕ, ◌≡◌, ◌≢◌, ◌<◌, ◌≤◌, ◌↔◌, Bool, true, false, count_by, take, List, [], ◌∷◌}
+use Rattle.std.specs.Prelude.{ℕ, ◌≡◌, ◌≢◌, ◌<◌, ◌≤◌, ◌↔◌, count_by, take, List}
 use Rattle.journal.specs.declared.event.Event.{Event}
 use Rattle.base.specs.InOrderOnce.{Has, InOrder}
 use Rattle.journal.specs.Sizes.{Sizes}
@@ -25,14 +25,6 @@ pub record MissingInterval : Type 0 where
   pub number : ℕ
   pub place : ℕ
   pub words : List (ℕ × ℕ)
-
-abbrev pub missing_interval_some_words : List (ℕ × ℕ) → Bool
-missing_interval_some_words [] = false
-missing_interval_some_words (w ∷ words) = true
-
--- the interval comes to some word
-abbrev pub missing_interval_has_words : MissingInterval → Bool
-missing_interval_has_words x = missing_interval_some_words x.words
 
 -- the intervals stand in closing order
 abbrev pub MissingIntervalsInOrder : List MissingInterval → Type 0
