@@ -375,9 +375,8 @@ static void begin_once(void)
         say("the trace can't be opened: CEVANDLE_TRACE names a file, or &N for descriptor N");
         return;
     }
-    new_module((uintptr_t)dlsym(RTLD_DEFAULT, "main"));
-    if (!module_count)
-        new_module((uintptr_t)__builtin_return_address(0));
+    /* (the recorder is a part of the program itself) */
+    new_module((uintptr_t)&trace_begin);
     put_head();
     end_at_signals();
     pthread_atfork(NULL, NULL, end_in_child);
