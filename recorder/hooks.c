@@ -1,5 +1,5 @@
 /* What gcc's and clang's -fsanitize=thread put before each access. */
-#include "recorder.h"
+#include "words.h"
 
 static inline void accesses(uintptr_t address, size_t size, bool is_store, uintptr_t place)
 {
@@ -9,7 +9,10 @@ static inline void accesses(uintptr_t address, size_t size, bool is_store, uintp
         return;
     if (__builtin_expect(is_scheduled, 0) && !--thread->turn.left)
         turn_passes(thread, false);
-    access_bytes(thread, address, size, is_store, place);
+    if (__builtin_expect(size % WORD == 0 && address % WORD == 0, 1))
+        access_words(thread, address, size / WORD, is_store, place);
+    else
+        access_bytes(thread, address, size, is_store, place);
 }
 
 /* A load and a store of these bytes, with or without the place in the program. */

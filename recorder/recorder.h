@@ -2,11 +2,12 @@
  * What the recorder's parts share. README.md says what the recorder does and how it is built.
  *
  *   trace.c    the trace: its lines, who may write, how it ends
- *   words.c    numbers of words; memory that is used again
+ *   words.c    numbers of words; memory that is used again (words.h: what has to be quick)
  *   objects.c  what synchronizes: locks and flags, by address
  *   threads.c  threads: start, end, join; their numbers
  *   locks.c    mutexes, read-write locks, condition variables, barriers, semaphores, once
  *   atomics.c  C11 and C++ atomics and fences
+ *   schedule.c a schedule that a seed decides
  *   hooks.c    what the compiler calls before each access
  *   calls.c    calls into the C library that access memory or free it
  */
@@ -32,7 +33,7 @@ enum {
 };
 
 /* How many accesses a thread keeps before it writes them, and how many it remembers to leave out their like. */
-enum { KEPT_ACCESSES = 1 << 13, REMEMBERED_ACCESSES = 1 << 16 };
+enum { KEPT_ACCESSES = 1 << 13, REMEMBERED_ACCESSES = 1 << 18 };
 
 /* No lock, flag or processor. */
 #define NONE UINT32_MAX

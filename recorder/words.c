@@ -1,31 +1,15 @@
 /* Numbers of words; memory that is used again. */
-#include "recorder.h"
+#include "words.h"
 
 #include <string.h>
 #include <sys/mman.h>
-
-/*
- * A word of four bytes has a cell: 0 before it is touched, and then its number, or where its parts stand if it was
- * accessed in parts. The cells of each mebibyte of memory stand together, and take memory as they are touched.
- */
-typedef _Atomic uint32_t cell;
-
-enum {
-    WORD = 4,
-    BLOCK_BITS = 20,
-    CELLS = 1 << (BLOCK_BITS - 2),
-    IS_PARTED = 1u << 30,
-    NUMBER = (1u << 30) - 1,
-};
-#define IS_SYNCHRONIZING (1u << 31)
-#define ADDRESS_BITS 47
 
 /* A word that was accessed in parts: its number as a whole, and that of its first byte; the others' follow. */
 struct parts {
     uint32_t as_whole, first;
 };
 
-static cell *_Atomic *blocks;
+cell *_Atomic *blocks;
 static struct parts *parted;
 static _Atomic uint32_t next_word, next_parted;
 
@@ -42,7 +26,7 @@ void words_begin(void)
     parted = reserve(sizeof *parted * MOST_WORDS);
 }
 
-static cell *new_block(cell *_Atomic *place)
+cell *new_block(cell *_Atomic *place)
 {
     cell *made = reserve(CELLS * sizeof *made), *was = NULL;
 
@@ -59,19 +43,6 @@ static inline cell *block_at(uintptr_t address)
     return address >> ADDRESS_BITS || !blocks ? NULL : atomic_load_explicit(&blocks[address >> BLOCK_BITS], memory_order_acquire);
 }
 
-/* The cell of the word at the address; NULL if memory ran out. */
-static inline cell *cell_at(uintptr_t address)
-{
-    if (__builtin_expect(address >> ADDRESS_BITS || !blocks, 0))
-        return NULL;
-    cell *_Atomic *place = &blocks[address >> BLOCK_BITS];
-    cell *block = atomic_load_explicit(place, memory_order_acquire);
-
-    if (__builtin_expect(!block, 0) && !(block = new_block(place)))
-        return NULL;
-    return &block[(address & ((1u << BLOCK_BITS) - 1)) / WORD];
-}
-
 /* So many numbers, counted from 1; 0 if there are none. */
 static uint32_t new_numbers(uint32_t count)
 {
@@ -84,25 +55,24 @@ static uint32_t new_numbers(uint32_t count)
     return 0;
 }
 
-/* What the cell has, after it was given a number if it had none. */
-static inline uint32_t touched(cell *cell)
+uint32_t number_of(cell *cell)
 {
     uint32_t has = atomic_load_explicit(cell, memory_order_relaxed);
 
-    while (__builtin_expect(!(has & ~IS_SYNCHRONIZING), 0)) {
+    while (!(has & ~IS_SYNCHRONIZING)) {
         uint32_t number = new_numbers(1);
         if (!number)
             return 0;
         if (atomic_compare_exchange_strong(cell, &has, has | number))
-            return has | number;
+            return number;
     }
-    return has;
+    return has & ~IS_SYNCHRONIZING;
 }
 
 /* Where the word's parts stand, after it was parted if it was not; NULL if there is no room. */
 static struct parts *parts_of(cell *cell)
 {
-    uint32_t has = touched(cell);
+    uint32_t has = number_of(cell) ? atomic_load(cell) : 0;
 
     while (has && !(has & IS_PARTED)) {
         uint32_t first = new_numbers(WORD), at = atomic_fetch_add(&next_parted, 1);
@@ -115,40 +85,16 @@ static struct parts *parts_of(cell *cell)
     return has ? &parted[has & NUMBER] : NULL;
 }
 
-/* Keeps an access, unless one like it, or a store, was kept since the thread's last synchronization. */
-static inline void keep(struct thread *thread, uint32_t number, bool is_store, uintptr_t place)
+void write_kept(struct thread *thread)
 {
-    uint64_t *like = &thread->remembered[number % REMEMBERED_ACCESSES];
-    uint64_t mine = (uint64_t)thread->interval << 32 | (uint64_t)number << 1 | is_store;
-
-    if ((*like | 1) == (mine | 1) && (*like & 1) >= (mine & 1))
-        return;
-    *like = mine;
-    uint32_t kept = atomic_load_explicit(&thread->kept, memory_order_relaxed);
-    if (__builtin_expect(kept == KEPT_ACCESSES, 0)) {
-        trace_enter(thread);
-        trace_leave(thread);
-        kept = 0;
-    }
-    thread->accesses[kept] = (struct access){(uint64_t)place << 1 | is_store, number - 1};
-    atomic_store_explicit(&thread->kept, kept + 1, memory_order_release);
+    trace_enter(thread);
+    trace_leave(thread);
 }
 
-/*
- * An access of a whole word is one of its number. If it was ever accessed in parts, a load is also one of each of its bytes.
- * An access of some bytes is one of theirs, and a load of the whole: so it races with stores of the whole, and with accesses
- * of the same bytes, and not with those of their neighbours.
- */
-static inline void access_word(struct thread *thread, cell *cell, bool is_store, uintptr_t place)
+void access_parted(struct thread *thread, uint32_t has, bool is_store, uintptr_t place)
 {
-    uint32_t has = touched(cell);
-
-    if (__builtin_expect(!(has & IS_PARTED), 1)) {
-        if (has & NUMBER)
-            keep(thread, has & NUMBER, is_store, place);
-        return;
-    }
     struct parts *parts = &parted[has & NUMBER];
+
     keep(thread, parts->as_whole, is_store, place);
     for (uint32_t at = 0; !is_store && at < WORD; at++)
         keep(thread, parts->first + at, false, place);
