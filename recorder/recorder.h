@@ -1,5 +1,5 @@
 /*
- * What the recorder's parts share. README.md says what the recorder does and how it is built.
+ * What the parts of the recorder share. docs/PROGRAMS.md says what the recorder does and how it is built.
  *
  *   trace.c    the trace: its lines, who may write, how it ends
  *   words.c    numbers of words; memory that is used again (words.h: what has to be quick)
