@@ -352,6 +352,7 @@ fn open_words_are_told(rt: HostRuntime) -> Result<(), AllocError> {
 
 /// Processor 0 stores to each of eight pages. After the barrier processor 1 loads from the first of them in turn, as often as
 /// makes sixteen events with the fetches: it fetches each page that it loads from.
+#[derive(Clone, Copy)]
 struct SeatTestFetcher {
     pages: usize,
 }
@@ -384,7 +385,17 @@ fn events_of_fetches<R: Threads + Wait + Sync>(
     pages: usize,
 ) -> Result<usize, ProcessorFault> {
     let layout = Layout::open(alloc, 8)?;
-    let ran = run(rt, alloc, 2, 8, 1, 0, 0, &layout, &SeatTestFetcher { pages })?;
+    let ran = run(
+        rt,
+        alloc,
+        2,
+        8,
+        1,
+        0,
+        0,
+        &layout,
+        &SeatTestFetcher { pages },
+    )?;
     Ok(ran.journal.len())
 }
 
