@@ -19,6 +19,10 @@ pub record SharedCluster : Type 0 where
 abbrev pub shared_cluster : ChairLockId → Sizes → SharedCluster
 shared_cluster l s = record { lock = l; sizes = s }
 
+-- its lock has as many words as locks of this kind have for its processors
+abbrev pub IsClusterLockOf : (ℕ → ℕ) → SharedCluster → Type 0
+IsClusterLockOf width c = c.lock.table.words ≡ width c.sizes.processors
+
 -- a block with room, blank copies, no lock held and no interval performed
 pub record AreNewClusterParts (s : Sizes) (x : ProcessorParts) : Type 0 where
   pub block : x.block.items ≡ []
@@ -38,6 +42,11 @@ pub record IsNewClusterChair (l : ChairLockId) (s : Sizes) (p : ℕ) (c : ChairT
 -- all of them, in the order of their places
 abbrev pub AreNewClusterChairs : Sizes → List (ChairToken BookState View) → Type 0
 AreNewClusterChairs s cs = (p : ℕ) (c : ChairToken BookState View) → slice_get cs p ≡ Some c → IsNewClusterChair (lock c) s p c
+
+-- all chairs of a cluster's lock, before it has processors
+pub record HasNewClusterChairs (c : SharedCluster) (cs : List (ChairToken BookState View)) : Type 0 where
+  pub all : length cs ≡ c.sizes.processors
+  pub each : (p : ℕ) (chair : ChairToken BookState View) → slice_get cs p ≡ Some chair → IsNewClusterChair c.lock c.sizes p chair
 
 -- the processor at place p of those that these chairs were given to
 pub record IsSeatedAtNewCluster (s : Sizes) (cs : List (ChairToken BookState View)) (p : ℕ) (m : Local) : Type 0 where

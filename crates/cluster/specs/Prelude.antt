@@ -14,7 +14,7 @@ pub use Rattle.cluster.specs.TakingCalls.{HasRoomForTakingCall, IsTakingCall}
 pub use Rattle.cluster.specs.WaitingCalls.{IsWaitingCall, waiting_call_answer}
 pub use Rattle.cluster.specs.CuttingCalls.{IsCuttingCall, IsCuttingCallFault}
 pub use Rattle.cluster.specs.FaithfulJournals.{IsFaithfulJournalAudit}
-pub use Rattle.cluster.specs.NewClusters.{HasClusterCoverage, IsNewCluster, AreNewClusterChairs, AreNewClusterParts, IsNewClusterSeated, IsNewClusterChair, SharedCluster}
+pub use Rattle.cluster.specs.NewClusters.{HasNewClusterChairs, IsClusterLockOf, HasClusterCoverage, IsNewCluster, AreNewClusterChairs, AreNewClusterParts, IsNewClusterSeated, IsNewClusterChair, SharedCluster}
 pub use Rattle.cluster.specs.NewClusters.{shared_cluster}
 pub use Rattle.cluster.specs.Finishing.{AreAllToFinish, IsDismantledToFinish, IsFinished}
 pub use Rattle.cluster.specs.ClusterHistoryLaws.{ClusterAllowedLaw, ClusterFromBaseLaw, ClusterLeftLaw, ClusterSeenLaw}

@@ -3,6 +3,7 @@ ghost use Rattle.std.specs.Prelude.{◌≡◌, ◌≢◌, ◌⊎◌, ◌↔◌, 
 ghost use Rattle.std.specs.Prelude.{vec_len, vec_capacity, slice_get, Some};
 ghost use Rattle.cluster.specs.Copies.Prelude.{AreSoundSizes};
 ghost use Rattle.cluster.specs.Prelude.{AreNewClusterParts, AreNewClusterChairs, IsNewClusterSeated, IsNewCluster, HasClusterCoverage};
+ghost use Rattle.cluster.specs.Prelude.{HasNewClusterChairs, IsClusterLockOf};
 
 mod calls;
 mod catching_up;
@@ -77,6 +78,8 @@ impl<T: BookTurn> Cluster<T> {
           locks = locks;
           flags = flags;
         }) }
+        // Its lock is of the kind that was asked for.
+        ensures turn { IfOk result (λ r. IsClusterLockOf T.width r.0) }
         ensures limit { IfOk result (λ r. r.0.lock.limit ≡ T.ENTRIES) }
         ensures new { IfOk result (λ r. IsNewCluster r.0 r.1.items) }
         ensures covers { IfOk result (λ r. HasClusterCoverage r.1.items) }
@@ -100,9 +103,29 @@ impl<T: BookTurn> Cluster<T> {
         requires entries { T.ENTRIES ≤ 2 ^ 40 }
         requires sizes { AreSoundSizes shape }
         ensures sizes { IfOk result (λ r. r.0.sizes ≡ shape) }
+        ensures turn { IfOk result (λ r. IsClusterLockOf T.width r.0) }
         ensures limit { IfOk result (λ r. r.0.lock.limit ≡ T.ENTRIES) }
         ensures new { IfOk result (λ r. IsNewCluster r.0 r.1.items) }
         ensures covers { IfOk result (λ r. HasClusterCoverage r.1.items) }
+    {
+        let all = Vec::with_capacity(alloc, shape.processors)?;
+        let parts = cluster_parts_of(alloc, shape)?;
+        let (cluster, chairs) = Self::without_processors(alloc, shape)?;
+        let all = Self::seat_all(shape, chairs, parts, all);
+        Ok((cluster, all))
+    }
+
+    /// A cluster of these sizes, with the chairs of its processors.
+    fn without_processors(
+        alloc: Global,
+        shape: Shape,
+    ) -> Result<(Cluster<T>, Vec<Chair<Book, Rule>>), AllocError>
+        requires entries { T.ENTRIES ≤ 2 ^ 40 }
+        requires sizes { AreSoundSizes shape }
+        ensures sizes { IfOk result (λ r. r.0.sizes ≡ shape) }
+        ensures turn { IfOk result (λ r. IsClusterLockOf T.width r.0) }
+        ensures limit { IfOk result (λ r. r.0.lock.limit ≡ T.ENTRIES) }
+        ensures chairs { IfOk result (λ r. HasNewClusterChairs r.0 r.1.items) }
     {
         let Shape {
             processors,
@@ -111,20 +134,17 @@ impl<T: BookTurn> Cluster<T> {
             locks,
             flags,
         } = shape;
-        let all = Vec::with_capacity(alloc, processors)?;
-        let parts = cluster_parts_of(alloc, shape)?;
         let spare = Mutex::new(FinishingRoom::new(alloc)?);
         let bells = Bells::new(alloc, processors)?;
         let book = Book::new(alloc, processors, pages, words, locks, flags)?;
         let (turn, chairs) = T::new(alloc, book, processors)?;
-        let all = Self::seat_all(shape, chairs, parts, all);
         let cluster = Cluster {
             turn,
             shape,
             bells,
             spare,
         };
-        Ok((cluster, all))
+        Ok((cluster, chairs))
     }
 
     /// Gives each chair its processor.

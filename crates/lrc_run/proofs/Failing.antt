@@ -54,3 +54,8 @@ failing_each_error (Err e) Q all = all e
 pub failing_ok_as : {A E : Type 0} (r : Result A E) (P Q : A → Type 0) → ((x : A) → P x → Q x) → IfOk r P → IfOk r Q
 failing_ok_as (Ok x) P Q less holds = less x holds
 failing_ok_as (Err e) P Q less holds = tt
+
+-- what holds whatever is answered
+pub failing_ok_whatever : {A E P : Type 0} (r : Result A E) → P → IfOk r (λ _. P)
+failing_ok_whatever (Ok x) holds = holds
+failing_ok_whatever (Err e) holds = tt

@@ -8,7 +8,7 @@ use Rattle.lrc_script.specs.declared.script.Instruction.{Instruction}
 use Rattle.lrc_script.specs.Lawful.{IsLawful}
 use Rattle.lrc_script.specs.Plan.{Plan}
 use Rattle.cluster.specs.Copies.Local.{Local}
-use Rattle.cluster.specs.NewClusters.{SharedCluster, IsNewCluster}
+use Rattle.cluster.specs.NewClusters.{IsClusterLockOf, SharedCluster, IsNewCluster}
 use Rattle.conformance.specs.Follows.{plan_sizes}
 use Rattle.conformance.specs.declared.cause.RunFault.{RunFault}
 use Rattle.conformance.specs.declared.cause.Cause.{Cause}
@@ -124,16 +124,16 @@ joined_threads_all_walked c sections outcomes ms are is = record {
     mapped (x ∷ xs) (suc p) m at = mapped xs p m at
 
 -- a fault of a run that is stuck is that of a processor that has given up
-pub joined_threads_stuck : {s : Plan} {c : SharedCluster} {tries : ℕ} {outcomes : List (Result Local Cause)} (fault : RunFault) → IsLawful s
-    → c.sizes ≡ plan_sizes s → AreThreadResults tries c s.sections outcomes
+pub joined_threads_stuck : {s : Plan} {c : SharedCluster} {tries : ℕ} {outcomes : List (Result Local Cause)} (width : ℕ → ℕ) (fault : RunFault)
+    → IsClusterLockOf width c → IsLawful s → c.sizes ≡ plan_sizes s → AreThreadResults tries c s.sections outcomes
     → IsFaultOfFailedOutcome outcomes fault ⊎ (NoOutcomeFailed outcomes × (fault.cause ≢ Stuck)) → fault.cause ≡ Stuck
-    → IsStuckInClusterRun s tries fault.processor
-joined_threads_stuck {s = s} {c = c} {tries = tries} {outcomes = outcomes} fault lawful sizes are told stuck = elim told [
+    → IsStuckInClusterRun width s tries fault.processor
+joined_threads_stuck {s = s} {c = c} {tries = tries} {outcomes = outcomes} width fault lock lawful sizes are told stuck = elim told [
   | inl failed ↦ elim failed [ inl first ↦ of first.failed | inr second ↦ of second.1.failed ]
   | inr other ↦ absurd (other.1 stuck)
 ]
   where
-    of : FailedOutcome outcomes fault.processor fault.cause → IsStuckInClusterRun s tries fault.processor
+    of : FailedOutcome outcomes fault.processor fault.cause → IsStuckInClusterRun width s tries fault.processor
     of failed =
         let p = fault.processor in
         let one_each = lawful.but_uneven.one_each in
@@ -143,10 +143,10 @@ joined_threads_stuck {s = s} {c = c} {tries = tries} {outcomes = outcomes} fault
         let section = get_or s.sections p [] in
         let at = slice_get-get_or s.sections p [] (omega (arith, one_each, many, same, within)) in
         let up = are.each p section (Err fault.cause) at failed stuck in
-        record { cluster = c; sizes = sizes; section = section; section_is = at; last = up.0; gives_up = up.1 }
+        record { cluster = c; lock_is = lock; sizes = sizes; section = section; section_is = at; last = up.0; gives_up = up.1 }
 
 -- a report of processors that have all walked is one of the run, and no other fault is that of one that is stuck
-pub cluster_run_reported : (s : Plan) (tries : ℕ) (r : Result Report RunFault) → IfOk r (IsClusterReport s)
-    → IfErr r (λ fault. fault.cause ≢ Stuck) → IsClusterRun s tries r
-cluster_run_reported s tries (Ok report) is other = is
-cluster_run_reported s tries (Err fault) is other = λ stuck. absurd (other stuck)
+pub cluster_run_reported : (width : ℕ → ℕ) (s : Plan) (tries : ℕ) (r : Result Report RunFault) → IfOk r (IsClusterReport width s)
+    → IfErr r (λ fault. fault.cause ≢ Stuck) → IsClusterRun width s tries r
+cluster_run_reported width s tries (Ok report) is other = is
+cluster_run_reported width s tries (Err fault) is other = λ stuck. absurd (other stuck)

@@ -1,5 +1,5 @@
 -- Turns that are drawn.
-use Rattle.std.specs.Prelude.{ℕ, ◌≡◌, ◌+◌, ◌⊎◌, ◌++◌, Some, List, [], ◌∷◌, slice_get, slice_index_or, take}
+use Rattle.std.specs.Prelude.{ℕ, ◌≡◌, ◌+◌, ◌⊎◌, ◌++◌, Some, None, List, [], ◌∷◌, slice_get, slice_index_or, take}
 use Rattle.lrc_script.specs.declared.script.Instruction.{Instruction}
 use Rattle.lrc_script.specs.Plan.{Plan}
 use Rattle.cluster.specs.Copies.Local.{Local}
@@ -8,7 +8,8 @@ use Rattle.conformance.specs.DrawnRuns.{HasArrivedAtDrawnEnd, drawing_after_of, 
 use Rattle.conformance.specs.declared.progress.TurnProgress.{TurnProgress}
 use Rattle.lrc_run.specs.declared.steps.pace.Pace.{Pace}
 use Rattle.lrc_run.specs.DrawnOrders.{pace_drawing}
-use Rattle.lrc_run.specs.RunTurns.{AreRunTurnsTaken}
+use Rattle.cluster.specs.NewClusters.{SharedCluster}
+use Rattle.lrc_run.specs.RunTurns.{AreRunTurnsTaken, HaveGoneOnInRunTurns}
 
 -- each processor has arrived at the closing barrier
 abbrev pub HaveArrivedAtRunSteps : List (List Instruction) → List TurnProgress → Type 0
@@ -37,3 +38,12 @@ pub record HaveWandered (s : Plan) (seed : ℕ) (turns : List ℕ) (old new : Li
   pub turns_are : turns ≡ drawn_turns_of s seed places
   pub tried : (AreRunTurnsTaken s.sections (drawn_tries_of s seed places) old new start all × HaveArrivedAtRunSteps s.sections all)
       ⊎ AreRunTurnsTaken s.sections (drawn_tries_of s seed places ++ (drawing_after_of s seed places).order) old new start all
+
+-- and then they have gone on in rounds by rising number; of the turns that were drawn, these got on
+pub record HaveGoneOnAfterWandering (c : SharedCluster) (s : Plan) (seed : ℕ) (turns : List ℕ) (old new : List Local) (start all : List TurnProgress)
+    : Type 0 where
+  pub between : List Local
+  pub half : List TurnProgress
+  pub wandered : HaveWandered s seed turns old between start half
+  pub first : AreRunTurnsTaken s.sections turns old between start half
+  pub gone : HaveGoneOnInRunTurns c s None between new half all

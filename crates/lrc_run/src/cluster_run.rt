@@ -3,7 +3,8 @@ ghost use Rattle.std.specs.Prelude.{◌≡◌, ◌≢◌, ◌^◌, ◌<◌, ◌�
 ghost use Rattle.lrc_script.specs.Prelude.{IsLawful, plan_of};
 ghost use Rattle.conformance.specs.Prelude.{plan_sizes};
 ghost use Rattle.conformance.specs.declared.cause.Cause.TheVariants as cause;
-ghost use Rattle.lrc_run.specs.Prelude.{AreThreadResults, HaveRunCallsOfWalks, IsClusterReport, IsClusterRun, IsScriptReport};
+ghost use Rattle.lrc_run.specs.Prelude.{AreThreadResults, HaveRunCallsOfWalks, IsClusterReport, IsClusterRun, IsClusterLockOf, IsScriptReport, lock_choice_width};
+ghost use Rattle.conformance.specs.declared.script_runner.LockChoice.TheVariants as lock;
 
 mod threads;
 
@@ -31,7 +32,7 @@ pub fn run<R: Threads + Wait + Sync, G: Gate + Sync>(
     requires tries { 0 < tries }
     requires lawful { IsLawful (plan_of script.now) }
     ensures report { IfOk result (λ report. IsScriptReport (plan_of script.now) report) }
-    ensures ran { IsClusterRun (plan_of script.now) tries result }
+    ensures ran { IsClusterRun (lock_choice_width lock.Array) (plan_of script.now) tries result }
 {
     run_with::<BookLock, R, G>(rt, alloc, script, gate, tries)
 }
@@ -55,7 +56,7 @@ pub fn run_with<T: BookTurn + Send + Drop, R: Threads + Wait + Sync, G: Gate + S
     requires lawful { IsLawful (plan_of script.now) }
     requires entries { T.ENTRIES ≤ 2 ^ 40 }
     ensures report { IfOk result (λ report. IsScriptReport (plan_of script.now) report) }
-    ensures ran { IsClusterRun (plan_of script.now) tries result }
+    ensures ran { IsClusterRun T.width (plan_of script.now) tries result }
 {
     let (cluster, outcomes) = run_all_or_fault::<T, R, G>(rt, alloc, script, gate, tries)?;
     match all_or_run_fault(alloc, outcomes) {
@@ -74,9 +75,10 @@ fn conclude_cluster_run<T: BookTurn + Drop, R: Wait>(
 ) -> Result<Report, RunFault>
     requires lawful { IsLawful (plan_of script.now) }
     requires sizes { cluster.sizes ≡ plan_sizes (plan_of script.now) }
+    requires lock { IsClusterLockOf T.width cluster }
     requires walked { HaveRunCallsOfWalks cluster (plan_of script.now).sections processors.items }
     ensures report { IfOk result (λ report. IsScriptReport (plan_of script.now) report) }
-    ensures cluster { IfOk result (IsClusterReport (plan_of script.now)) }
+    ensures cluster { IfOk result (IsClusterReport T.width (plan_of script.now)) }
     ensures err { IfErr result (λ fault. fault.cause ≢ cause.Stuck) }
 {
     match conclude_run_ending(rt, alloc, cluster, processors, script) {
@@ -106,6 +108,7 @@ fn run_all_or_fault<T: BookTurn + Send + Drop, R: Threads + Wait + Sync, G: Gate
     requires lawful { IsLawful (plan_of script.now) }
     requires entries { T.ENTRIES ≤ 2 ^ 40 }
     ensures sizes { IfOk result (λ r. r.0.sizes ≡ plan_sizes (plan_of script.now)) }
+    ensures lock { IfOk result (λ r. IsClusterLockOf T.width r.0) }
     ensures err { IfErr result (λ fault. fault.cause ≢ cause.Stuck) }
     ensures outcomes { IfOk result (λ r. AreThreadResults tries r.0 (plan_of script.now).sections r.1.items) }
 {
@@ -126,6 +129,7 @@ fn run_all<T: BookTurn + Send + Drop, R: Threads + Wait + Sync, G: Gate + Sync>(
     requires lawful { IsLawful (plan_of script.now) }
     requires entries { T.ENTRIES ≤ 2 ^ 40 }
     ensures sizes { IfOk result (λ r. r.0.sizes ≡ plan_sizes (plan_of script.now)) }
+    ensures lock { IfOk result (λ r. IsClusterLockOf T.width r.0) }
     ensures err { IfErr result (λ why. why ≢ cause.Stuck) }
     ensures outcomes { IfOk result (λ r. AreThreadResults tries r.0 (plan_of script.now).sections r.1.items) }
 {

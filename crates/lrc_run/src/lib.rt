@@ -6,9 +6,9 @@
 //! the shown words and the traffic are those of the whole history (`ScriptReportHasHistory`).
 //!
 //! **What is proved.** Whatever the lock, the order of the threads and the seed: a report that is answered is one of
-//! the plan. Its history's replies can be recomputed on one flat memory, with the same races; if the script never races
-//! there, the verdict is race-free and the history replays (module `laws`). Which fault a run tells, of those that its
-//! processors met. By turns: each round is in the order that the seed draws, by the generator's own definitions; the
+//! the plan, and its cluster has the lock that was asked for. Its history's replies can be recomputed on one flat memory,
+//! with the same races; if the script never races there, the verdict is race-free and the history replays (module `laws`).
+//! Which fault a run tells, of those that its processors met. By turns: each round is in the order that the seed draws, by the generator's own definitions; the
 //! processors come to what their turns make of them, and the history is made of what the turns hand in, one after another;
 //! a take that came too early found its processor not ready by it. If a run by turns says that it can't go on, its history
 //! is a deadlock: each processor waits, and none is ready.
@@ -17,8 +17,7 @@
 //! that says Stuck has looked as often as it was asked, or was told that what it waits for can't come.
 //!
 //! **What is only tested** (in `test_lrc`): that no run is refused needlessly, and that its threads get on side by
-//! side; that the gate is asked before each instruction; that nobody sleeps for ever; when a full block is handed in; and
-//! which lock a run had.
+//! side; that the gate is asked before each instruction; that nobody sleeps for ever; and when a full block is handed in.
 #![tactic(auto)]
 
 mod cluster_run;

@@ -1,7 +1,8 @@
 //! What runs scripts: on a cluster, with the lock that is asked for.
 ghost use Rattle.std.specs.Prelude.{◌<◌, IfOk};
 ghost use Rattle.lrc_script.specs.Prelude.{IsLawful, plan_of};
-ghost use Rattle.conformance.specs.Prelude.{IsRunEnd, IsScriptReport};
+ghost use Rattle.conformance.specs.Prelude.{IsEndByOrderedTurns, IsRunEnd, IsScriptReport, ordered_turns_of_seed};
+ghost use Rattle.lrc_run.specs.Prelude.{IsClusterEnd, lock_choice_width};
 
 use crate::cluster_run::{run, run_with};
 use crate::gate::Open;
@@ -23,15 +24,15 @@ pub struct OnCluster;
 
 impl ScriptRunner for OnCluster {
     ghost use Rattle.std.specs.Prelude.{IfOk};
-    ghost use Rattle.lrc_run.specs.ClusterRuns.{IsClusterEnd, IsClusterReport, IsClusterRun};
+    ghost use Rattle.lrc_run.specs.ClusterRuns.{IsClusterEnd, IsClusterReport, IsClusterRun, lock_choice_width};
 
-    ghost ran = { λ s _ tries came. IsClusterRun s tries came };
+    ghost ran = { λ s lock tries came. IsClusterRun (lock_choice_width lock) s tries came };
 
-    ghost stepped = { λ s _ _ came. IfOk came (IsClusterReport s) };
+    ghost stepped = { λ s lock _ came. IfOk came (IsClusterReport (lock_choice_width lock) s) };
 
-    ghost followed = { λ s _ _ came. IfOk came (IsClusterEnd s) };
+    ghost followed = { λ s lock _ came. IfOk came (IsClusterEnd (lock_choice_width lock) s) };
 
-    ghost drawn = { λ s _ _ came. IfOk came (λ run. IsClusterEnd s run.ended) };
+    ghost drawn = { λ s lock _ came. IfOk came (λ run. IsClusterEnd (lock_choice_width lock) s run.ended) };
 
     fn run<R: Threads + Wait + Sync>(
         &self,
@@ -70,7 +71,13 @@ impl ScriptRunner for OnCluster {
         script: &Script,
         lock: LockChoice,
         seed: Option<u64>,
-    ) -> Result<Ended, RunFault> {
+    ) -> Result<Ended, RunFault>
+        requires { IsLawful (plan_of script.now) }
+        ensures end { IfOk result (IsRunEnd (plan_of script.now)) }
+        ensures turns { IfOk result (IsEndByOrderedTurns (plan_of script.now) (ordered_turns_of_seed (plan_of script.now) seed)) }
+        // The trait has no word for this call with its lock.
+        ensures cluster { IfOk result (IsClusterEnd (lock_choice_width lock) (plan_of script.now)) }
+    {
         match lock {
             LockChoice::Array => step_as_far(rt, alloc, script, seed),
             LockChoice::Ticket => step_as_far_with::<TicketBookLock, R>(rt, alloc, script, seed),

@@ -9,7 +9,8 @@ ghost use Rattle.conformance.specs.declared.cause.Cause.TheVariants as cause;
 ghost use Rattle.conformance.specs.declared.progress.TurnProgress.TheVariants as progress;
 ghost use Rattle.conformance.specs.Prelude.{IsEndByOrderedTurns, IsReportByOrderedTurns, IsStuckByOrderedTurns, round_order_drawn, round_order_generator, ordered_turns_of_seed};
 ghost use Rattle.lrc_run.specs.Prelude.{AreDrawnOrderProcessors, AreAtRunSteps, AreRunTurnsSeenAhead, AreRunTurns, HaveGoneOnInRunTurns, IsFollowedEndAfter};
-ghost use Rattle.lrc_run.specs.Prelude.{IsClusterEnd, IsClusterReport, IsTurnOfRun, IsRunTurnDeadlockSeen};
+ghost use Rattle.lrc_run.specs.Prelude.{IsClusterEnd, IsClusterLockOf, IsClusterReport, IsTurnOfRun, IsRunTurnDeadlockSeen, IsRunTurnRound, lock_choice_width};
+ghost use Rattle.conformance.specs.declared.script_runner.LockChoice.TheVariants as lock;
 
 mod catching_up;
 mod drawn;
@@ -46,7 +47,7 @@ pub fn step<R: Wait>(
 ) -> Result<Report, RunFault>
     requires { IsLawful (plan_of script.now) }
     ensures turns { IfOk result (IsReportByOrderedTurns (plan_of script.now) (ordered_turns_of_seed (plan_of script.now) seed)) }
-    ensures cluster { IfOk result (IsClusterReport (plan_of script.now)) }
+    ensures cluster { IfOk result (IsClusterReport (lock_choice_width lock.Array) (plan_of script.now)) }
     ensures stuck { IfErr result (λ fault. fault.cause ≡ cause.Stuck
         → IsStuckByOrderedTurns (plan_of script.now) (ordered_turns_of_seed (plan_of script.now) seed) fault.processor) }
 {
@@ -63,7 +64,7 @@ pub fn step_with<T: BookTurn + Drop, R: Wait>(
     requires entries { T.ENTRIES ≤ 2 ^ 40 }
     requires lawful { IsLawful (plan_of script.now) }
     ensures turns { IfOk result (IsReportByOrderedTurns (plan_of script.now) (ordered_turns_of_seed (plan_of script.now) seed)) }
-    ensures cluster { IfOk result (IsClusterReport (plan_of script.now)) }
+    ensures cluster { IfOk result (IsClusterReport T.width (plan_of script.now)) }
     ensures stuck { IfErr result (λ fault. fault.cause ≡ cause.Stuck
         → IsStuckByOrderedTurns (plan_of script.now) (ordered_turns_of_seed (plan_of script.now) seed) fault.processor) }
 {
@@ -85,7 +86,7 @@ pub fn step_as_far<R: Wait>(
 ) -> Result<Ended, RunFault>
     requires { IsLawful (plan_of script.now) }
     ensures end { IfOk result (IsEndByOrderedTurns (plan_of script.now) (ordered_turns_of_seed (plan_of script.now) seed)) }
-    ensures cluster { IfOk result (IsClusterEnd (plan_of script.now)) }
+    ensures cluster { IfOk result (IsClusterEnd (lock_choice_width lock.Array) (plan_of script.now)) }
     ensures err { IfErr result (λ fault. fault.cause ≢ cause.Stuck) }
 {
     step_as_far_with::<BookLock, R>(rt, alloc, script, seed)
@@ -101,11 +102,10 @@ pub fn step_as_far_with<T: BookTurn + Drop, R: Wait>(
     requires entries { T.ENTRIES ≤ 2 ^ 40 }
     requires lawful { IsLawful (plan_of script.now) }
     ensures end { IfOk result (IsEndByOrderedTurns (plan_of script.now) (ordered_turns_of_seed (plan_of script.now) seed)) }
-    ensures cluster { IfOk result (IsClusterEnd (plan_of script.now)) }
+    ensures cluster { IfOk result (IsClusterEnd T.width (plan_of script.now)) }
     ensures err { IfErr result (λ fault. fault.cause ≢ cause.Stuck) }
 {
-    let (cluster, mut processors) = run_steps_cluster::<T>(alloc, script)?;
-    let mut all = beginnings(alloc, processors.len())?;
+    let (cluster, mut processors, mut all) = run_steps_start::<T>(alloc, script)?;
     let passed = go_round(rt, alloc, &cluster, &mut processors, &mut all, script, seed)?;
     run_steps_result(rt, alloc, cluster, processors, &all, script, passed)
 }
@@ -122,11 +122,12 @@ fn run_steps_result<T: BookTurn + Drop, R: Wait>(
 ) -> Result<Ended, RunFault>
     requires lawful { IsLawful (plan_of script.now) }
     requires sizes { cluster.sizes ≡ plan_sizes (plan_of script.now) }
+    requires lock { IsClusterLockOf T.width cluster }
     requires way { AreAtRunSteps cluster (plan_of script.now).sections processors.items all.now }
     requires whole { passed ≡ true → All (λ x. x ≡ progress.Passed) all.now }
     requires stuck { passed ≡ false → IsRunTurnDeadlockSeen processors.items }
     ensures end { IfOk result (IsFollowedEndAfter (plan_of script.now) processors.items all.now) }
-    ensures cluster { IfOk result (IsClusterEnd (plan_of script.now)) }
+    ensures cluster { IfOk result (IsClusterEnd T.width (plan_of script.now)) }
     ensures err { IfErr result (λ fault. fault.cause ≢ cause.Stuck) }
 {
     if passed {
@@ -160,6 +161,7 @@ fn run_steps_cluster<T: BookTurn>(
 ) -> Result<(Cluster<T>, Vec<Processor<T>>), RunFault>
     requires { T.ENTRIES ≤ 2 ^ 40 }
     ensures sizes { IfOk result (λ r. r.0.sizes ≡ plan_sizes (plan_of script.now)) }
+    ensures lock { IfOk result (λ r. IsClusterLockOf T.width r.0) }
     ensures new { IfOk result (λ r. IsNewCluster r.0 r.1.items) }
     ensures err { IfErr result (λ fault. fault.cause ≢ cause.Stuck) }
 {
@@ -174,6 +176,24 @@ fn run_steps_cluster<T: BookTurn>(
         Ok(made) => Ok(made),
         Err(refused) => Err(outside(refused)),
     }
+}
+
+/// The script's cluster, and where each processor is at the start.
+fn run_steps_start<T: BookTurn + Drop>(
+    alloc: Global,
+    script: &Script,
+) -> Result<(Cluster<T>, Vec<Processor<T>>, Vec<TurnProgress>), RunFault>
+    requires { T.ENTRIES ≤ 2 ^ 40 }
+    ensures sizes { IfOk result (λ r. r.0.sizes ≡ plan_sizes (plan_of script.now)) }
+    ensures lock { IfOk result (λ r. IsClusterLockOf T.width r.0) }
+    ensures new { IfOk result (λ r. IsNewCluster r.0 r.1.items) }
+    ensures begin { IfOk result (λ r. r.2.items ≡ replicate (length r.1.items) (progress.Next 0)) }
+    ensures way { IfOk result (λ r. AreAtRunSteps r.0 (plan_of script.now).sections r.1.items r.2.items) }
+    ensures err { IfErr result (λ fault. fault.cause ≢ cause.Stuck) }
+{
+    let (cluster, processors) = run_steps_cluster::<T>(alloc, script)?;
+    let all = beginnings(alloc, processors.len())?;
+    Ok((cluster, processors, all))
 }
 
 /// Rounds, until all have passed the closing barrier, or all wait for what can't come any more: whether they have passed.
@@ -206,8 +226,7 @@ fn go_round<T: BookTurn, R: Wait>(
             return Ok(true);
         }
         draw(&mut generator, &mut list);
-        let moved = round(rt, cluster, processors, all, script, &list)?;
-        if is_stuck(rt, cluster, processors, moved)? {
+        if round_in_vain(rt, cluster, processors, all, script, &list)? {
             return Ok(false);
         }
     }
@@ -291,6 +310,29 @@ fn rise(list: &mut [usize])
     for place in 0..list.len() {
         list[place] = place;
     }
+}
+
+/// A round in the order of the list: whether nothing can come any more after it.
+fn round_in_vain<T: BookTurn, R: Wait>(
+    rt: &R,
+    cluster: &Cluster<T>,
+    processors: &mut Vec<Processor<T>>,
+    all: &mut Vec<TurnProgress>,
+    script: &Script,
+    list: &[usize],
+) -> Result<bool, RunFault>
+    requires lawful { IsLawful (plan_of script.now) }
+    requires sizes { cluster.now.sizes ≡ plan_sizes (plan_of script.now) }
+    requires list { AreDrawnOrderProcessors (vec_len processors.old) list.now }
+    requires way { AreAtRunSteps cluster.now (plan_of script.now).sections processors.old.items
+        all.old.items }
+    ensures round { IfOk result (λ _. IsRunTurnRound (plan_of script.now).sections list.now
+        processors.old.items processors.new.items all.old.items all.new.items) }
+    ensures stuck { IfOk result (λ stuck. stuck ≡ true → IsRunTurnDeadlockSeen processors.new.items) }
+    ensures err { IfErr result (λ fault. fault.cause ≢ cause.Stuck) }
+{
+    let moved = round(rt, cluster, processors, all, script, list)?;
+    is_stuck(rt, cluster, processors, moved)
 }
 
 /// A round: each processor of the list has its turn. Answers whether one got on.

@@ -5,6 +5,7 @@ mod GuardedDeeds
 mod LayoutTables
 mod SeatAccess
 mod SeatClosings
+mod SeatFaults
 mod StillSitting
 mod ProgramThreads
 mod ToldFaults

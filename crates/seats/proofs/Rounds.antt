@@ -6,6 +6,7 @@
 -- What a program shows of its own calls. (MakingRounds)
 -- Two grids, one of which each round makes from the other. (GridRounds)
 -- Grids whose words are made one by one. (StencilRounds)
+-- Who may access which words of the grids. (GridLayouts)
 pub mod PhaseAccesses
 pub mod RoundMade
 pub mod RoundSteps
@@ -15,4 +16,5 @@ pub mod GridRounds
 pub mod EvenRounds
 pub mod StencilRounds
 pub mod ClosedLayouts
+pub mod GridLayouts
 pub mod RoundsByPrograms

@@ -1,6 +1,6 @@
 -- What a seat's calls add to what its processor called.
 use Rattle.std.proofs.Common.{ℕ, Bool, true, false, ◌≡◌, inl, inr, Option, Some, None, Result, Ok, Err, OnErr, OnOk, IfOk, List, [], ◌∷◌, ◌++◌, map, filter, refl, sym, ap, subst, ◌∙◌, append_assoc, append-nil}
-use Rattle.std.specs.Prelude.{◌/◌, not, nat_le}
+use Rattle.std.specs.Prelude.{◌/◌, IsOk, not, nat_le}
 use Rattle.std.specs.Result.{result_err}
 use Rattle.std.proofs.lemmas.List.{map-append}
 use Rattle.journal.specs.declared.event.Event.{Event}
@@ -223,3 +223,23 @@ seat_access_page m a page is =
     by false true true full e = absurd (cc)
     by false true false true e = absurd (cc)
     by false true false false e = absurd (cc)
+
+-- what nothing is against is answered
+pub seat_access_answered : {A : Type 0} (m : Local) (a : ℕ) (r : Result A Refused) → result_err r ≡ processor_refusal_of_access m a
+    → processor_refusal_of_access m a ≡ None → IsOk r
+seat_access_answered m a (Ok x) is none = refl
+seat_access_answered m a (Err e) is none = let some : Some e ≡ None = is ∙ none in absurd (cc)
+
+-- a processor that waits may make no access
+pub seat_access_waits : (m : Local) (a : ℕ) → processor_refusal_is_waiting m ≡ true → processor_refusal_of_access m a ≡ None → ⊥
+seat_access_waits m a waits none =
+    by (nat_le (addresses m.sizes) a) (processor_refusal_has_valid m (a / m.sizes.words)) (processor_refusal_block_full m)
+    (subst (λ w. first_processor_refusal_due ((nat_le (addresses m.sizes) a, OutOfRange)
+    ∷ (not (processor_refusal_has_valid m (a / m.sizes.words)), Invalid (a / m.sizes.words)) ∷ (w, Waiting)
+    ∷ (processor_refusal_block_full m, BlockFull) ∷ []) ≡ None) waits none)
+  where
+    by : (past valid full : Bool) → first_processor_refusal_due ((past, OutOfRange) ∷ (not valid, Invalid (a / m.sizes.words))
+        ∷ (true, Waiting) ∷ (full, BlockFull) ∷ []) ≡ None → ⊥
+    by true valid full e = cc
+    by false false full e = cc
+    by false true full e = cc

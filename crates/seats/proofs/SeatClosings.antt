@@ -181,10 +181,14 @@ module _ {A : Type 0} (test : Option Refused) (k : Kind) (l m : Local) (r : Resu
   seat_closing_left_by n (Ok y) none = tt
   seat_closing_left_by n (Err e) still = inr (seat_closing_begun n still)
 
+  pub seat_closing_begun_by : {B E : Type 0} (n : Local) (q : Result B E) → OnErr q (SeatCallWaitsStill m n) → OnErr q (IsSeatCallBegun l n k)
+  seat_closing_begun_by n (Ok y) none = tt
+  seat_closing_begun_by n (Err e) still = seat_closing_begun n still
+
   -- what was made wasn't refused at once
-  pub seat_closing_not_at_once : {P : Type 0} (e : Refused) → test ≡ Some e → P
+  pub seat_closing_not_at_once : {P : Type 0} (e : Refused) → processor_refusal_or_spent test l ≡ Some e → P
   seat_closing_not_at_once e due =
-      let out : result_err r ≡ Some e = (call.outside e (ap (λ o. processor_refusal_or_spent o l) due)).0 in
+      let out : result_err r ≡ Some e = (call.outside e due).0 in
       let none : result_err r ≡ None = rw is refl in
       absurd (let some : None ≡ Some e = sym none ∙ out in cc)
 
@@ -195,10 +199,10 @@ module _ {A : Type 0} (test : Option Refused) (k : Kind) (l m : Local) (r : Resu
   seat_closing_undone = seat_access_undone_refused l m e (subst (λ (y : Result A Refused). IsClosingCall test k l m (result_err y)) is call)
 
   -- for the reason that is due at once, if there is one
-  pub seat_closing_refused_at_once : {B : Type 0} (d : Refused) (q : Result B SeatFault) → q ≡ Err (fault.Refused e) → test ≡ Some d
-      → (q ≡ Err (fault.Refused d)) × (m ≡ l)
+  pub seat_closing_refused_at_once : {B : Type 0} (d : Refused) (q : Result B SeatFault) → q ≡ Err (fault.Refused e)
+      → processor_refusal_or_spent test l ≡ Some d → (q ≡ Err (fault.Refused d)) × (m ≡ l)
   seat_closing_refused_at_once d q answers due =
-      let out = call.outside d (ap (λ o. processor_refusal_or_spent o l) due) in
+      let out = call.outside d due in
       let some : result_err r ≡ Some e = rw is refl in
       let same : e ≡ d = same_Some e d (sym some ∙ out.0) in
       (answers ∙ ap (λ x. Err (fault.Refused x)) same, out.1)

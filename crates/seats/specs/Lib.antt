@@ -2,6 +2,7 @@ pub mod Acting
 pub mod BalanceFacts
 pub mod Deeds
 pub mod GridPairs
+pub mod GridPairLayouts
 pub mod GuardedRuns
 pub mod PhaseGuards
 pub mod KeptLayout
@@ -11,6 +12,7 @@ pub mod Prelude
 pub mod ProgramRuns
 pub mod Rounds
 pub mod SeatCalls
+pub mod SeatCallFaults
 pub mod Sitting
 pub mod Stencils
 pub mod Tables

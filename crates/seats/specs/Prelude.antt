@@ -19,3 +19,6 @@ pub use Rattle.seats.specs.Rounds.{HasMadeRounds, RoundsLaw}
 pub use Rattle.seats.specs.Stencils.{IsStencilBlockMade, HasStencilLoads, StencilSteps, stencil_after, stencil_rounds, stencil_word}
 pub use Rattle.seats.specs.Tenures.{IsBetweenTenures, KeptFact, TenuresKeepLaw, TenuresReadLaw, tenure_of_lock}
 pub use Rattle.seats.specs.WordTallies.{WordTallyLaw, AddsUpTo, word_tally_adding}
+pub use Rattle.seats.specs.SeatCallFaults.{IsSeatCallFault, IsSeatCallWaitFault, IsSeatCallWaitTold}
+pub use Rattle.cluster.specs.ProcessorRefusals.{processor_refusal_of_access, processor_refusal_or_spent}
+pub use Rattle.seats.specs.GridPairLayouts.{IsGridPairLayout, IsGridPairRoundPut}

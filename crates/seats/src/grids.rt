@@ -1,6 +1,6 @@
 //! Two grids, of which each round makes one from the other.
-ghost use Rattle.std.specs.Prelude.{◌≡◌, IfOk};
-ghost use Rattle.seats.specs.Prelude.{TablesOpenNothing, grid_pair_block_end, grid_pair_block_start, grid_pair_made, grid_pair_read};
+ghost use Rattle.std.specs.Prelude.{◌≡◌, ◌+◌, ◌^◌, ◌<◌, IfOk};
+ghost use Rattle.seats.specs.Prelude.{IsGridPairLayout, IsGridPairRoundPut, TablesOpenNothing, grid_pair_block_end, grid_pair_block_start, grid_pair_made, grid_pair_read};
 
 use crate::guard::Guard;
 use crate::layout::Layout;
@@ -47,9 +47,10 @@ impl Grids {
     }
 
     /// The layout by which each processor may store to its block of the grid that a round makes, and all may load the other
-    /// grid. No word of it is open to all. The only error is running out of memory.
+    /// grid. What is in no block is processor 0's. No word is open to all. The only error is running out of memory.
     pub fn layout(self, alloc: Global, processors: usize) -> Result<Layout, AllocError>
-        ensures { IfOk result TablesOpenNothing }
+        ensures closed { IfOk result TablesOpenNothing }
+        ensures owns { IfOk result (IsGridPairLayout self.cells self.share processors) }
     {
         let words = self.cells.checked_mul(2).ok_or(AllocError)?;
         let mut layout = Layout::new(alloc, words, 0, 2)?;
@@ -60,7 +61,9 @@ impl Grids {
 
     /// The guards of a round, in its table.
     fn put_round(self, layout: &mut Layout, round: usize, processors: usize)
-        ensures { TablesOpenNothing layout.old → TablesOpenNothing layout.new }
+        requires { self.cells + self.cells < 2 ^ 64 }
+        ensures closed { TablesOpenNothing layout.old → TablesOpenNothing layout.new }
+        ensures put { IsGridPairRoundPut self.cells self.share round processors layout.old layout.new }
     {
         let (read, made) = (self.read(round), self.made(round));
         layout.put(round, read, read.saturating_add(self.cells), Guard::Shared);

@@ -35,8 +35,6 @@ mod seat_closings;
 mod seat_words;
 mod sitting;
 mod stencil;
-#[cfg(test)]
-mod tests;
 mod word;
 mod word_access;
 

@@ -1,9 +1,10 @@
 //! Seats.
-ghost use Rattle.std.specs.Prelude.{◌≡◌, ◌/◌, ◌∷◌, [], Err, IfOk, OnErr, OnOk, Some, false, true, slice_index_or};
+ghost use Rattle.std.specs.Prelude.{◌≡◌, ◌/◌, ◌∷◌, [], Err, IfErr, IfOk, IsOk, None, OnErr, OnOk, Some, false, true, slice_index_or};
 ghost use Rattle.book.specs.declared.refused.Refused.{Refused as ARefusal};
 ghost use Rattle.journal.specs.declared.event.Kind.TheVariants as kind;
 ghost use Rattle.cluster.specs.Prelude.{processor_refusal_of_arrival, processor_refusal_of_ask, processor_refusal_of_flag, processor_refusal_of_release};
 ghost use Rattle.seats.specs.Prelude.{AccessesPage, HasDone, IsLeftUndone, IsSitting, kept_layout_lets_access, new_sitting_processor, seat_call_refusal_at_once, seat_deeds};
+ghost use Rattle.seats.specs.Prelude.{IsSeatCallFault, processor_refusal_of_access, processor_refusal_or_spent};
 ghost use Rattle.seats.specs.PhaseGuards.{KeepsToPhaseGuards};
 ghost use Rattle.seats.specs.Tables.{guards_of};
 ghost use Rattle.seats.specs.declared.fault.SeatFault.TheVariants as fault;
@@ -118,7 +119,7 @@ impl<'a, S: Sitting> Seat<'a, S> {
     /// The first of these that applies, with nothing done: [`NotAllowed`](SeatFault::NotAllowed) exactly if the layout doesn't
     /// let it; refused as [`Waiting`](cluster::Refused::Waiting) if an earlier call left it waiting,
     /// [`OutOfRange`](cluster::Refused::OutOfRange) past the last address. After any other fault that fetch alone was made, if
-    /// any.
+    /// any. It succeeds if the copy is valid and the block has room; else what others did decides.
     pub fn load(&mut self, address: usize) -> Result<u32, SeatFault>
         ensures ok { IfOk result (λ v. AccessesPage self.old self.new (address / self.old.sizes.words)
             (kind.Load address v ∷ [])) }
@@ -127,6 +128,8 @@ impl<'a, S: Sitting> Seat<'a, S> {
             → (result ≡ Err (fault.NotAllowed address)) × (self.new ≡ self.old) }
         ensures outside { (e : ARefusal) → kept_layout_lets_access S.at self.old address false ≡ true
             → seat_call_refusal_at_once self.old address ≡ Some e → (result ≡ Err (fault.Refused e)) × (self.new ≡ self.old) }
+        ensures fits { kept_layout_lets_access S.at self.old address false ≡ true → processor_refusal_of_access self.old address ≡ None
+            → IsOk result }
     {
         if !self.may_access(address, false) {
             return Err(SeatFault::NotAllowed(address));
@@ -153,6 +156,8 @@ impl<'a, S: Sitting> Seat<'a, S> {
             → (result ≡ Err (fault.NotAllowed address)) × (self.new ≡ self.old) }
         ensures outside { (e : ARefusal) → kept_layout_lets_access S.at self.old address true ≡ true
             → seat_call_refusal_at_once self.old address ≡ Some e → (result ≡ Err (fault.Refused e)) × (self.new ≡ self.old) }
+        ensures fits { kept_layout_lets_access S.at self.old address true ≡ true → processor_refusal_of_access self.old address ≡ None
+            → IsOk result }
     {
         if !self.may_access(address, true) {
             return Err(SeatFault::NotAllowed(address));
@@ -172,13 +177,18 @@ impl<'a, S: Sitting> Seat<'a, S> {
     /// Acquires the lock, for which it waits.
     ///
     /// The first of these that applies, with nothing done: refused as [`BadLock`](cluster::Refused::BadLock) past the last
-    /// lock, [`Waiting`](cluster::Refused::Waiting), [`AlreadyHeld`](cluster::Refused::AlreadyHeld). After any other fault
-    /// nothing was done, or it has asked and waits still.
+    /// lock, [`Waiting`](cluster::Refused::Waiting), [`AlreadyHeld`](cluster::Refused::AlreadyHeld),
+    /// [`SeatSpent`](cluster::Refused::SeatSpent). Else nothing was done and the journal is full
+    /// ([`JournalFull`](cluster::Refused::JournalFull)) or no memory was to be had
+    /// ([`NoMemory`](cluster::Refused::NoMemory)); or it has asked and waits still: for one of these three reasons,
+    /// [`Stuck`](SeatFault::Stuck) in a deadlock, or [`Deserted`](SeatFault::Deserted) while what it awaits hasn't come. Other
+    /// processors decide which of these comes, if any.
     pub fn lock(&mut self, lock: usize) -> Result<(), SeatFault>
         ensures ok { OnOk result (HasDone self.old self.new (kind.Ask lock ∷ kind.Acquire lock ∷ [])) }
         ensures err { OnErr result (IsLeftUndone self.old self.new (kind.Ask lock)) }
-        ensures outside { (e : ARefusal) → processor_refusal_of_ask self.old lock ≡ Some e
+        ensures outside { (e : ARefusal) → processor_refusal_or_spent (processor_refusal_of_ask self.old lock) self.old ≡ Some e
             → (result ≡ Err (fault.Refused e)) × (self.new ≡ self.old) }
+        ensures fault { IfErr result (IsSeatCallFault self.old self.new (kind.Ask lock)) }
     {
         pass(
             self.rt,
@@ -188,13 +198,14 @@ impl<'a, S: Sitting> Seat<'a, S> {
         )
     }
 
-    /// Releases the lock. Refused as [`lock`](Seat::lock) is, with [`NotHeld`](cluster::Refused::NotHeld) in the place of
-    /// `AlreadyHeld`. After any fault nothing was done.
+    /// Releases the lock. Refused as [`lock`](Seat::lock) is before it asks, with [`NotHeld`](cluster::Refused::NotHeld) in the
+    /// place of `AlreadyHeld`. After any fault nothing was done.
     pub fn unlock(&mut self, lock: usize) -> Result<(), SeatFault>
         ensures ok { OnOk result (HasDone self.old self.new (kind.Release lock ∷ [])) }
         ensures err { OnErr result (IsLeftUndone self.old self.new (kind.Release lock)) }
-        ensures outside { (e : ARefusal) → processor_refusal_of_release self.old lock ≡ Some e
+        ensures outside { (e : ARefusal) → processor_refusal_or_spent (processor_refusal_of_release self.old lock) self.old ≡ Some e
             → (result ≡ Err (fault.Refused e)) × (self.new ≡ self.old) }
+        ensures fault { IfErr result (IsSeatCallFault self.old self.new (kind.Release lock)) }
     {
         pass(
             self.rt,
@@ -205,13 +216,14 @@ impl<'a, S: Sitting> Seat<'a, S> {
     }
 
     /// Passes the barrier, where it waits until all have come. What any of them stored before, all know of after it.
-    /// Refused as [`Waiting`](cluster::Refused::Waiting) with nothing done. After any other fault nothing was done, or it
-    /// has arrived and waits still.
+    /// Refused with nothing done as [`Waiting`](cluster::Refused::Waiting) and then as [`lock`](Seat::lock) is from
+    /// `SeatSpent` on; or it has arrived and waits still, for the reasons that are told there.
     pub fn barrier(&mut self) -> Result<(), SeatFault>
         ensures ok { OnOk result (HasDone self.old self.new (kind.Arrive ∷ kind.Depart ∷ [])) }
         ensures err { OnErr result (IsLeftUndone self.old self.new kind.Arrive) }
-        ensures outside { (e : ARefusal) → processor_refusal_of_arrival self.old ≡ Some e
+        ensures outside { (e : ARefusal) → processor_refusal_or_spent (processor_refusal_of_arrival self.old) self.old ≡ Some e
             → (result ≡ Err (fault.Refused e)) × (self.new ≡ self.old) }
+        ensures fault { IfErr result (IsSeatCallFault self.old self.new kind.Arrive) }
     {
         pass(self.rt, self.cluster, &mut self.processor, Closing::Arrive)?;
         self.table = self.layout.next(self.table);
@@ -219,13 +231,14 @@ impl<'a, S: Sitting> Seat<'a, S> {
     }
 
     /// Sets the flag, which stays set. The first of these that applies, with nothing done: refused as
-    /// [`BadFlag`](cluster::Refused::BadFlag) past the last flag, [`Waiting`](cluster::Refused::Waiting). After any other
-    /// fault nothing was done, either.
+    /// [`BadFlag`](cluster::Refused::BadFlag) past the last flag, [`Waiting`](cluster::Refused::Waiting), and then as
+    /// [`lock`](Seat::lock) is from `SeatSpent` on. After any fault nothing was done.
     pub fn set(&mut self, flag: usize) -> Result<(), SeatFault>
         ensures ok { OnOk result (HasDone self.old self.new (kind.Set flag ∷ [])) }
         ensures err { OnErr result (IsLeftUndone self.old self.new (kind.Set flag)) }
-        ensures outside { (e : ARefusal) → processor_refusal_of_flag self.old flag ≡ Some e
+        ensures outside { (e : ARefusal) → processor_refusal_or_spent (processor_refusal_of_flag self.old flag) self.old ≡ Some e
             → (result ≡ Err (fault.Refused e)) × (self.new ≡ self.old) }
+        ensures fault { IfErr result (IsSeatCallFault self.old self.new (kind.Set flag)) }
     {
         pass(
             self.rt,
@@ -235,13 +248,14 @@ impl<'a, S: Sitting> Seat<'a, S> {
         )
     }
 
-    /// Waits until the flag is set. What was stored before it was set is known after this. Refused as [`set`](Seat::set) is.
-    /// After any other fault nothing was done, or it watches and waits still.
+    /// Waits until the flag is set. What was stored before it was set is known after this. Refused as [`set`](Seat::set) is; or
+    /// it watches and waits still, for the reasons that [`lock`](Seat::lock) tells.
     pub fn await_flag(&mut self, flag: usize) -> Result<(), SeatFault>
         ensures ok { OnOk result (HasDone self.old self.new (kind.Watch flag ∷ kind.Await flag ∷ [])) }
         ensures err { OnErr result (IsLeftUndone self.old self.new (kind.Watch flag)) }
-        ensures outside { (e : ARefusal) → processor_refusal_of_flag self.old flag ≡ Some e
+        ensures outside { (e : ARefusal) → processor_refusal_or_spent (processor_refusal_of_flag self.old flag) self.old ≡ Some e
             → (result ≡ Err (fault.Refused e)) × (self.new ≡ self.old) }
+        ensures fault { IfErr result (IsSeatCallFault self.old self.new (kind.Watch flag)) }
     {
         pass(
             self.rt,

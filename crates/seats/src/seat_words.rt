@@ -1,10 +1,10 @@
 //! What is made of a seat's calls: words that are added to, many words, and words as values of other types.
-ghost use Rattle.std.specs.Prelude.{◌≡◌, ◌+◌, ◌-◌, ◌/◌, ◌∷◌, ◌++◌, ◌==◌, [], ℕ, List, Err, IfOk, None, OnErr, OnOk, Some, true, false, if◌then◌else◌, length, vec_len};
+ghost use Rattle.std.specs.Prelude.{◌≡◌, ◌+◌, ◌-◌, ◌/◌, ◌∷◌, ◌++◌, ◌==◌, [], ℕ, List, Err, IfOk, IsOk, None, OnErr, OnOk, Some, true, false, if◌then◌else◌, length, vec_len};
 ghost use Rattle.book.specs.declared.refused.Refused.{Refused as ARefusal};
 ghost use Rattle.journal.specs.declared.event.Kind.TheVariants as kind;
 ghost use Rattle.cluster.specs.Prelude.{processor_refusal_of_ask};
 ghost use Rattle.seats.specs.Prelude.{AccessesPage, AddsUpTo, HasActed, HasActedInPart, HasFoundKept, HasSummed, HasWeighed, IsBetweenTenures, KeepsBalanceFact};
-ghost use Rattle.seats.specs.Prelude.{word_tally_adding, balance_fact_adds_two, balance_fact, loads_at, acting_loads_from, kept_layout_lets_access, seat_call_refusal_at_once, seat_deeds, tenure_of_lock};
+ghost use Rattle.seats.specs.Prelude.{word_tally_adding, balance_fact_adds_two, balance_fact, loads_at, acting_loads_from, kept_layout_lets_access, seat_call_refusal_at_once, seat_deeds, tenure_of_lock, processor_refusal_of_access, processor_refusal_or_spent};
 ghost use Rattle.seats.specs.declared.fault.SeatFault.TheVariants as fault;
 
 use crate::fault::SeatFault;
@@ -48,7 +48,7 @@ impl<'a, S: Sitting> Seat<'a, S> {
         ensures idle { OnOk result (self.new.awaits ≡ None) }
         ensures sum { OnOk result ((l a n : ℕ) → AddsUpTo l a n (seat_deeds self.old)
             → AddsUpTo l a (n + (if address == a then number else 0)) (seat_deeds self.new)) }
-        ensures outside { (e : ARefusal) → processor_refusal_of_ask self.old lock ≡ Some e
+        ensures outside { (e : ARefusal) → processor_refusal_or_spent (processor_refusal_of_ask self.old lock) self.old ≡ Some e
             → (result ≡ Err (fault.Refused e)) × (self.new ≡ self.old) }
     {
         self.lock(lock)?;
@@ -78,7 +78,7 @@ impl<'a, S: Sitting> Seat<'a, S> {
         ensures balance { OnOk result ((left right : List ℕ) → KeepsBalanceFact left right first.0 first.1 second.0 second.1
             → IsBetweenTenures (balance_fact lock left right) (seat_deeds self.old)
             → IsBetweenTenures (balance_fact lock left right) (seat_deeds self.new)) }
-        ensures outside { (e : ARefusal) → processor_refusal_of_ask self.old lock ≡ Some e
+        ensures outside { (e : ARefusal) → processor_refusal_or_spent (processor_refusal_of_ask self.old lock) self.old ≡ Some e
             → (result ≡ Err (fault.Refused e)) × (self.new ≡ self.old) }
     {
         self.lock(lock)?;
@@ -143,7 +143,7 @@ impl<'a, S: Sitting> Seat<'a, S> {
         ensures sum { OnOk result ((l a n : ℕ) → AddsUpTo l a n (seat_deeds self.old) → AddsUpTo l a n (seat_deeds self.new)) }
         ensures balance { IfOk result (λ even. IsBetweenTenures (balance_fact lock left.now right.now) (seat_deeds self.old)
             → HasFoundKept (balance_fact lock left.now right.now) self.new even) }
-        ensures outside { (e : ARefusal) → processor_refusal_of_ask self.old lock ≡ Some e
+        ensures outside { (e : ARefusal) → processor_refusal_or_spent (processor_refusal_of_ask self.old lock) self.old ≡ Some e
             → (result ≡ Err (fault.Refused e)) × (self.new ≡ self.old) }
     {
         self.lock(lock)?;
@@ -162,6 +162,8 @@ impl<'a, S: Sitting> Seat<'a, S> {
             → (result ≡ Err (fault.NotAllowed address)) × (self.new ≡ self.old) }
         ensures outside { (e : ARefusal) → kept_layout_lets_access S.at self.old address false ≡ true
             → seat_call_refusal_at_once self.old address ≡ Some e → (result ≡ Err (fault.Refused e)) × (self.new ≡ self.old) }
+        ensures fits { kept_layout_lets_access S.at self.old address false ≡ true → processor_refusal_of_access self.old address ≡ None
+            → IsOk result }
     {
         match self.load(address) {
             Ok(word) => Ok(T::of_word(word)),
@@ -178,6 +180,8 @@ impl<'a, S: Sitting> Seat<'a, S> {
             → (result ≡ Err (fault.NotAllowed address)) × (self.new ≡ self.old) }
         ensures outside { (e : ARefusal) → kept_layout_lets_access S.at self.old address true ≡ true
             → seat_call_refusal_at_once self.old address ≡ Some e → (result ≡ Err (fault.Refused e)) × (self.new ≡ self.old) }
+        ensures fits { kept_layout_lets_access S.at self.old address true ≡ true → processor_refusal_of_access self.old address ≡ None
+            → IsOk result }
     {
         self.store(address, value.to_word())
     }

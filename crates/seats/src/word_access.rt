@@ -1,5 +1,5 @@
 //! Loads and stores that fetch a stale copy, and hand in a full block.
-ghost use Rattle.std.specs.Prelude.{◌≡◌, ◌/◌, OnErr, Some};
+ghost use Rattle.std.specs.Prelude.{◌≡◌, ◌/◌, IsOk, None, OnErr, Some};
 ghost use Rattle.std.specs.Result.{result_err};
 ghost use Rattle.book.specs.declared.refused.Refused.{Refused as ARefusal};
 ghost use Rattle.cluster.specs.Prelude.{HasCoverage, processor_refusal_of_access};
@@ -32,6 +32,7 @@ pub(crate) fn access_word<R: Wait>(
     ensures done { SeatCallAccessesBy processor.old processor.new (address / processor.old.sizes.words) access address result }
     ensures outside { (e : ARefusal) → seat_call_refusal_at_once processor.old address ≡ Some e
         → (result_err result ≡ Some e) × (processor.new ≡ processor.old) }
+    ensures fits { processor_refusal_of_access processor.old address ≡ None → IsOk result }
 {
     if processor.waiting() {
         return Err(Refused::Waiting);

@@ -21,6 +21,14 @@ pub record IsBoard (width : ℕ) (shows : List ℕ → ℕ → Type 0) (at : ℕ
 abbrev pub board_line_words : ℕ
 board_line_words = 8
 
+-- how many words the ticket lock has: the next number, and a line behind it the number that is served
+abbrev pub counting_board_width : ℕ → ℕ
+counting_board_width n = board_line_words + 1
+
+-- how many words the array lock has for n chairs: a line for the next number, and one for each chair
+abbrev pub pointing_board_width : ℕ → ℕ
+pointing_board_width n = (n + 1) * board_line_words
+
 -- one word for all: it is the number that is let in
 abbrev pub CountingBoardLetsIn : List ℕ → ℕ → Type 0
 CountingBoardLetsIn words k = (length words ≡ board_line_words + 1) × (slice_index words board_line_words ≡ k)

@@ -1,7 +1,7 @@
 //! The boards on which the locks show whose turn it is.
 ghost use Rattle.std.specs.Prelude.{◌≡◌, ℕ, List, ◌+◌, ◌*◌, ◌%◌, ◌^◌, ◌<◌, ◌≤◌, length, slice_index, IfOk};
 ghost use Rattle.atomic_table.specs.Table.{Me, Allows};
-ghost use Rattle.turn.specs.Boards.{IsBoard, CountingBoardLetsIn, PointingBoardLetsIn, board_line_words, board_own_word};
+ghost use Rattle.turn.specs.Boards.{IsBoard, CountingBoardLetsIn, PointingBoardLetsIn, board_line_words, board_own_word, counting_board_width, pointing_board_width};
 
 use atomic_table::{Play, Seat, Shared, TableRule};
 use std::alloc::{AllocError, Global};
@@ -110,7 +110,7 @@ pub struct TicketBoard;
 const SERVING: usize = LINE;
 
 impl Board for TicketBoard {
-    ghost width = { λ _. board_line_words + 1 };
+    ghost width = { counting_board_width };
 
     ghost at = { λ _ _. board_line_words };
 
@@ -142,7 +142,7 @@ impl Board for TicketBoard {
 pub struct ArrayBoard;
 
 impl Board for ArrayBoard {
-    ghost width = { λ n. (n + 1) * board_line_words };
+    ghost width = { pointing_board_width };
 
     ghost at = { board_own_word };
 

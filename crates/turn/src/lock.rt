@@ -1,6 +1,7 @@
 //! The lock: one text for both boards.
-ghost use Rattle.std.specs.Prelude.{◌≡◌, ℕ, ◌+◌, ◌^◌, ◌<◌, ◌≤◌, true, [], ◌∷◌, map, length, vec_capacity, None, Some};
+ghost use Rattle.std.specs.Prelude.{◌≡◌, ℕ, ◌+◌, ◌*◌, ◌^◌, ◌<◌, ◌≤◌, true, [], ◌∷◌, map, length, replicate, vec_capacity, IfOk, None, Some};
 ghost use Rattle.std.specs.Prelude.{refl};
+ghost use Rattle.std.proofs.Common.{◌∙◌};
 ghost use Rattle.std.specs.Bool.{OnTrue, OnFalse};
 ghost use Rattle.turn.specs.declared.chair.ChairStage.TheVariants.{Outside, Waiting, Inside};
 
@@ -136,6 +137,15 @@ type LockSeat<B, V> = Seat<Option<B>, ChairRun<ChairState<B, V>>>;
 /// The next number to draw.
 const NEXT: usize = 0;
 
+// The one slot of a table, with the book in it.
+fn slot_with<B: Drop>(alloc: Global, book: B) -> Result<Vec<Option<B>>, AllocError>
+    ensures { IfOk result (λ slots. slots.items ≡ Some book ∷ []) }
+{
+    let mut slots = Vec::with_capacity(alloc, 1)?;
+    slots.push_reserved(Some(book));
+    Ok(slots)
+}
+
 /// A lock whose chairs draw numbers, and enter in the order of their numbers, on the board `W`.
 pub struct TurnLock<B, K: Keeper<B>, W: Board, const ENTRIES: u64> {
     table: Table<Option<B>, ChairRun<ChairState<B, K::View>>, Terms<B>, TicketRule<K, W>, Global>,
@@ -155,6 +165,12 @@ impl<B, K: Keeper<B>, W: Board, const ENTRIES: u64> TurnLock<B, K, W, ENTRIES> {
     ghost use Rattle.turn.specs.SeatSteps.{fresh_stepping_seat_run, stepping_seat_with, stepping_seat_at_stage, IsSteppingSeatAtStage, SeatStepsIn};
     ghost use Rattle.turn.specs.ChairRuns.{chairs_of_run};
     ghost use Rattle.turn.specs.Chairs.{chair_lock_id, chair_state_of, AreUnusedChairs, AreChairsInOrder, ChairStands, ChairMayConfer, ChairMayHandIn};
+
+    /// How often a chair has looked awake in vain since the lock was made, and then slept or was about to. A chair that
+    /// finds the lock free adds none.
+    pub fn sleeps(&self) -> u64 {
+        self.sleepers.ever()
+    }
 
     // The step 'draw': one addition to the next number. The chair waits with the number found.
     fn draw(&self, seat: &mut LockSeat<B, K::View>) -> u64
@@ -332,6 +348,44 @@ impl<B, K: Keeper<B>, W: Board, const ENTRIES: u64> TurnLock<B, K, W, ENTRIES> {
         }
     }
 
+    // A lock over the book, and the seat that has all its places.
+    fn open(
+        alloc: Global,
+        book: B,
+        seats: usize,
+    ) -> Result<(Self, LockSeat<B, K::View>), AllocError>
+    where
+        B: Drop,
+        requires some { 1 ≤ seats }
+        requires room { seats * ENTRIES < 2 ^ 64 }
+        requires fact { K.fact book (replicate seats (K.first book)) }
+        ensures own { IfOk result (λ r. r.1.table_id ≡ r.0.table.shared.table_id) }
+        ensures seats { IfOk result (λ r. r.0.layout.seats ≡ seats) }
+        ensures book { IfOk result (λ r. r.0.table.shared.key.book.value ≡ book) }
+        ensures whole { IfOk result (λ r. r.1.me
+            ≡ (fresh_stepping_seat_run (K.first r.0.table.shared.key.book.value) 0 r.0.layout.seats, [])) }
+    {
+        let words = W::words(alloc, seats)?;
+        let layout = BoardLayout::new(seats, words.len());
+        let terms = Terms {
+            seats,
+            entries: ENTRIES,
+            book: Snapshot::of(&book),
+        };
+        let slots = slot_with(alloc, book)?;
+        match Table::new(alloc, words.as_slice(), slots, &terms) {
+            Ok((table, rest)) => Ok((
+                TurnLock {
+                    table,
+                    layout,
+                    sleepers: Sleepers::none(),
+                },
+                rest,
+            )),
+            Err(_) => Err(AllocError),
+        }
+    }
+
     // Gives each place of the lock to a chair of its own.
     fn deal(&self, mut rest: LockSeat<B, K::View>, mut chairs: Vec<Chair<B, K>>) -> Vec<Chair<B, K>>
         requires own { rest.table_id ≡ self.now.table.shared.table_id }
@@ -386,28 +440,14 @@ impl<B: Send, K: Keeper<B>, W: Board + Sync, const ENTRIES: u64> Turn<B, K>
 
     ghost size = { λ l. l.layout.seats };
 
+    ghost width = { W.width };
+
     fn new(alloc: Global, book: B, seats: usize) -> Result<(Self, Vec<Chair<B, K>>), AllocError>
     where
         B: Drop,
     {
         let chairs = Vec::with_capacity(alloc, seats)?;
-        let words = W::words(alloc, seats)?;
-        let layout = BoardLayout::new(seats, words.len());
-        let mut slots = Vec::with_capacity(alloc, 1)?;
-        let terms = Terms {
-            seats,
-            entries: ENTRIES,
-            book: Snapshot::of(&book),
-        };
-        slots.push_reserved(Some(book));
-        let Ok((table, rest)) = Table::new(alloc, words.as_slice(), slots, &terms) else {
-            return Err(AllocError);
-        };
-        let lock = TurnLock {
-            table,
-            layout,
-            sleepers: Sleepers::none(),
-        };
+        let (lock, rest) = Self::open(alloc, book, seats)?;
         let chairs = lock.deal(rest, chairs);
         Ok((lock, chairs))
     }
@@ -451,6 +491,8 @@ impl<B: Send, K: Keeper<B>, W: Board + Sync, const ENTRIES: u64> Turn<B, K>
     }
 
     ghost limits = { λ _. refl };
+
+    ghost wide = { λ l. l.wide.0 ∙ l.layout.wide };
 }
 
 impl<B: Drop, K: Keeper<B>, W: Board, const ENTRIES: u64> Drop for TurnLock<B, K, W, ENTRIES> {

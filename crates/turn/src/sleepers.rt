@@ -26,17 +26,21 @@ pub(crate) const LOOKS_AWAKE: u32 = 128;
 #[derive(Drop)]
 pub struct Sleepers {
     count: CachePadded<AtomicU64>,
+    // How often one more did, in all.
+    ever: AtomicU64,
 }
 
 impl Sleepers {
     pub(crate) fn none() -> Sleepers {
         Sleepers {
             count: CachePadded::new(AtomicU64::new(0)),
+            ever: AtomicU64::new(0),
         }
     }
 
     // One more sleeps, or is about to.
     pub(crate) fn count_sleeper(&self) {
+        self.ever.fetch_add(1, SeqCst);
         self.count.fetch_add(1, SeqCst);
     }
 
@@ -47,6 +51,10 @@ impl Sleepers {
 
     pub(crate) fn number(&self) -> u64 {
         self.count.load(SeqCst)
+    }
+
+    pub(crate) fn ever(&self) -> u64 {
+        self.ever.load(SeqCst)
     }
 }
 

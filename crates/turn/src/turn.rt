@@ -62,6 +62,9 @@ pub trait Turn<B, K: Keeper<B>>: Sized + Sync {
     // How many chairs it has.
     ghost size: { Self → ℕ };
 
+    // How many words the table of such a lock has, by its chairs. It tells one kind of lock from another.
+    ghost width: { ℕ → ℕ };
+
     /// A lock with `seats` chairs, in the order of their places. If memory runs out the book is dropped.
     fn new(alloc: Global, book: B, seats: usize) -> Result<(Self, Vec<Chair<B, K>>), AllocError>
     where
@@ -117,4 +120,7 @@ pub trait Turn<B, K: Keeper<B>>: Sized + Sync {
 
     // How many times a chair of the lock may enter.
     ghost limits: { (l : Self) → (id l).limit ≡ ENTRIES };
+
+    // A lock is of its kind.
+    ghost wide: { (l : Self) → (id l).table.words ≡ width (size l) };
 }

@@ -1,5 +1,5 @@
 //! All processors by turns on one thread, by turns that are drawn.
-ghost use Rattle.std.specs.Prelude.{◌≡◌, ◌≢◌, ◌<◌, ◌≤◌, ◌^◌, ◌++◌, ◌∷◌, [], IfErr, IfOk, IfSome, List, OnOk, false, length, slice_index_or, true, vec_len, ℕ};
+ghost use Rattle.std.specs.Prelude.{◌≡◌, ◌≢◌, ◌<◌, ◌≤◌, ◌^◌, ◌++◌, ◌∷◌, [], All, IfErr, IfOk, IfSome, List, OnOk, false, length, slice_index_or, true, vec_len, ℕ};
 ghost use Rattle.lrc_script.specs.Prelude.{IsLawful, plan_of};
 ghost use Rattle.lrc_script.specs.declared.script.Instruction.{Instruction as AnInstruction};
 ghost use Rattle.conformance.specs.declared.cause.Cause.TheVariants as cause;
@@ -7,10 +7,13 @@ ghost use Rattle.conformance.specs.Prelude.{HasArrivedAtDrawnEnd, IsEndByOrdered
 ghost use Rattle.conformance.specs.declared.progress.TurnProgress.{TurnProgress as AProgress};
 ghost use Rattle.cluster.specs.Copies.Prelude.{Local};
 ghost use Rattle.lrc_run.specs.Prelude.{AreAtRunSteps, AreDrawnOrderProcessors, AreRunTurnsTaken, HasDrawnNoTurn, HasDrawnTurn, HaveArrivedAtRunSteps, HaveWandered, IsClusterEnd};
-ghost use Rattle.lrc_run.specs.Prelude.{drawn_order_chosen, drawn_order_tried, pace_drawing};
+ghost use Rattle.lrc_run.specs.Prelude.{drawn_order_chosen, drawn_order_tried, lock_choice_width, pace_drawing};
+ghost use Rattle.lrc_run.specs.Prelude.{HaveGoneOnAfterWandering, IsRunTurnDeadlockSeen};
+ghost use Rattle.conformance.specs.declared.script_runner.LockChoice.TheVariants as lock;
+ghost use Rattle.conformance.specs.declared.progress.TurnProgress.TheVariants as progress;
 
 use super::pace::Pace;
-use super::{beginnings, go_round, outside, run_step_at, run_steps_cluster, run_steps_result};
+use super::{go_round, outside, run_step_at, run_steps_result, run_steps_start};
 use book::Refused;
 use cluster::{BookLock, BookTurn, Cluster, Processor};
 use conformance::{DrawnRun, RunFault, Schedule, TurnProgress};
@@ -33,7 +36,7 @@ pub fn step_drawn<R: Wait>(
     ensures end { IfOk result (λ run. IsEndByOrderedTurns (plan_of script.now)
         (schedule_orders (plan_of script.now) run.schedule.turns.items) run.ended) }
     ensures draws { IfOk result (λ run. IsRunOfDraws (plan_of script.now) seed run.schedule.turns.items run.ended) }
-    ensures cluster { IfOk result (λ run. IsClusterEnd (plan_of script.now) run.ended) }
+    ensures cluster { IfOk result (λ run. IsClusterEnd (lock_choice_width lock.Array) (plan_of script.now) run.ended) }
     ensures err { IfErr result (λ fault. fault.cause ≢ cause.Stuck) }
 {
     step_drawn_with::<BookLock, R>(rt, alloc, script, seed)
@@ -51,18 +54,54 @@ pub fn step_drawn_with<T: BookTurn + Drop, R: Wait>(
     ensures end { IfOk result (λ run. IsEndByOrderedTurns (plan_of script.now)
         (schedule_orders (plan_of script.now) run.schedule.turns.items) run.ended) }
     ensures draws { IfOk result (λ run. IsRunOfDraws (plan_of script.now) seed run.schedule.turns.items run.ended) }
-    ensures cluster { IfOk result (λ run. IsClusterEnd (plan_of script.now) run.ended) }
+    ensures cluster { IfOk result (λ run. IsClusterEnd T.width (plan_of script.now) run.ended) }
     ensures err { IfErr result (λ fault. fault.cause ≢ cause.Stuck) }
 {
-    let (cluster, mut processors) = run_steps_cluster::<T>(alloc, script)?;
-    let mut all = beginnings(alloc, processors.len())?;
-    let turns = wander(rt, alloc, &cluster, &mut processors, &mut all, script, seed)?;
-    let passed = go_round(rt, alloc, &cluster, &mut processors, &mut all, script, None)?;
-    let ended = run_steps_result(rt, alloc, cluster, processors, &all, script, passed)?;
-    Ok(DrawnRun {
-        schedule: Schedule { turns },
-        ended,
-    })
+    let (cluster, mut processors, mut all) = run_steps_start::<T>(alloc, script)?;
+    let (turns, passed) = go_as_drawn(
+        rt,
+        alloc,
+        &cluster,
+        &mut processors,
+        &mut all,
+        script,
+        seed,
+    )?;
+    match run_steps_result(rt, alloc, cluster, processors, &all, script, passed) {
+        Ok(ended) => Ok(DrawnRun {
+            schedule: Schedule { turns },
+            ended,
+        }),
+        Err(fault) => Err(fault),
+    }
+}
+
+/// Turns that the seed draws, and then rounds by rising number. Answers the turns that got on, and whether all have passed
+/// the closing barrier.
+fn go_as_drawn<T: BookTurn, R: Wait>(
+    rt: &R,
+    alloc: Global,
+    cluster: &Cluster<T>,
+    processors: &mut Vec<Processor<T>>,
+    all: &mut Vec<TurnProgress>,
+    script: &Script,
+    seed: u64,
+) -> Result<(Vec<usize>, bool), RunFault>
+    requires lawful { IsLawful (plan_of script.now) }
+    requires sizes { cluster.now.sizes ≡ plan_sizes (plan_of script.now) }
+    requires way { AreAtRunSteps cluster.now (plan_of script.now).sections processors.old.items
+        all.old.items }
+    ensures gone { IfOk result (λ r. HaveGoneOnAfterWandering cluster.now (plan_of script.now) seed r.0.items
+        processors.old.items processors.new.items all.old.items all.new.items) }
+    ensures whole { IfOk result (λ r. r.1 ≡ true → All (λ x. x ≡ progress.Passed) all.new.items) }
+    ensures stuck { IfOk result (λ r. r.1 ≡ false → IsRunTurnDeadlockSeen processors.new.items) }
+    ensures err { IfErr result (λ fault. fault.cause ≢ cause.Stuck) }
+{
+    let turns = wander(rt, alloc, cluster, processors, all, script, seed)?;
+    match go_round(rt, alloc, cluster, processors, all, script, None) {
+        Ok(passed) => Ok((turns, passed)),
+        Err(fault) => Err(fault),
+    }
 }
 
 /// Turns that the seed draws, until all have arrived at the closing barrier or none gets on. Answers those that got on.

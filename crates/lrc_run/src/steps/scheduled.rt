@@ -1,11 +1,13 @@
 //! All processors by turns on one thread, as a schedule has them.
-ghost use Rattle.std.specs.Prelude.{◌≡◌, ◌≢◌, ◌<◌, ◌≤◌, ◌^◌, IfErr, IfOk, OnOk, vec_len};
+ghost use Rattle.std.specs.Prelude.{◌≡◌, ◌≢◌, ◌<◌, ◌≤◌, ◌^◌, All, IfErr, IfOk, OnOk, false, true, vec_len};
+ghost use Rattle.conformance.specs.declared.progress.TurnProgress.TheVariants as progress;
 ghost use Rattle.lrc_script.specs.Prelude.{IsLawful, plan_of};
 ghost use Rattle.conformance.specs.Prelude.{IsEndByOrderedTurns, IsScheduleFault, plan_sizes, schedule_orders};
 ghost use Rattle.conformance.specs.declared.schedule.Misfit.TheVariants as misfit;
-ghost use Rattle.lrc_run.specs.Prelude.{AreAtRunSteps, AreRunTurnsTaken, IsClusterEnd, IsScheduledTurnFault, IsTurnOfRun};
+ghost use Rattle.lrc_run.specs.Prelude.{AreAtRunSteps, AreRunTurnsTaken, IsClusterEnd, IsRunTurnDeadlockSeen, IsScheduledTurnFault, IsTurnOfRun, HaveGoneOnAfterRunTurns, lock_choice_width};
+ghost use Rattle.conformance.specs.declared.script_runner.LockChoice.TheVariants as lock;
 
-use super::{beginnings, go_round, have_passed, run_step_at, run_steps_cluster, run_steps_result};
+use super::{go_round, have_passed, run_step_at, run_steps_result, run_steps_start};
 use cluster::{BookLock, BookTurn, Cluster, Processor};
 use conformance::{Ended, Misfit, Schedule, ScheduleFault, TurnProgress};
 use lrc_script::script::Script;
@@ -26,7 +28,7 @@ pub fn step_scheduled<R: Wait>(
     requires { IsLawful (plan_of script.now) }
     ensures end { IfOk result
         (IsEndByOrderedTurns (plan_of script.now) (schedule_orders (plan_of script.now) schedule.now.turns.items)) }
-    ensures cluster { IfOk result (IsClusterEnd (plan_of script.now)) }
+    ensures cluster { IfOk result (IsClusterEnd (lock_choice_width lock.Array) (plan_of script.now)) }
     ensures fault { IfErr result (IsScheduleFault (plan_of script.now) schedule.now.turns.items) }
 {
     step_scheduled_with::<BookLock, R>(rt, alloc, script, schedule)
@@ -43,21 +45,44 @@ pub fn step_scheduled_with<T: BookTurn + Drop, R: Wait>(
     requires lawful { IsLawful (plan_of script.now) }
     ensures end { IfOk result
         (IsEndByOrderedTurns (plan_of script.now) (schedule_orders (plan_of script.now) schedule.now.turns.items)) }
-    ensures cluster { IfOk result (IsClusterEnd (plan_of script.now)) }
+    ensures cluster { IfOk result (IsClusterEnd T.width (plan_of script.now)) }
     ensures fault { IfErr result (IsScheduleFault (plan_of script.now) schedule.now.turns.items) }
 {
-    let (cluster, mut processors) = run_steps_cluster::<T>(alloc, script)?;
-    let mut all = beginnings(alloc, processors.len())?;
-    follow_scheduled_steps(
+    let (cluster, mut processors, mut all) = run_steps_start::<T>(alloc, script)?;
+    let passed = go_as_scheduled(
         rt,
+        alloc,
         &cluster,
         &mut processors,
         &mut all,
         script,
         &schedule.turns,
     )?;
-    let passed = go_round(rt, alloc, &cluster, &mut processors, &mut all, script, None)?;
     Ok(run_steps_result(rt, alloc, cluster, processors, &all, script, passed)?)
+}
+
+/// The turns of a schedule, and then rounds by rising number: whether all have passed the closing barrier.
+fn go_as_scheduled<T: BookTurn, R: Wait>(
+    rt: &R,
+    alloc: Global,
+    cluster: &Cluster<T>,
+    processors: &mut Vec<Processor<T>>,
+    all: &mut Vec<TurnProgress>,
+    script: &Script,
+    turns: &[usize],
+) -> Result<bool, ScheduleFault>
+    requires lawful { IsLawful (plan_of script.now) }
+    requires sizes { cluster.now.sizes ≡ plan_sizes (plan_of script.now) }
+    requires way { AreAtRunSteps cluster.now (plan_of script.now).sections processors.old.items
+        all.old.items }
+    ensures gone { IfOk result (λ _. HaveGoneOnAfterRunTurns cluster.now (plan_of script.now) turns.now
+        processors.old.items processors.new.items all.old.items all.new.items) }
+    ensures whole { IfOk result (λ passed. passed ≡ true → All (λ x. x ≡ progress.Passed) all.new.items) }
+    ensures stuck { IfOk result (λ passed. passed ≡ false → IsRunTurnDeadlockSeen processors.new.items) }
+    ensures fault { IfErr result (IsScheduleFault (plan_of script.now) turns.now) }
+{
+    follow_scheduled_steps(rt, cluster, processors, all, script, turns)?;
+    Ok(go_round(rt, alloc, cluster, processors, all, script, None)?)
 }
 
 /// The turns of a schedule, one after another. Each has to be one in which its processor gets on.

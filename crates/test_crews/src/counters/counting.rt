@@ -67,7 +67,7 @@ fn added<T: Turn<u64, Counter>, R: Wait>(
 }
 
 // A lock over 0 with two chairs.
-fn open_two<T: Turn<u64, Counter>>(
+pub(super) fn open_two<T: Turn<u64, Counter>>(
     alloc: Global,
 ) -> Result<(T, Chair<u64, Counter>, Chair<u64, Counter>), AllocError>
     requires { 2 * T.ENTRIES < 2 ^ 64 }

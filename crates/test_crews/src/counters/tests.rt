@@ -1,4 +1,5 @@
-use crate::counters::{Counter, count_in_many, count_in_two};
+use crate::counters::counting::open_two;
+use crate::counters::{Counter, add_many, count_in_many, count_in_two};
 use std::test::Fail;
 use turn::{ArrayLock, TicketLock};
 
@@ -77,5 +78,22 @@ fn three_entries_are_all_with_a_row(rt: HostRuntime) -> Result<(), Fail> {
     let four = count_in_two::<ArrayLock<u64, Counter, 3>, _>(&rt, rt.alloc(), 4)?;
     assert_eq!(rt; three, Some(6));
     assert_eq!(rt; four, None);
+    Ok(())
+}
+
+// A chair that finds the lock free looks awake: it doesn't count as one that sleeps or is about to.
+#[test]
+fn a_free_lock_puts_nobody_to_sleep_with_tickets(rt: HostRuntime) -> Result<(), Fail> {
+    let (turn, mut chair, _other) = open_two::<Tickets>(rt.alloc())?;
+    assert!(rt; add_many(&rt, &turn, &mut chair, 1000).is_ok());
+    assert_eq!(rt; turn.sleeps(), 0);
+    Ok(())
+}
+
+#[test]
+fn a_free_lock_puts_nobody_to_sleep_with_a_row(rt: HostRuntime) -> Result<(), Fail> {
+    let (turn, mut chair, _other) = open_two::<Row>(rt.alloc())?;
+    assert!(rt; add_many(&rt, &turn, &mut chair, 1000).is_ok());
+    assert_eq!(rt; turn.sleeps(), 0);
     Ok(())
 }

@@ -26,30 +26,9 @@ returns-then-have_passed-clause-whole g c =
     let P : List TurnProgress → Type 0 = λ xs. All (λ x. x ≡ Passed) xs in
     λ _. subst P c.as_slice.ensures.value (c.have_passed.ensures.0 c.if-have_passed.true)
 
-pub is_stuck-requires-clause-own : goal.is_stuck-requires-clause-own
-is_stuck-requires-clause-own g c κs within = λ m here.
-    let s = plan_of c.args.script.now in
-    let way = turn_ways_after_turns c.args.cluster.now s.sections c.deref.result.now c.loop.processors.items
-    c.round.new.processors.items c.loop.all.items c.round.new.all.items c.loop.invariant.between.gone.way
-    c.in_ok-moved.ensures.turns in
-    step_after_turn_own_at 0 m c.requires.lawful
-    c.requires.sizes way here
-
-pub is_stuck-requires-clause-some : goal.is_stuck-requires-clause-some
-is_stuck-requires-clause-some g c κs within =
-    let s = plan_of c.args.script.now in
-    let way = turn_ways_after_turns c.args.cluster.now s.sections c.deref.result.now c.loop.processors.items
-    c.round.new.processors.items c.loop.all.items c.round.new.all.items c.loop.invariant.between.gone.way
-    c.in_ok-moved.ensures.turns in
-    let some = turn_way_some_of s c.args.cluster.now c.round.new.processors.items c.round.new.all.items c.requires.lawful
-    c.requires.sizes way in
-    omega (arith, some, c.round.new.processors.ok)
-
 pub returns-then-branch-clause-gone : goal.returns-then-branch-clause-gone
 returns-then-branch-clause-gone g c =
     let s = plan_of c.args.script.now in
-    let turned = c.round.new.processors.items in
-    let os = c.is_stuck.new.processors.items in
     let list = c.deref.result.now in
     let n = length c.deref_mut.result.now in
     let many : n ≡ c.args.cluster.now.sizes.processors = omega (arith, c.deref_mut.ensures.len, c.loop.invariant.long) in
@@ -58,21 +37,20 @@ returns-then-branch-clause-gone g c =
     let fits : c.loop.list.len ≡ length order = omega (arith, c.draw.ensures.below.1, c.deref_mut.ensures.len) in
     let drawn_is : list ≡ order =
     c.deref.ensures.value ∙ ap (λ k. take k (order ++ rest)) fits ∙ take-append_seam order rest in
+    let round = c.in_ok-round_in_vain.ensures.round in
     let next = turn_way_next_round list
     c.requires.sizes many c.loop.invariant.between (drawn_is ∙ c.draw.ensures.list) c.draw.ensures.state
-    c.in_ok-moved.ensures.turns c.is_stuck.ensures.seen in
+    round.turns round.seen in
     next.gone
 
 pub returns-then-branch-clause-stuck : goal.returns-then-branch-clause-stuck
 returns-then-branch-clause-stuck g c =
-    let stuck : c.in_ok-is_stuck.field-0 ≡ true = search rules in
-    λ _. c.in_ok-is_stuck.ensures.stuck stuck
+    let stuck : c.in_ok-round_in_vain.field-0 ≡ true = search rules in
+    λ _. c.in_ok-round_in_vain.ensures.stuck stuck
 
 pub loop-preserved : goal.loop-preserved
 loop-preserved g c =
     let s = plan_of c.args.script.now in
-    let turned = c.round.new.processors.items in
-    let os = c.is_stuck.new.processors.items in
     let list = c.deref.result.now in
     let n = length c.deref_mut.result.now in
     let many : n ≡ c.args.cluster.now.sizes.processors = omega (arith, c.deref_mut.ensures.len, c.loop.invariant.long) in
@@ -81,7 +59,8 @@ loop-preserved g c =
     let fits : c.loop.list.len ≡ length order = omega (arith, c.draw.ensures.below.1, c.deref_mut.ensures.len) in
     let drawn_is : list ≡ order =
     c.deref.ensures.value ∙ ap (λ k. take k (order ++ rest)) fits ∙ take-append_seam order rest in
+    let round = c.in_ok-round_in_vain.ensures.round in
     let next = turn_way_next_round list
     c.requires.sizes many c.loop.invariant.between (drawn_is ∙ c.draw.ensures.list) c.draw.ensures.state
-    c.in_ok-moved.ensures.turns c.is_stuck.ensures.seen in
+    round.turns round.seen in
     record { between = next; long = search rules }

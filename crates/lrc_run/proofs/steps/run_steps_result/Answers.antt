@@ -27,6 +27,7 @@ returns-clause-end g c = (
 pub returns-in-Ok-clause-cluster : goal.returns-in-Ok-clause-cluster
 returns-in-Ok-clause-cluster g c = record {
   cluster = c.args.cluster;
+  lock_is = c.requires.lock;
   processors = c.args.processors.items;
   walked = step_after_turn_passed c.args.cluster (plan_of c.args.script.now).sections c.args.processors.items c.args.all.now c.requires.way
       (c.requires.whole c.if-passed.true);
@@ -36,6 +37,7 @@ returns-in-Ok-clause-cluster g c = record {
 pub returns-clause-cluster : goal.returns-clause-cluster
 returns-clause-cluster g c = record {
   cluster = c.args.cluster;
+  lock_is = c.requires.lock;
   processors = c.args.processors.items;
   progress = c.args.all.now;
   way = c.requires.way;

@@ -1,4 +1,4 @@
-use Rattle.std.proofs.Common.{refl, sym, ◌∙◌}
+use Rattle.std.proofs.Common.{◌≡◌, None, Some, refl, sym, ◌∙◌}
 use Rattle.seats.proofs.SeatAccess.{seat_access_inside_same}
 use Rattle.seats.proofs.SeatClosings.{seat_closing_taken_none, seat_closing_waits_still, seat_closing_waits_for, seat_closing_waits_not}
 use Rattle.seats.proofs.seat_closings.finish_seat_closing.Goals as goal
@@ -13,3 +13,9 @@ pub returns-else-waiting-clause-ok : goal.returns-else-waiting-clause-ok
 returns-else-waiting-clause-ok g c =
     let m = c.args.processor.now in
     seat_closing_taken_none m (seat_closing_waits_not m (sym c.waiting.ensures ∙ c.if-waiting.false)) (seat_access_inside_same m m refl c.requires.covers)
+
+pub take-requires-clause-waits : goal.take-requires-clause-waits
+take-requires-clause-waits g c = λ none.
+    let some = seat_closing_waits_for c.args.processor.now (sym c.waiting.ensures ∙ c.if-waiting.true) in
+    let two : None ≡ Some some.0 = sym none ∙ some.1 in
+    cc

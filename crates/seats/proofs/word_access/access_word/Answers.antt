@@ -2,7 +2,7 @@ use Rattle.std.proofs.Common.{[], Err, ap, inl, refl, subst, sym, ◌∙◌}
 use Rattle.std.specs.Result.{result_err}
 use Rattle.std.proofs.lemmas.Result.{err_from_is_err_and}
 use Rattle.seats.specs.SeatCalls.{SeatCallAccessesBy}
-use Rattle.seats.proofs.SeatAccess.{seat_access_page, seat_access_after, seat_access_fetched, seat_access_after_fetch_if_any, seat_access_plain, seat_access_fetch_after, seat_access_inside_same, seat_access_inside_then}
+use Rattle.seats.proofs.SeatAccess.{seat_access_answered, seat_access_waits, seat_access_page, seat_access_after, seat_access_fetched, seat_access_after_fetch_if_any, seat_access_plain, seat_access_fetch_after, seat_access_inside_same, seat_access_inside_then}
 use Rattle.seats.proofs.word_access.access_word.Goals as goal
 
 pub returns-then-waiting-clause-done : goal.returns-then-waiting-clause-done
@@ -45,3 +45,11 @@ pub returns-in_default-2-clause-done : goal.returns-in_default-2-clause-done
 returns-in_default-2-clause-done g c =
     seat_access_plain c.args.processor.now c.access_word_once.new.processor _ c.args.address c.args.access c.access_word_once.result
     c.access_word_once.ensures.done
+
+pub returns-then-waiting-clause-fits : goal.returns-then-waiting-clause-fits
+returns-then-waiting-clause-fits g c = λ none.
+    absurd (seat_access_waits c.args.processor.now c.args.address (sym c.waiting.ensures ∙ c.if-waiting.true) none)
+
+pub returns-in_default-2-clause-fits : goal.returns-in_default-2-clause-fits
+returns-in_default-2-clause-fits g c =
+    seat_access_answered c.args.processor.now c.args.address c.access_word_once.result c.access_word_once.ensures.refused

@@ -1,62 +1,39 @@
-use Rattle.std.proofs.Common.{ℕ, ◌≡◌, ◌^◌, [], replicate, refl, sym, subst, subst₂, ap, ◌∙◌, arith}
-use Rattle.std.proofs.lemmas.Nat.{mul-le}
+use Rattle.std.proofs.Common.{◌≡◌, refl, sym, subst, ap, ◌∙◌, arith}
 use Rattle.journal.specs.Sizes.{Sizes}
 use Rattle.turn.specs.Chairs.{ChairLockId}
-use Rattle.book.specs.BookState.{BookState}
-use Rattle.book.specs.Transitions.{transition_new_book}
 use Rattle.cluster.specs.Copies.Local.{new_local}
 use Rattle.cluster.specs.Copies.Sound.{AreSoundSizes}
-use Rattle.cluster.specs.KeptViews.{KeptViewsInvariant, view_of_nothing, view_book_sizes}
-use Rattle.cluster.proofs.StartingProcessors.{starting_processors_sizes, starting_processors_kept, starting_processors_covered}
+use Rattle.cluster.specs.KeptViews.{view_of_nothing}
+use Rattle.cluster.proofs.StartingProcessors.{starting_processors_covered}
 use Rattle.cluster.proofs.cluster.Cluster.lawful.Goals as goal
-
-pub new-requires-3-clause-addresses : goal.new-requires-3-clause-addresses
-new-requires-3-clause-addresses g c =
-    let s = subst AreSoundSizes (sym c.shape.view_is) c.requires.sizes in
-    let few = mul-le c.shape.inside.pages c.shape.inside.words 64 64 s.pages s.words in
-    omega arith
-
-pub new-requires-4-clause-room : goal.new-requires-4-clause-room
-new-requires-4-clause-room g c =
-    let s = subst AreSoundSizes (sym c.shape.view_is) c.requires.sizes in
-    let few = mul-le c.shape.inside.processors g.T.Turn.ENTRIES 16 (2 ^ 40) s.processors c.requires.entries in
-    omega arith
-
-pub new-requires-4-clause-fact : goal.new-requires-4-clause-fact
-new-requires-4-clause-fact g c =
-    let s = c.args.shape in
-    let size = ap (λ (x : Sizes). x.processors) c.shape.view_is in
-    let book = c.in_ok-book.ensures ∙ ap transition_new_book c.shape.view_is in
-    let P : BookState → ℕ → Type 0 = λ b n. KeptViewsInvariant s [] b (replicate n (view_of_nothing (view_book_sizes b))) in
-    let kept = starting_processors_kept s c.requires.sizes.some_processors in
-    (s, [], subst₂ P (sym book) (sym size) (rw (starting_processors_sizes s c.requires.sizes.some_words) kept))
 
 pub seat_all-all-requires-clause-chairs : goal.seat_all-all-requires-clause-chairs
 seat_all-all-requires-clause-chairs g c κs within =
-    let same : view_book_sizes c.in_ok-book.book ≡ c.args.shape =
-    ap view_book_sizes (c.in_ok-book.ensures ∙ ap transition_new_book c.shape.view_is)
-    ∙ starting_processors_sizes c.args.shape c.requires.sizes.some_words in
-    let made = c.in_ok-turn.ensures in (
-      (let long = made.1 in let size = ap (λ (x : Sizes). x.processors) c.shape.view_is in omega arith),
-      λ p x at. (let f = made.2 p x at in record {
+    let made = c.in_ok-cluster.ensures in
+    let size = ap (λ (x : Sizes). x.processors) made.sizes in (
+      (let long = made.chairs.all in omega arith),
+      λ p x at. (let f = made.chairs.each p x at in record {
         lock_is = refl;
-        place_is = f.1;
-        view_is = f.2 ∙ ap view_of_nothing same;
-        entries_are = f.3;
-        outside = f.4;
+        place_is = f.place_is;
+        view_is = f.view_is ∙ ap view_of_nothing made.sizes;
+        entries_are = f.entries_are;
+        outside = f.outside;
       }),
     )
 
 pub returns-clause-new : goal.returns-clause-new
 returns-clause-new g c =
-    let made = c.in_ok-turn.ensures in
+    let made = c.in_ok-cluster.ensures in
     let seated = c.seat_all-all.ensures in
     record {
-      all = seated.all ∙ made.1 ∙ ap (λ (x : Sizes). x.processors) c.shape.view_is;
+      all = seated.all ∙ made.chairs.all;
       each =
           λ p m at. let x = seated.each p m at in
-          x.is ∙ ap (λ (l : ChairLockId). new_local l p c.args.shape) (made.2 p x.chair x.at).0;
+          x.is ∙ ap (λ (l : ChairLockId). new_local l p c.args.shape) (made.chairs.each p x.chair x.at).lock_is
+          ∙ ap (λ (s : Sizes). new_local c.in_ok-cluster.cluster.lock p s) (sym made.sizes);
     }
 
 pub returns-clause-covers : goal.returns-clause-covers
-returns-clause-covers g c = starting_processors_covered _ _ c.requires.sizes (returns-clause-new g c)
+returns-clause-covers g c =
+    starting_processors_covered c.in_ok-cluster.cluster c.seat_all-all.result.items
+    (subst AreSoundSizes (sym c.in_ok-cluster.ensures.sizes) c.requires.sizes) (returns-clause-new g c)

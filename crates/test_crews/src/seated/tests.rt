@@ -1,9 +1,9 @@
 //! A layout of its own tables, used in turn; programs on threads; what is made of a seat's calls.
 
-use crate::{
+use cluster::Refused;
+use seats::{
     Grids, Guard, Layout, ProcessorFault, Program, Seat, SeatFault, Sitting, run, run_guarded,
 };
-use cluster::Refused;
 use std::alloc::{AllocError, Global};
 use std::sync::Wait;
 use std::thread::Threads;
@@ -347,5 +347,67 @@ fn open_words_are_told(rt: HostRuntime) -> Result<(), AllocError> {
     };
     let ran = run_guarded(&rt, alloc, 2, 1, 64, 1, 0, &layout, &SeatTestViewer);
     assert!(rt; ran.err() == Some(open), "the first word that is open");
+    Ok(())
+}
+
+/// Processor 0 stores to each of eight pages. After the barrier processor 1 loads from the first of them in turn, as often as
+/// makes sixteen events with the fetches: it fetches each page that it loads from.
+#[derive(Clone, Copy)]
+struct SeatTestFetcher {
+    pages: usize,
+}
+
+impl Program for SeatTestFetcher {
+    type Answer = u32;
+
+    ghost did = { λ processor deeds answer. Unit {0} };
+
+    fn work<S: Sitting>(&self, seat: &mut Seat<'_, S>) -> Result<u32, SeatFault> {
+        if seat.number() == 0 {
+            for page in 0..8 {
+                seat.store(page, 1)?;
+            }
+        }
+        seat.barrier()?;
+        if seat.number() == 1 {
+            for turn in 0..16usize.saturating_sub(self.pages) {
+                seat.load(turn.checked_rem(self.pages).unwrap_or(0))?;
+            }
+        }
+        Ok(0)
+    }
+}
+
+/// How many events there are if so many pages are fetched.
+fn events_of_fetches<R: Threads + Wait + Sync>(
+    rt: &R,
+    alloc: Global,
+    pages: usize,
+) -> Result<usize, ProcessorFault> {
+    let layout = Layout::open(alloc, 8)?;
+    let ran = run(
+        rt,
+        alloc,
+        2,
+        8,
+        1,
+        0,
+        0,
+        &layout,
+        &SeatTestFetcher { pages },
+    )?;
+    Ok(ran.journal.len())
+}
+
+// This test and the next make as many requests for memory (tests/memory/lists): a fetch makes none.
+#[test]
+fn one_page_is_fetched(rt: HostRuntime) -> Result<(), ProcessorFault> {
+    assert!(rt; events_of_fetches(&rt, rt.alloc(), 1)? == 28);
+    Ok(())
+}
+
+#[test]
+fn all_pages_are_fetched(rt: HostRuntime) -> Result<(), ProcessorFault> {
+    assert!(rt; events_of_fetches(&rt, rt.alloc(), 8)? == 28);
     Ok(())
 }
