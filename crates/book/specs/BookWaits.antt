@@ -1,5 +1,5 @@
 -- Who waits, and whether what it waits for has come.
-use Rattle.std.specs.Prelude.{ℕ, ◌≡◌, ◌≢◌, ◌<◌, true, false, Some, List, ◌++◌, slice_get}
+use Rattle.std.specs.Prelude.{ℕ, ◌≡◌, ◌≢◌, ◌<◌, true, Some, List, ◌++◌, slice_get}
 use Rattle.journal.specs.declared.event.Event.{Event}
 use Rattle.journal.specs.declared.event.Kind.{Kind}
 use Rattle.journal.specs.declared.event.Kind.TheVariants.{Acquire, Release, Arrive, Depart, Set, Await}
@@ -17,12 +17,6 @@ use Rattle.book.specs.RepresentedHistory.{Represents}
 pub record IsBookWaitDone (b : BookState) (k : Kind) (p : ℕ) : Type 0 where
   pub waits : slice_get b.awaits p ≡ Some (Some k)
   pub come : message_has_come b.flags b.transit p k ≡ true
-
--- p waits for what has not come
-pub record BookWaitsInVain (b : BookState) (p : ℕ) : Type 0 where
-  pub kind : Kind
-  pub waits : slice_get b.awaits p ≡ Some (Some kind)
-  pub come : message_has_come b.flags b.transit p kind ≡ false
 
 -- the book represents some history that ends with this closing event of p
 pub record HasClosedBeforeBookWaits (b : BookState) (p : ℕ) (k : Kind) : Type 0 where

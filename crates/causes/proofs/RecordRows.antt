@@ -30,11 +30,18 @@ use Rattle.judge.specs.Miscounted.{IsEventInSizes}
 use Rattle.causes.specs.declared.closed_records.PageRecord.{PageRecord}
 use Rattle.causes.specs.declared.store_rows.NumberedStore.{NumberedStore}
 use Rattle.causes.specs.Index.{IsIndexedClosing}
-use Rattle.causes.specs.ClosedRecords.{AreClosedRecords, AreClosedRecordsBelow, AreClosedRecordWordsBelow, IsClosedRecordValue, IsNotInClosedRecord}
+use Rattle.causes.specs.ClosedRecords.{AreClosedRecords, AreClosedRecordWordsBelow, IsClosedRecordValue, IsNotInClosedRecord}
 use Rattle.causes.specs.NumberedStores.{AreNumberedStoresBelow, IsLastNumberedStoreUnder, NoNumberedStoreUnder}
 use Rattle.causes.specs.TakingEvents.{AreTakingEventNumbers}
 use Rattle.causes.proofs.StaleCopies.{stale_copy_interval_stores}
 use Rattle.causes.proofs.StoreRowSteps.{store_row_intervals_rise}
+
+-- these are the first records: those of the pages below this one
+pub record AreClosedRecordsBelow (s : Sizes) (j : List Event) (q m n : ℕ) (records : List PageRecord) : Type 0 where
+  pub content : (x : PageRecord) → Has records x → IsIntervalContent s j q m x.page x.words.items
+  pub some : (x : PageRecord) → Has records x → (x.page < n) × ((i : ℕ) × IntervalContentHas s j q m x.page i)
+  pub all : (l i : ℕ) → l < n → IntervalContentHas s j q m l i → (x : PageRecord) × Has records x × (x.page ≡ l)
+  pub order : InOrder (λ (x y : PageRecord). x.page < y.page) records
 
 -- a store of the interval in its row
 record RecordStoreInRow (row : List NumberedStore) (m i : ℕ) : Type 0 where

@@ -35,13 +35,6 @@ pub record AreClosedRecordWordsBelow (j : List Event) (q m a n : ℕ) (words : L
   pub has : (o v : ℕ) → Has words (o, v) ↔ ((o < n) × IsClosedRecordValue j q m (a + o) v)
   pub rising : InOrder (λ (x y : ℕ × ℕ). x.0 < y.0) words
 
--- these are the first records: those of the pages below this one
-pub record AreClosedRecordsBelow (s : Sizes) (j : List Event) (q m n : ℕ) (records : List PageRecord) : Type 0 where
-  pub content : (x : PageRecord) → Has records x → IsIntervalContent s j q m x.page x.words.items
-  pub some : (x : PageRecord) → Has records x → (x.page < n) × ((i : ℕ) × IntervalContentHas s j q m x.page i)
-  pub all : (l i : ℕ) → l < n → IntervalContentHas s j q m l i → (x : PageRecord) × Has records x × (x.page ≡ l)
-  pub order : InOrder (λ (x y : PageRecord). x.page < y.page) records
-
 -- what is looked up is the history's
 pub record IsClosedRecordIndex (s : Sizes) (j : List Event) (x : ClosedRecordIndex) : Type 0 where
   pub size : x.size ≡ s.words

@@ -5,7 +5,6 @@ use Rattle.journal.specs.declared.event.Event.{Event}
 use Rattle.journal.specs.declared.event.Kind.{Kind}
 use Rattle.journal.specs.declared.event.Kind.TheVariants.{Load, Ask, Set, Await}
 use Rattle.journal.specs.DidEvent.{did, event}
-use Rattle.journal.specs.ExplainedAnswers.{IsAnswer}
 use Rattle.journal.specs.WellFormed.{WellFormedNext}
 use Rattle.judge.specs.declared.sources.readable.ReadableSources.{ReadableSources}
 use Rattle.judge.specs.Sources.KeptSources.{AreKeptSourcesOf}
@@ -21,10 +20,6 @@ use Rattle.explore.specs.KeptWaiting.{TellsKeptWaiting}
 pub record AllowedBeginningMayCall (s : Plan) (g : List Event) (p : ℕ) (k : Kind) : Type 0 where
   pub may_follow : WellFormedNext (plan_sizes s) g (event p k)
   pub calls : ScriptCallsNext s g p k
-
--- a load answers what it may
-abbrev pub AllowedBeginningAnswers : List Event → ℕ → Kind → Type 0
-AllowedBeginningAnswers g p k = (a v : ℕ) → k ≡ Load a v → IsAnswer (did g p k) (length g) a v
 
 -- the events of a beginning
 abbrev pub allowed_beginning_events : AllowedBeginning → List Event

@@ -18,10 +18,10 @@ use Rattle.journal.proofs.Flat.FlatConflicts.{flat_conflict_not_unordered, flat_
 use Rattle.journal.proofs.Order.EventPlacesAndCounts.{event_place_at_end, event_place_longer, event_place_shorter, event_place_inside}
 use Rattle.journal.proofs.Order.HappensBefore.{happens_before_goes_forward}
 use Rattle.judge.specs.declared.flat_memory.FlatStore.{FlatStore}
-use Rattle.judge.specs.LastFlatStores.{IsLastFlatStore, KeepsLastFlatStore, last_flat_store_word}
+use Rattle.judge.specs.LastFlatStores.{IsLastFlatStore, KeepsLastFlatStore}
 use Rattle.judge.specs.Sources.Latest.{IsLatest}
 use Rattle.judge.proofs.DecidedOrder.{decided_order}
-use Rattle.judge.proofs.Flattening.{flattened_word}
+use Rattle.judge.proofs.Flattening.{flattened_word, last_flat_store_word}
 
 -- p loads v at a after j, and no two of all these events race
 module _ (j : List Event) (p a v : ℕ) (free : RaceFree (did j p (Load a v)))

@@ -18,7 +18,7 @@ use Rattle.journal.proofs.Flat.FlatConflicts.{flat_conflict_store_is}
 use Rattle.journal.proofs.Order.EventPlacesAndCounts.{event_place_at_end, event_place_longer, event_place_inside}
 use Rattle.judge.specs.declared.flat_memory.FlatStore.{FlatStore}
 use Rattle.judge.specs.declared.sparse_table.SparseTable.{SparseTable}
-use Rattle.judge.specs.LastFlatStores.{IsLastFlatStore, KeepsLastFlatStore, last_flat_store_word}
+use Rattle.judge.specs.LastFlatStores.{IsLastFlatStore, KeepsLastFlatStore}
 use Rattle.judge.specs.SparseTables.{IsSparseWith, sparse_at}
 
 -- what an event writes
@@ -97,7 +97,11 @@ flattened_last_write j a x last = record {
       omega (arith, less));
 }
 
--- the word after the last store
+-- the word after the last store: 0 if there is none
+abbrev pub last_flat_store_word : Option FlatStore → ℕ
+last_flat_store_word None = 0
+last_flat_store_word (Some x) = x.value
+
 pub flattened_word : (n : ℕ) (j : List Event) (a : ℕ) (o : Option FlatStore) → a < n → KeepsLastFlatStore j a o
     → slice_get (memory_after (replicate n 0) j) a ≡ Some (last_flat_store_word o)
 flattened_word n j a (Some x) lt last =

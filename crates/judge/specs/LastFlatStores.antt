@@ -1,5 +1,5 @@
 -- One memory that the events are done to in their order.
-use Rattle.std.specs.Prelude.{ℕ, ◌<◌, ◌≤◌, Option, Some, None, MatchOption, List, length}
+use Rattle.std.specs.Prelude.{ℕ, ◌<◌, ◌≤◌, Option, MatchOption, List, length}
 use Rattle.journal.specs.declared.event.Event.{Event}
 use Rattle.journal.specs.declared.event.Kind.TheVariants.{Store}
 use Rattle.journal.specs.WellFormed.{Does}
@@ -15,11 +15,6 @@ pub record IsLastFlatStore (j : List Event) (a : ℕ) (x : FlatStore) : Type 0 w
 -- that store, if there is one
 abbrev pub KeepsLastFlatStore : List Event → ℕ → Option FlatStore → Type 0
 KeepsLastFlatStore j a o = MatchOption o ((m q w : ℕ) → ¬ Does j m q (Store a w)) (IsLastFlatStore j a)
-
--- the word after the last store: 0 if there is none
-abbrev pub last_flat_store_word : Option FlatStore → ℕ
-last_flat_store_word None = 0
-last_flat_store_word (Some x) = x.value
 
 -- of so many addresses, the last store to each is kept
 pub record HasLastFlatStores (j : List Event) (addresses : ℕ) (x : FlatMemory) : Type 0 where

@@ -22,10 +22,10 @@ use Rattle.book.specs.BookLockLines.{HasBookLockLine}
 use Rattle.book.specs.BookState.{BookState}
 use Rattle.book.specs.Messages.{message_has_come}
 use Rattle.book.specs.RepresentedHistory.{Represents, RepresentsSomeHistory}
-use Rattle.book.specs.BookWaits.{IsBookWaitDone, HasClosedBeforeBookWaits, IsNamedByBookWaits, BookWaitsInVain}
+use Rattle.book.specs.BookWaits.{IsBookWaitDone, HasClosedBeforeBookWaits, IsNamedByBookWaits}
 use Rattle.book.proofs.Parts.Each.{each_is_at}
 use Rattle.book.proofs.Told.Flags.{told_flag_last_watch}
-use Rattle.book.proofs.Told.NamedReady.{named_none_ready_deadlock, named_ready_none_by_deadlock}
+use Rattle.book.proofs.Told.NamedReady.{BookWaitsInVain, named_none_ready_deadlock, named_ready_none_by_deadlock}
 use Rattle.book.proofs.Calling.WaitingPlaces.{WaitsInVainAtPlace, IsDoneWaitingAtPlace, waiting_place_map}
 
 -- numbers of the book after an event that closed p's interval

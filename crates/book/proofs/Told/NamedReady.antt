@@ -23,12 +23,18 @@ use Rattle.book.specs.BookState.{BookState}
 use Rattle.book.specs.Messages.{message_has_come}
 use Rattle.book.specs.RepresentedHistory.{Represents}
 use Rattle.book.specs.AllowedCalls.{IsBlockOfAllowedCalls}
-use Rattle.book.specs.BookWaits.{IsBookWaitDone, BookWaitsInVain, IsNamedByBookWaits, LetsBookWaitEnd}
+use Rattle.book.specs.BookWaits.{IsBookWaitDone, IsNamedByBookWaits, LetsBookWaitEnd}
 use Rattle.book.proofs.Parts.Each.{each_is_at, each_item_at}
 use Rattle.book.proofs.Parts.LastEvents.{last_event_count, last_event_count_others, last_event_own}
 use Rattle.book.proofs.Parts.LockLines.{first_in_lock_line_allowed}
 use Rattle.book.proofs.Parts.PostedMail.{IsNewsForPostedMail, posted_mail_news_cases, posted_mail_allowed_back}
 use Rattle.book.proofs.Told.TakingMessages.{taking_message_come}
+
+-- p waits for what has not come
+pub record BookWaitsInVain (b : BookState) (p : ℕ) : Type 0 where
+  pub kind : Kind
+  pub waits : slice_get b.awaits p ≡ Some (Some kind)
+  pub come : message_has_come b.flags b.transit p kind ≡ false
 
 -- an event of the first kind may let another processor do the second
 abbrev pub MakesNamedReady : Kind → Kind → Type 0

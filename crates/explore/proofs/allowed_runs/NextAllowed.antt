@@ -23,7 +23,7 @@ use Rattle.conformance.specs.Follows.{calls_of, is_fetch, plan_sizes}
 use Rattle.explore.specs.declared.prefixes.script_call.ScriptCall.{ScriptCall}
 use Rattle.explore.specs.declared.prefixes.script_call.ScriptCall.TheVariants.{Call, Adds}
 use Rattle.explore.specs.AllowedRuns.{IsAllowedRunBeginning}
-use Rattle.explore.specs.AllowedBeginnings.{AllowedBeginningAnswers, AllowedBeginningMayCall}
+use Rattle.explore.specs.AllowedBeginnings.{AllowedBeginningMayCall}
 use Rattle.explore.specs.Prefixes.ScriptCalls.{IsScriptCallNext, FitsScriptCall, script_calls_of_section, script_calls_shown_by, last_reply_of_script_calls, replyless_script_call}
 use Rattle.explore.proofs.Lengths.{length_of_begun_section_few, length_total, lengths_total_few, section_length_few, shown_length_few}
 use Rattle.explore.proofs.MachineSteps.{IsMachineStepRow, machine_step_kind_address, machine_step_row_proper, machine_step_no_fetch}
@@ -68,6 +68,10 @@ next_allowed_of_front s g more h = record {
       (h.explained k p a v (event_place_longer g more k (event p (kind.Load a v)) does));
   no_fetch = λ i e at. h.no_fetch i e (event_place_longer g more i e at);
 }
+
+-- a load answers what it may
+abbrev pub AllowedBeginningAnswers : List Event → ℕ → Kind → Type 0
+AllowedBeginningAnswers g p k = (a v : ℕ) → k ≡ kind.Load a v → IsAnswer (did g p k) (length g) a v
 
 next_allowed_explained_push : (g : List Event) (p : ℕ) (k : Kind) → Explained g → AllowedBeginningAnswers g p k → Explained (did g p k)
 next_allowed_explained_push g p k old answers i q a v does = elim (slice_push_cases g (event p k) i (event q (kind.Load a v)) does) [

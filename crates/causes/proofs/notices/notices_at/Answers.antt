@@ -2,6 +2,7 @@ use Rattle.std.proofs.Common.{◌+◌, ◌*◌, ℕ, List, [], slice_index, slic
 use Rattle.std.specs.Prelude.{Result, Ok, Err, IfOk, OnOk}
 use Rattle.std.specs.Global.{Vec}
 use Rattle.std.proofs.lemmas.Option.{slice_get-get_or}
+use Rattle.std.proofs.lemmas.Grind.{elements}
 use Rattle.journal.specs.declared.event.Event.{Event}
 use Rattle.journal.specs.declared.event.Kind.TheVariants.{Load}
 use Rattle.journal.specs.DidEvent.{event}
@@ -157,3 +158,6 @@ returns-else-is_taking_event c =
           (subst (λ (f : Event). AreNoticesAt s events k f []) (event_place_same events k own e there at)
           (notice_rows_quiet_event s events k own (due_span_none_told s quiet)));
     }
+
+pub notices_in-requires-clause-pages : goal.notices_in-requires-clause-pages
+notices_in-requires-clause-pages c = grind (arith, elements)

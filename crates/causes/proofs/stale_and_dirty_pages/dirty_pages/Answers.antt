@@ -1,6 +1,7 @@
 use Rattle.std.proofs.Common.{ℕ, ◌≡◌, ◌+◌, refl, slice_index, subst, sym, arith}
 use Rattle.std.specs.Global.{Vec}
 use Rattle.std.proofs.lemmas.Bool.{false≢true}
+use Rattle.std.proofs.lemmas.Grind.{common_steps}
 use Rattle.judge.specs.JudgedSizes.{judged_sizes_of}
 use Rattle.causes.specs.EventStates.{IsEventStateDirty}
 use Rattle.causes.specs.FinalWaits.{AreThoseInFinalWait}
@@ -41,3 +42,6 @@ returns c = λ j tells.
     let is : c.loop-page.page ≡ c.args.gaps.now.sizes.pages = omega arith in
     subst (λ n. AreThoseInFinalWait (IsEventStateDirty (judged_sizes_of c.args.gaps.now.sizes) j c.args.by) n c.loop-page.pages.items) is
     (c.loop-page.invariant j tells)
+
+pub notice_stores_in-requires-clause-interval : goal.notice_stores_in-requires-clause-interval
+notice_stores_in-requires-clause-interval c = grind (arith, common_steps)

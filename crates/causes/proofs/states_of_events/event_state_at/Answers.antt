@@ -1,4 +1,5 @@
-use Rattle.std.proofs.Common.{Some, refl, subst, sym}
+use Rattle.std.proofs.Common.{Some, refl, subst, sym, arith}
+use Rattle.std.proofs.lemmas.Grind.{elements}
 use Rattle.judge.specs.declared.sizes.Sizes.{Sizes as Given}
 use Rattle.judge.specs.JudgedSizes.{judged_sizes_of}
 use Rattle.causes.specs.EventStates.{IsEventState, IsEventStateIfAsked}
@@ -15,3 +16,6 @@ returns-clause-state c =
       refl,
       subst (λ (x : Given). IsEventState (judged_sizes_of x) j k e state) c.notices_at.ensures.sizes (c.in_ok-state.ensures e at),
     ))
+
+pub event_state_of-requires-clause-within : goal.event_state_of-requires-clause-within
+event_state_of-requires-clause-within c = grind (arith, elements)

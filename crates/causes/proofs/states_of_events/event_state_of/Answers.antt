@@ -1,5 +1,6 @@
-use Rattle.std.proofs.Common.{◌+◌, take, subst}
+use Rattle.std.proofs.Common.{◌+◌, take, subst, arith}
 use Rattle.std.proofs.lemmas.Option.{slice_get-get_or}
+use Rattle.std.proofs.lemmas.Grind.{elements}
 use Rattle.journal.specs.declared.event.Event.{Event}
 use Rattle.journal.specs.declared.event.Kind.TheVariants.{Load}
 use Rattle.journal.specs.DidEvent.{event}
@@ -38,3 +39,12 @@ returns c = λ f there.
       stale = c.in_ok-stale.ensures h tells;
       dirty = c.in_ok-dirty.ensures h tells;
     })
+
+pub stale_pages-requires-clause-reader : goal.stale_pages-requires-clause-reader
+stale_pages-requires-clause-reader c = grind (arith, elements)
+
+pub dirty_pages-requires-clause-by : goal.dirty_pages-requires-clause-by
+dirty_pages-requires-clause-by c = grind (arith, elements)
+
+pub time-requires-clause-processor : goal.time-requires-clause-processor
+time-requires-clause-processor c = grind (arith, elements)

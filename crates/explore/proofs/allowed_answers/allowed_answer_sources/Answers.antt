@@ -1,4 +1,5 @@
 use Rattle.std.proofs.Common.{sym, subst, arith}
+use Rattle.std.proofs.lemmas.Grind.{elements}
 use Rattle.journal.specs.EventsInRange.{EventAddressesInRange, EventProcessorsInRange}
 use Rattle.lrc_script.specs.Plan.{plan_of}
 use Rattle.explore.proofs.allowed_runs.NextAllowed.{next_allowed_addresses, next_allowed_length_few, next_allowed_processors}
@@ -17,3 +18,6 @@ pub note-requires-clause-addresses : goal.note-requires-clause-addresses
 note-requires-clause-addresses c =
     subst (λ n. EventAddressesInRange n c.args.events.now) (sym c.loop-place.invariant.addresses)
     (next_allowed_addresses (plan_of c.args.script.now) c.args.events.now c.requires.allowed)
+
+pub returns-clause-tells : goal.returns-clause-tells
+returns-clause-tells c = grind (arith, elements)

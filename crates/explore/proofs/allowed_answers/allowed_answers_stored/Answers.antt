@@ -1,6 +1,7 @@
 use Rattle.std.proofs.Common.{◌+◌, ◌<◌, Some, length, slice_index_or, ap, sym, subst, ◌∙◌, arith}
 use Rattle.std.specs.Prelude.{None}
 use Rattle.std.proofs.lemmas.Option.{get_or_from_slice_get, slice_get-get_or}
+use Rattle.std.proofs.lemmas.Grind.{elements}
 use Rattle.journal.specs.declared.event.Kind.TheVariants.{Load}
 use Rattle.journal.specs.DidEvent.{event}
 use Rattle.explore.specs.AllowedAnswers.{AreAllowedAnswersStoredAt, HasAllowedAnswerMore}
@@ -30,3 +31,9 @@ loop-by-preserved c =
           (allowed_stored_none events places n old
           (λ i at. w.in_default.not-Some i (get_or_from_slice_get places n (Some i) None at)) c.loop-by.invariant)
     ]
+
+pub offset_bounds-events-place : goal.offset_bounds-events-place
+offset_bounds-events-place c = grind (arith, elements)
+
+pub bounds-events-place : goal.bounds-events-place
+bounds-events-place c = grind (arith, elements)

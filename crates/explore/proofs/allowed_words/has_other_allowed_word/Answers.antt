@@ -1,6 +1,7 @@
 use Rattle.std.proofs.Common.{ℕ, ◌≡◌, inl, inr, List, slice_get, slice_index_or, sym, ap, ◌∙◌, arith}
 use Rattle.std.proofs.lemmas.Bool.{cases_eq, false≢true}
 use Rattle.std.proofs.lemmas.Option.{same_Some, slice_get-get_or, slice_get_within}
+use Rattle.std.proofs.lemmas.Grind.{elements}
 use Rattle.journal.specs.declared.event.Kind.{Kind}
 use Rattle.journal.specs.declared.event.Kind.TheVariants.{Load}
 use Rattle.explore.proofs.allowed_words.has_other_allowed_word.Goals as goal
@@ -33,3 +34,6 @@ returns c = (
       let end = c.loop-call-test.false in
       absurd (some.2 (c.loop-call.invariant some.1.0 some.0 (omega arith) some.1.1)),
 )
+
+pub returns-then-is_other_allowed_word_load : goal.returns-then-is_other_allowed_word_load
+returns-then-is_other_allowed_word_load c = grind (arith, elements)

@@ -2,6 +2,7 @@ use Rattle.std.proofs.Common.{◌≡◌, ◌+◌, ◌*◌, ℕ, List, slice_inde
 use Rattle.std.specs.Global.{Vec}
 use Rattle.std.proofs.lemmas.Bool.{false≢true}
 use Rattle.std.proofs.lemmas.Option.{slice_get-get_or}
+use Rattle.std.proofs.lemmas.Grind.{elements}
 use Rattle.journal.specs.declared.event.Event.{Event}
 use Rattle.journal.specs.declared.event.Kind.TheVariants.{Load}
 use Rattle.journal.specs.DidEvent.{event}
@@ -10,9 +11,9 @@ use Rattle.journal.proofs.Order.EventPlacesAndCounts.{event_place_same}
 use Rattle.judge.specs.JudgedSizes.{judged_sizes_of}
 use Rattle.causes.specs.declared.closed_records.PageRecord.{PageRecord}
 use Rattle.causes.specs.Index.{IsIndexedClosing}
-use Rattle.causes.specs.ClosedRecords.{AreClosedRecords, AreClosedRecordsBelow, AreClosedRecordWordsBelow}
+use Rattle.causes.specs.ClosedRecords.{AreClosedRecords, AreClosedRecordWordsBelow}
 use Rattle.causes.proofs.EdgeLeadsOn.{edge_leads_count_within}
-use Rattle.causes.proofs.RecordRows.{record_row_content, record_row_number_is, record_row_some_words, record_row_stores, record_rows_all, record_rows_next, record_rows_quiet}
+use Rattle.causes.proofs.RecordRows.{AreClosedRecordsBelow, record_row_content, record_row_number_is, record_row_some_words, record_row_stores, record_rows_all, record_rows_next, record_rows_quiet}
 use Rattle.causes.proofs.closed_records.ClosedRecordIndex.records.Goals as goal
 use Rattle.causes.proofs.closed_records.ClosedRecordIndex.records.Goals.{then-notice_stores_in+in_ok-words+in_ok-push, else-notice_stores_in}
 
@@ -97,3 +98,6 @@ returns c = λ f there.
     (subst (λ n. AreClosedRecordsBelow s j e.processor m n records) last c.loop-page.invariant) in
     subst (λ (g : Event). AreClosedRecords s j g.processor (event_interval_at j g.processor k) records)
     (event_place_same j k e f at there) (subst (λ i. AreClosedRecords s j e.processor i records) is all)
+
+pub notice_stores_in-requires-clause-by : goal.notice_stores_in-requires-clause-by
+notice_stores_in-requires-clause-by c = grind (arith, elements)

@@ -1,5 +1,5 @@
 use Rattle.judge.specs.JudgedSizes.{judged_sizes_of}
-use Rattle.causes.specs.ClosedRecords.{AreClosedRecordsBelow}
+use Rattle.causes.proofs.RecordRows.{AreClosedRecordsBelow}
 use Rattle.causes.proofs.closed_records.ClosedRecordIndex.records.Given as goal
 
 abbrev pub invariant-loop-page : goal.invariant-loop-page

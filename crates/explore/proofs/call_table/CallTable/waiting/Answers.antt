@@ -1,5 +1,6 @@
 use Rattle.std.proofs.Common.{◌≡◌, subst, sym, ◌∙◌, arith}
 use Rattle.std.proofs.lemmas.List.{at_drop_all}
+use Rattle.std.proofs.lemmas.Grind.{elements, common_steps}
 use Rattle.explore.specs.CallTables.{call_waiting, call_waiting_from}
 use Rattle.explore.specs.KeptWaiting.{IsLikeKeptWaiting}
 use Rattle.explore.proofs.MachineSteps.{machine_step_read_at}
@@ -28,3 +29,12 @@ returns-clause-like c = λ m known done same.
     subst (IsLikeKeptWaiting m.waiting) (sym is)
     (subst (λ d. IsLikeKeptWaiting m.waiting (call_waiting t d c.args.asked)) (sym done)
     (call_told_like known.plan t known.table known.events m known.knows c.args.asked same))
+
+pub tell-requires-clause-calls : goal.tell-requires-clause-calls
+tell-requires-clause-calls c = grind (arith, elements)
+
+pub loop-processor-preserved : goal.loop-processor-preserved
+loop-processor-preserved c = grind (arith, common_steps)
+
+pub returns-clause-is : goal.returns-clause-is
+returns-clause-is c = grind (arith, common_steps)

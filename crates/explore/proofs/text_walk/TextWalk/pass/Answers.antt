@@ -1,6 +1,7 @@
 use Rattle.std.proofs.Common.{◌<◌, length, sym, subst, ◌∙◌, refl, arith}
 use Rattle.std.specs.Global.{Vec}
 use Rattle.std.proofs.lemmas.Option.{same_Some, slice_get_within}
+use Rattle.std.proofs.lemmas.Grind.{elements}
 use Rattle.explore.specs.declared.prefixes.script_call.ScriptCall.{ScriptCall}
 use Rattle.explore.specs.declared.walked_rows.WalkedRow.{WalkedRow}
 use Rattle.explore.specs.TextWalks.{HasTextWalkStep, IsTextWalkable}
@@ -79,3 +80,39 @@ returns-clause-further c =
       set = refl;
       next = c.pass.ensures.place;
     }
+
+pub index-requires : goal.index-requires
+index-requires c = grind (arith, elements)
+
+pub offset_bounds-steps-processor : goal.offset_bounds-steps-processor
+offset_bounds-steps-processor c = grind (arith, elements)
+
+pub bounds-steps-processor : goal.bounds-steps-processor
+bounds-steps-processor c = grind (arith, elements)
+
+pub index-step-requires : goal.index-step-requires
+index-step-requires c = grind (arith, elements)
+
+pub note_walked_step-requires-clause-within : goal.note_walked_step-requires-clause-within
+note_walked_step-requires-clause-within c = grind (arith, elements)
+
+pub note_walked_step-requires-clause-sized : goal.note_walked_step-requires-clause-sized
+note_walked_step-requires-clause-sized c = grind (arith, elements)
+
+pub note_walked_step-requires-clause-place : goal.note_walked_step-requires-clause-place
+note_walked_step-requires-clause-place c = grind (arith, elements)
+
+pub meet_flag-requires-clause-within : goal.meet_flag-requires-clause-within
+meet_flag-requires-clause-within c = grind (arith, elements)
+
+pub meet_flag-requires-clause-processor : goal.meet_flag-requires-clause-processor
+meet_flag-requires-clause-processor c = grind (arith, elements)
+
+pub pass-requires-clause-within : goal.pass-requires-clause-within
+pass-requires-clause-within c = grind (arith, elements)
+
+pub pass-requires-clause-processor : goal.pass-requires-clause-processor
+pass-requires-clause-processor c = grind (arith, elements)
+
+pub pass-requires-clause-place : goal.pass-requires-clause-place
+pass-requires-clause-place c = grind (arith, elements)

@@ -1,4 +1,5 @@
 use Rattle.std.proofs.Common.{refl, ap, arith}
+use Rattle.std.proofs.lemmas.Grind.{elements}
 use Rattle.journal.specs.declared.event.Event.{Event}
 use Rattle.judge.specs.JudgedSizes.{judged_sizes_of}
 use Rattle.judge.specs.GapTally.{gap_tally_place_of}
@@ -20,3 +21,9 @@ returns-in_default c = record {
       (λ w r d is. c.in_default.not-Fetch w n r d (ap (λ (x : Event). x.kind) is)) (tells.are.fetched n p lt))
       (let few = tells.are.few in omega arith) tells.are);
 }
+
+pub returns-in-Store-clause-kept : goal.returns-in-Store-clause-kept
+returns-in-Store-clause-kept c = grind (arith, elements)
+
+pub returns-in-Fetch-clause-kept : goal.returns-in-Fetch-clause-kept
+returns-in-Fetch-clause-kept c = grind (arith, elements)

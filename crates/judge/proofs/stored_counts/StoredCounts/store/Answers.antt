@@ -1,4 +1,5 @@
 use Rattle.std.proofs.Common.{◌≡◌, ℕ, ◌+◌, ◌-◌, ◌/◌, ◌<◌, ◌≤◌, Option, Some, None, List, slice_index, vec_len, subst, sym, refl, ap, ◌∙◌, arith}
+use Rattle.std.proofs.lemmas.Grind.{common_steps, pieces, elements}
 use Rattle.std.specs.Global.{Vec}
 use Rattle.std.specs.Option.{unwrap_or}
 use Rattle.journal.specs.declared.event.Event.{Event}
@@ -103,3 +104,18 @@ returns-clause-tells c = λ j tells long v.
     let marks = written c.word_row-word.result word (interval + 1) (k + 1) c.word_row-word.ensures.is (ap (λ z. z + 1) number)
     c.in_ok-set.ensures.set c.set.ensures.room c.set.ensures.few in
     subst Told (sym rest) (stored_tables_store v c.requires.processor fresh long step all marks tells)
+
+pub overflow_add-interval : goal.overflow_add-interval
+overflow_add-interval c = grind (arith, common_steps)
+
+pub nonzero_div-address : goal.nonzero_div-address
+nonzero_div-address c = search (pieces, arith)
+
+pub with_word-requires-clause-interval : goal.with_word-requires-clause-interval
+with_word-requires-clause-interval c = grind (arith, common_steps)
+
+pub with_word-requires-clause-records : goal.with_word-requires-clause-records
+with_word-requires-clause-records c = grind (arith, elements)
+
+pub with_word-requires-clause-words : goal.with_word-requires-clause-words
+with_word-requires-clause-words c = grind (arith, elements)

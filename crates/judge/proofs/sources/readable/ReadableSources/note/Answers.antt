@@ -2,6 +2,7 @@ use Rattle.std.proofs.Common.{◌≡◌, ◌+◌, ◌<◌, List, take, slice_ind
 use Rattle.std.specs.Prelude.{Result, Ok, Err, OnOk}
 use Rattle.std.proofs.lemmas.Option.{slice_get-get_or}
 use Rattle.std.proofs.lemmas.List.{length-take-le}
+use Rattle.std.proofs.lemmas.Grind.{elements}
 use Rattle.base.proofs.SlicesAndCounts.{slice_get-from_take}
 use Rattle.journal.specs.declared.event.Event.{Event}
 use Rattle.journal.specs.declared.event.Kind.TheVariants.{Load}
@@ -47,3 +48,9 @@ returns-clause-tells c =
     both c.note.result
     (λ clocks present. told (take (place + 1) events) s c.note.new.self range kept clocks (present ∙ was))
     c.note.ensures.clocks c.note.ensures.present
+
+pub keep-requires-clause-processor : goal.keep-requires-clause-processor
+keep-requires-clause-processor c = grind (arith, elements)
+
+pub keep-requires-clause-address : goal.keep-requires-clause-address
+keep-requires-clause-address c = grind (arith, elements)
