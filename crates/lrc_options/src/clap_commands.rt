@@ -311,12 +311,18 @@ fn clap_explain_command<'a>(
 }
 
 /// `lrc sample`.
-fn clap_sample_command<'a>(alloc: Global, locks: &'a [&'a str]) -> Result<Command<'a>, AllocError>
-    ensures { IfOk result (IsCommandByOptionRules (sample_option_rules (vp.Names locks.entry))) }
+fn clap_sample_command<'a>(
+    alloc: Global,
+    locks: &'a [&'a str],
+    details: &'a [&'a str],
+) -> Result<Command<'a>, AllocError>
+    ensures { IfOk result (IsCommandByOptionRules (sample_option_rules (vp.Names locks.entry) (vp.Names details.entry))) }
 {
     let about = "Runs the script by many drawn schedules, and tells each kind of result once";
     let own = clap_seeds_arg(alloc);
-    clap_flagged_command(alloc, "sample", about, SAMPLE, own, locks, "json", JSON)
+    let command = clap_script_command(alloc, "sample", about, SAMPLE, own, locks);
+    let command = with_clap_arg(command, clap_outcomes_arg(alloc, details));
+    with_clap_arg(command, clap_flag_arg(alloc, "json", JSON))
 }
 
 /// `lrc explore`.
@@ -394,7 +400,7 @@ pub(crate) fn clap_lrc_command<'a>(
         Commands::RunAndStep => (false, AFTER_RUN_AND_STEP),
     };
     let explain = clap_command_shown_if(shown, clap_explain_command(alloc, locks, models));
-    let sample = clap_command_shown_if(shown, clap_sample_command(alloc, locks));
+    let sample = clap_command_shown_if(shown, clap_sample_command(alloc, locks, details));
     let explore = clap_command_shown_if(shown, clap_explore_command(alloc, details));
     let check = clap_command_shown_if(shown, clap_check_command(alloc, models, words));
     let lrc = Ok(clap_bare_command(alloc, after));
