@@ -12,6 +12,6 @@ returns c =
     let script = script_option_rules (codes "sample") seeds_option_rule locks in
     let outcomes = with_rule script (outcomes_option_rule (vp.Names c.args.details)) in
     let one = subst (λ (x : Rule). IfOk c.clap_script_command-command.result (IsCommandByOptionRules (script_option_rules (codes "sample") x locks)))
-        c.clap_seeds_arg-own.ensures.rule c.clap_script_command-command.ensures in
+    c.clap_seeds_arg-own.ensures.rule c.clap_script_command-command.ensures in
     let two = matched_option_with_rule _ script _ _ c.clap_outcomes_arg.ensures.rule (c.with_clap_arg-command.ensures script one) in
     matched_option_with_rule _ outcomes _ _ c.clap_flag_arg.ensures.rule (c.with_clap_arg.ensures outcomes two)
