@@ -133,6 +133,35 @@ typedef struct cevandle_verdict {
     uint64_t unjudged; /* loads of a faithful history: under CEVANDLE_RACE_FREE those from race.second on */
 } cevandle_verdict;
 
+/* Which words cevandle_locksets tells. */
+enum cevandle_lockset_words {
+    CEVANDLE_FORGOTTEN = 0, /* those whose lock was forgotten somewhere */
+    CEVANDLE_ALL_WORDS = 1  /* those that never have one, too: they are handed over */
+};
+
+/* An access of a word: its place, from 0, and who made it. */
+typedef struct cevandle_place {
+    uint64_t place, processor;
+} cevandle_place;
+
+/* Two accesses that hold a lock in common, and the lock; CEVANDLE_NONE in each field where no two do. */
+typedef struct cevandle_guarded {
+    cevandle_place first, second;
+    uint64_t lock;
+} cevandle_guarded;
+
+/* A word that needs a lock and has none. */
+typedef struct cevandle_word {
+    uint64_t address;
+    cevandle_place first, second; /* two accesses that hold no lock in common */
+    cevandle_guarded guarded;     /* two that do, if there are such: somebody forgot the lock */
+} cevandle_word;
+
+typedef struct cevandle_locksets_found {
+    cevandle_verdict verdict;
+    uint64_t words; /* how many there are: of a faithful history without a race; else 0 */
+} cevandle_locksets_found;
+
 /* What is wrong with a script's line: docs/SCRIPTS.md has each. Of several faults of one line the first one in this order is
  * told, but for UNEVEN, which is told of a text without any other. */
 enum cevandle_script_fault_kind {
@@ -204,6 +233,8 @@ typedef struct cevandle_exploration {
 /* What the library has: as the calls below, but no pointer may be null. A caller without this header calls these. */
 uint32_t cevandle_judge_nonnull(cevandle_sizes sizes, cevandle_rules rules, const cevandle_event *events, size_t count,
                                 cevandle_verdict *verdict);
+uint32_t cevandle_locksets_nonnull(cevandle_sizes sizes, cevandle_rules rules, uint32_t which, const cevandle_event *events,
+                                   size_t count, cevandle_word *words, size_t room, cevandle_locksets_found *found);
 uint32_t cevandle_first_race_nonnull(cevandle_sizes sizes, const cevandle_event *events, size_t count, cevandle_race *race);
 uint32_t cevandle_replay_nonnull(cevandle_sizes sizes, const cevandle_event *events, size_t count, uint32_t *memory,
                                  size_t room, uint32_t *replays);
@@ -223,6 +254,22 @@ static inline uint32_t cevandle_judge(cevandle_sizes sizes, cevandle_rules rules
         return CEVANDLE_NULL;
     }
     return cevandle_judge_nonnull(sizes, rules, events == NULL ? cevandle_no_events : events, count, verdict);
+}
+
+/* Judges a history as cevandle_judge does, and finds the words of it that need a lock and have none, as `lrc check --locksets`
+ * tells them: docs/CHECKING.md, "A lock forgotten". `which` is a cevandle_lockset_words. `found` has how many there are, and
+ * `words` the first of them, by rising address, as many as there is `room` for. `events` may be null if count is 0, and `words` if
+ * room is 0. Answers as cevandle_judge, else DONE. */
+static inline uint32_t cevandle_locksets(cevandle_sizes sizes, cevandle_rules rules, uint32_t which,
+                                         const cevandle_event *events, size_t count, cevandle_word *words, size_t room,
+                                         cevandle_locksets_found *found)
+{
+    cevandle_word none;
+    if ((events == NULL && count != 0) || (words == NULL && room != 0) || found == NULL) {
+        return CEVANDLE_NULL;
+    }
+    return cevandle_locksets_nonnull(sizes, rules, which, events == NULL ? cevandle_no_events : events, count,
+                                     words == NULL ? &none : words, room, found);
 }
 
 /* Finds the first race of any events, whether a memory can make them or not: the least second place, and with it the least

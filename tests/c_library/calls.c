@@ -255,6 +255,89 @@ static size_t long_history(cevandle_event *events, size_t most)
     return length;
 }
 
+static int is_access(cevandle_place access, uint64_t place, uint64_t processor)
+{
+    return access.place == place && access.processor == processor;
+}
+
+/* Adds a section of the processor under the lock, with an access in its midst if `kind` is one, and returns how many there are. */
+static size_t add_section(cevandle_event *events, size_t length, uint32_t who, uint32_t lock, uint32_t kind, uint32_t value)
+{
+    events[length++] = by(who, CEVANDLE_ASK, lock, 0);
+    events[length++] = by(who, CEVANDLE_ACQUIRE, lock, 0);
+    if (kind <= CEVANDLE_STORE) {
+        events[length++] = by(who, kind, 0, value);
+    }
+    events[length++] = by(who, CEVANDLE_RELEASE, lock, 0);
+    return length;
+}
+
+/* A lock is forgotten once, of word 0 at place 12; word 3 is handed over under lock 1, which orders all and guards nothing. */
+static size_t forgotten(cevandle_event *events)
+{
+    size_t length = add_section(events, 0, 0, 0, CEVANDLE_STORE, 1);
+    length = add_section(events, length, 1, 0, CEVANDLE_STORE, 2);
+    length = add_section(events, length, 0, 0, CEVANDLE_LOAD, 2);
+    events[length++] = by(0, CEVANDLE_STORE, 0, 3);
+    events[length++] = by(0, CEVANDLE_STORE, 3, 5);
+    length = add_section(events, length, 0, 1, UINT32_MAX, 0);
+    length = add_section(events, length, 1, 1, UINT32_MAX, 0);
+    events[length++] = by(1, CEVANDLE_STORE, 3, 6);
+    length = add_section(events, length, 1, 0, CEVANDLE_STORE, 4);
+    length = add_section(events, length, 1, 1, UINT32_MAX, 0);
+    length = add_section(events, length, 0, 1, UINT32_MAX, 0);
+    events[length++] = by(0, CEVANDLE_LOAD, 3, 6);
+    return length;
+}
+
+static const cevandle_sizes TWO_LOCKS = {2, 2, 2, 2, 1};
+
+static void locksets(void)
+{
+    cevandle_event events[40];
+    cevandle_word words[3];
+    cevandle_locksets_found found;
+    const size_t length = forgotten(events);
+    fill(words, sizeof words);
+    count("a forgotten lock", cevandle_locksets(TWO_LOCKS, rules(0, 0, 0), CEVANDLE_FORGOTTEN, events, length, words, 3, &found) == CEVANDLE_DONE
+                                  && found.words == 1 && found.verdict.verdict == CEVANDLE_FAITHFUL && found.verdict.judged == length
+                                  && found.verdict.race.second == CEVANDLE_NONE);
+    count("its word", words[0].address == 0 && is_access(words[0].first, 6, 1) && is_access(words[0].second, 12, 0));
+    count("what was guarded", is_access(words[0].guarded.first, 6, 1) && is_access(words[0].guarded.second, 10, 0) && words[0].guarded.lock == 0);
+    count("no other is written", is_filled(&words[1], 2 * sizeof words[1]));
+    fill(words, sizeof words);
+    count("all words", cevandle_locksets(TWO_LOCKS, rules(0, 0, 0), CEVANDLE_ALL_WORDS, events, length, words, 3, &found) == CEVANDLE_DONE
+                           && found.words == 2 && words[0].address == 0 && words[1].address == 3);
+    count("one that is handed over", is_access(words[1].first, 20, 1) && is_access(words[1].second, length - 1, 0)
+                                         && is_access(words[1].guarded.first, CEVANDLE_NONE, CEVANDLE_NONE)
+                                         && is_access(words[1].guarded.second, CEVANDLE_NONE, CEVANDLE_NONE)
+                                         && words[1].guarded.lock == CEVANDLE_NONE);
+    count("no third is written", is_filled(&words[2], sizeof words[2]));
+    fill(words, sizeof words);
+    count("room for one", cevandle_locksets(TWO_LOCKS, rules(0, 0, 0), CEVANDLE_ALL_WORDS, events, length, words, 1, &found) == CEVANDLE_DONE
+                              && found.words == 2 && words[0].address == 0 && is_filled(&words[1], 2 * sizeof words[1]));
+    count("room for none", cevandle_locksets(TWO_LOCKS, rules(0, 0, 0), CEVANDLE_ALL_WORDS, events, length, NULL, 0, &found) == CEVANDLE_DONE
+                               && found.words == 2);
+    events[length - 1].value = 7;
+    count("no words of a lie", cevandle_locksets(TWO_LOCKS, rules(0, 0, 0), CEVANDLE_ALL_WORDS, events, length, words, 3, &found) == CEVANDLE_DONE
+                                   && found.words == 0 && found.verdict.verdict == CEVANDLE_UNFAITHFUL && found.verdict.lie.place == length - 1);
+    const cevandle_event racing[] = {by(0, CEVANDLE_STORE, 0, 1), by(1, CEVANDLE_STORE, 0, 2)};
+    count("nor of a race", cevandle_locksets(TWO_LOCKS, rules(0, 0, 0), CEVANDLE_ALL_WORDS, racing, 2, words, 3, &found) == CEVANDLE_DONE
+                               && found.words == 0 && found.verdict.race.first == 0 && found.verdict.race.second == 1);
+    const cevandle_sizes wide = {65, 1, 1, 1, 1};
+    fill(&found, sizeof found);
+    fill(words, sizeof words);
+    count("locksets: sizes", cevandle_locksets(wide, rules(0, 0, 0), 2, events, length, words, 3, &found) == CEVANDLE_BAD_SIZES);
+    count("locksets: which", cevandle_locksets(TWO_LOCKS, rules(0, 0, 0), 2, events, length, words, 3, &found) == CEVANDLE_BAD_RULES);
+    count("locksets: rules", cevandle_locksets(TWO_LOCKS, rules(4, 0, 0), 0, events, length, words, 3, &found) == CEVANDLE_BAD_RULES);
+    events[0].kind = 11;
+    count("locksets: kind", cevandle_locksets(TWO_LOCKS, rules(0, 0, 0), 0, events, length, words, 3, &found) == CEVANDLE_BAD_EVENT);
+    count("locksets: events", cevandle_locksets(TWO_LOCKS, rules(0, 0, 0), 0, NULL, 1, words, 3, &found) == CEVANDLE_NULL);
+    count("locksets: words", cevandle_locksets(TWO_LOCKS, rules(0, 0, 0), 0, events, length, NULL, 1, &found) == CEVANDLE_NULL);
+    count("locksets: found", cevandle_locksets(TWO_LOCKS, rules(0, 0, 0), 0, events, length, words, 3, NULL) == CEVANDLE_NULL);
+    count("locksets: nothing is written", is_filled(&found, sizeof found) && is_filled(words, sizeof words));
+}
+
 static void long_histories(cevandle_event *events)
 {
     size_t length = long_history(events, 1000000);
@@ -359,6 +442,7 @@ int main(int words, char **word)
     refusals(many);
     races(many);
     replays(many);
+    locksets();
     long_histories(many);
     free(many);
     return counted();

@@ -52,6 +52,8 @@ static const char RACY[] = "cluster 2 1 1 0 1\np 0\nstore 0 1\nset 0\np 1\nload 
 /* All that the calls write. */
 typedef struct written {
     cevandle_verdict verdict;
+    cevandle_locksets_found locksets;
+    cevandle_word words[1];
     cevandle_race race;
     uint32_t memory[1], replays;
     cevandle_exploration found;
@@ -62,6 +64,19 @@ static uint32_t judges(written *to)
 {
     const cevandle_rules rules = {CEVANDLE_LAZY_RELEASE, 0, 0};
     return cevandle_judge(SIZES, rules, EVENTS, 4, &to->verdict);
+}
+
+/* Two sections of one lock, and an access without it. */
+static uint32_t locksets(written *to)
+{
+    static const cevandle_event forgets[] = {{0, CEVANDLE_ASK, 0, 0, 0, 0, 0},   {0, CEVANDLE_ACQUIRE, 0, 0, 0, 0, 0},
+                                             {0, CEVANDLE_STORE, 0, 9, 0, 0, 0}, {0, CEVANDLE_RELEASE, 0, 0, 0, 0, 0},
+                                             {1, CEVANDLE_ASK, 0, 0, 0, 0, 0},   {1, CEVANDLE_ACQUIRE, 0, 0, 0, 0, 0},
+                                             {1, CEVANDLE_STORE, 0, 7, 0, 0, 0}, {1, CEVANDLE_RELEASE, 0, 0, 0, 0, 0},
+                                             {0, CEVANDLE_ASK, 0, 0, 0, 0, 0},   {0, CEVANDLE_ACQUIRE, 0, 0, 0, 0, 0},
+                                             {0, CEVANDLE_RELEASE, 0, 0, 0, 0, 0}, {0, CEVANDLE_LOAD, 0, 7, 0, 0, 0}};
+    const cevandle_rules rules = {CEVANDLE_RACE_FREE, 0, 0};
+    return cevandle_locksets(SIZES, rules, CEVANDLE_ALL_WORDS, forgets, 12, to->words, 1, &to->locksets);
 }
 
 static uint32_t races(written *to)
@@ -109,6 +124,7 @@ static void refuse_each(const char *what, uint32_t (*call)(written *))
 int main(void)
 {
     refuse_each("judge", judges);
+    refuse_each("locksets", locksets);
     refuse_each("first race", races);
     refuse_each("replay", replays);
     refuse_each("explore", explores);

@@ -7,7 +7,8 @@ and a bad line the one that comes first is told, however the text is cut into pi
 events, is judged in memory that doesn't grow with it: 16 processors that share 4,096 words, each under a lock, with labels; so is one that races at its end, or
 lies there; and one whose locks go round, under the models that look at earlier stores. Nor does the memory grow with one whose
 fetches count what they bring, of 16 processors that share 112 pages. What is told has its labels as long as it is at hand, and so has the race if more than a window comes behind it.
-With --locksets the memory doesn't grow either, and accesses of a word that were let go of are told by number and processor.
+With --locksets the memory doesn't grow either. Accesses that were let go of are told with their labels, if they have one and a finder keeps
+them, and so is the first one of a race; others are told by number and processor.
 `explain --trace` refuses a trace of more events than it has at hand.
 The last line is `N passed, M failed`.
 """
@@ -256,8 +257,8 @@ STORE, LOAD, BARE = (EARLY.index(it) for it in ("1 store 4097 2", "0 load 4097 2
 MOVED = (b"event %d %s" % (int(line.split(b" ", 2)[1]) + len(EARLY), line.split(b" ", 2)[2]) for line in LINES[1:])
 WORDS = [SIZES, *numbered(EARLY, 0), *MOVED, *numbered(LATE, EVENTS + len(EARLY))]
 BEHIND = EVENTS + len(EARLY)
-HANDED = f"handed over 4096: event {FIRST} by p1 and event {SECOND} by p0 hold no lock in common\n"
-FORGOTTEN = f"unprotected 4097: event {STORE} by p1 and event {BARE} by p0 hold no lock in common; events {STORE} and {LOAD} hold lock 1\n"
+HANDED = f"handed over 4096: event {FIRST} (gone) by p1 and event {SECOND} by p0 hold no lock in common\n"
+FORGOTTEN = f"unprotected 4097: event {STORE} by p1 and event {BARE} (gone) by p0 hold no lock in common; events {STORE} and {LOAD} hold lock 1\n"
 LAST = (f"handed over 4098: event {BEHIND + LATE.index('2 store 4098 2  late')} (late) by p2 "
         f"and event {BEHIND + len(LATE) - 1} by p3 hold no lock in common\n")
 for which, told in (("forgotten", FORGOTTEN), ("all", HANDED + FORGOTTEN + LAST)):
@@ -265,7 +266,30 @@ for which, told in (("forgotten", FORGOTTEN), ("all", HANDED + FORGOTTEN + LAST)
         status, said, wrong = long_judged(WORDS, "--locksets", which, "--model", model)
         count(f"words of a long trace, {which}, {model}", status == 0 and f"verdict race-free\n{told}traffic " in said, status, said[:600], wrong)
 status, said, wrong = long_judged(WORDS, "--locksets", "all", "--json")
-count("an access that was let go of is an object, too", f'"first":{{"place":{FIRST},"processor":1}}' in said and f'"guarded":[{{"place":{STORE},"processor":1}},' in said
-      and '"label":"late"' in said, status, said[:900], wrong)
+count("an access that was let go of is an object, too", f'"guarded":[{{"place":{STORE},"processor":1}},' in said and '"label":"late"' in said
+      and f'"first":{{"address":4096,"kind":"store","label":"gone","place":{FIRST},"processor":1,"value":2}}' in said, status, said[:900], wrong)
+
+# Of word 4099 two processors' accesses hold no lock in common, the second one long behind the first; before that one comes an access
+# with another lock and another label, and behind it one with its own lock and label by another processor. Word 4100 races, long behind
+# its first access; word 4101 is told though its first access is followed by others of its sort.
+FAR = [*section(1, 1, "store 4099 1  other.c:1"), *section(0, 1), *section(0, 0, "store 4099 1  first.c:2"), *section(0, 0, "store 4099 2  first.c:3"),
+       *section(0, 1, "store 4099 3  other.c:4"), "5 store 4100 1  race.c:5", *section(0, 0), *section(1, 0),
+       "0 store 4101 1  early.c:6", *section(0, 0), *section(1, 0), "1 store 4101 2  early.c:7", *section(1, 0), *section(0, 0),
+       "0 store 4101 3  early.c:8", *section(0, 0), *section(1, 0), "1 store 4101 4  early.c:9", "1 store 4101 5  early.c:10"]
+FIRST_FAR = FAR.index("0 store 4099 2  first.c:3")
+RACE_FAR = FAR.index("5 store 4100 1  race.c:5")
+TOLD_FAR = FAR.index("1 store 4101 2  early.c:7"), FAR.index("0 store 4101 3  early.c:8")
+AFTER = [*section(1, 1), *section(0, 1), *section(1, 1, "load 4099 3  last.c:11")]
+MOVED_FAR = [b"event %d %s" % (int(line.split(b" ", 2)[1]) + len(FAR), line.split(b" ", 2)[2]) for line in LINES[1:]]
+BEHIND = EVENTS + len(FAR)
+FARTHER = [SIZES, *numbered(FAR, 0), *MOVED_FAR]
+status, said, wrong = long_judged([*FARTHER, *numbered(AFTER, BEHIND)], "--locksets", "all")
+count("an access long ago is told with its label", status == 0 and f" {FIRST_FAR} (first.c:3) by p0 and event " in said and "(last.c:11) by p1" in said, status, said[:900], wrong)
+count("an access is told with its label though others followed", f"handed over 4101: event {TOLD_FAR[0]} (early.c:7) by p1 and event {TOLD_FAR[1]} (early.c:8) by p0 " in said,
+      status, said[:900], wrong)
+for words in ((), ("--locksets", "all")):
+    status, said, wrong = long_judged([*FARTHER, *numbered(["6 store 4100 2  end"], BEHIND)], *words)
+    count(f"the first access of a race is told though it came long ago, {words}",
+          f"verdict racy\nevent {RACE_FAR} 5 store 4100 1  race.c:5\nevent {BEHIND} 6 store 4100 2  end\n" in said, status, said[:600], wrong)
 print(f"{passed} passed, {failed} failed")
 sys.exit(failed > 0)

@@ -44,6 +44,7 @@ def sample_text(objects):
     *results, end = objects
     expect(end["told"] == "end" and end["results"] == len(results), f"that is the end: {end}")
     yield f"runs {end['runs']}"
+    yield f"verdicts race-free {end['race_free']} racy {end['racy']} stuck {end['stuck']}"
     for it in results:
         expect(it["told"] == "result", f"that is a result: {it}")
         stuck = it["verdict"] == "stuck"

@@ -30,7 +30,7 @@ class Case:
         return json_lines.objects_of(told.output), printed.output
 
     def sample(self):
-        objects, printed = self.both(self.script.text(), "sample", "--seeds", SEEDS)
+        objects, printed = self.both(self.script.text(), "sample", "--seeds", SEEDS, "--outcomes", "all")
         json_lines.expect_same(json_lines.sample_text(objects), printed)
         for it in objects[:-1]:
             self.found.seen["json", "result", it["verdict"]] += 1

@@ -149,6 +149,12 @@ def locks_at(events, place):
     return ", ".join(map(str, sorted(held))) or "none"
 
 
+def awaited_by(events, place):
+    """Which flag the processor of the event at a place has awaited last before it, in words."""
+    own = [(it.numbers[0], at) for at, it in enumerate(events[:place]) if it.kind == "await" and it.processor == events[place].processor]
+    return "had last awaited flag {} (event {})".format(*own[-1]) if own else "had awaited none"
+
+
 def reasons(table, race):
     """The sentences on a race: what the later access's processor knew of the other, what it missed, the locks, the remedy."""
     (place, first), (later, second) = ((it, table.events[it]) for it in race)
@@ -162,6 +168,8 @@ def reasons(table, race):
     if (first.kind, second.kind) == ("store", "load") and first.numbers[1] != second.numbers[1]:
         yield f"Stale: {deed(second)}, though event {place} had stored {first.numbers[1]}."
     yield f"No lock in common: {one} held {locks_at(table.events, place)}, {other} held {locks_at(table.events, later)}."
+    if any(it.kind in ("set", "watch", "await") for it in table.events[:later]):
+        yield f"Flags aren't among these locks: {one} {awaited_by(table.events, place)}, {other} {awaited_by(table.events, later)}."
     yield ("What would order them: one lock round both, a barrier between them, or a flag that "
            f"{one} sets behind event {place} and {other} awaits before event {later}.")
 

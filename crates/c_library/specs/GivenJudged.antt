@@ -1,7 +1,8 @@
 -- What is answered of a history that is to be judged.
 use Rattle.std.specs.Prelude.{◌≡◌, ◌≤◌, List, length, map}
 use Rattle.base.specs.Limits.{most_held}
-use Rattle.judge.specs.JudgedSizes.{AreJudgedSizes}
+use Rattle.journal.specs.declared.event.Event.{Event}
+use Rattle.judge.specs.JudgedSizes.{AreJudgedSizes, most_judged_events}
 use Rattle.lrc_check.specs.declared.checked.Checked.{Checked}
 use Rattle.lrc_check.specs.CheckVerdicts.{IsTrueCheckVerdict}
 use Rattle.c_library.specs.declared.call_fault.CallFault.{CallFault}
@@ -19,6 +20,12 @@ pub record CanGivenBeJudged (s : GivenSizes) (r : GivenRules) (es : List GivenEv
   pub rules : AreGivenRules r
   pub few : length es ≤ most_held
   pub known : HaveGivenKinds es
+
+-- it has, and these are the events
+pub record IsGivenJudgedEvents (s : GivenSizes) (r : GivenRules) (es : List GivenEvent) (j : List Event) : Type 0 where
+  pub judged : CanGivenBeJudged s r es
+  pub is : j ≡ map given_event_of es
+  pub few : length j ≤ most_judged_events
 
 -- it has, and this is what is told of what was found
 pub record IsGivenJudgedTold (s : GivenSizes) (r : GivenRules) (es : List GivenEvent) (told : ToldVerdict) : Type 0 where

@@ -2,6 +2,8 @@ pub mod Given
 pub mod CallFaults
 pub mod ToldVerdicts
 pub mod GivenJudged
+pub mod ToldWords
+pub mod GivenLocksets
 pub mod GivenHistories
 pub mod ToldExploration
 pub mod GivenTexts

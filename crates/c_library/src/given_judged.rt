@@ -1,27 +1,27 @@
 //! A history is judged.
 ghost use Rattle.std.specs.Prelude.{◌≡◌, ◌≢◌, IfErr, IfOk};
-ghost use Rattle.c_library.specs.Prelude.{IsCallFaultCode, IsGivenJudgedFault, IsGivenJudgedTold};
+ghost use Rattle.c_library.specs.Prelude.{IsCallFaultCode, IsGivenJudgedEvents, IsGivenJudgedFault, IsGivenJudgedTold};
 
 use crate::call_fault::CallFault;
 use crate::given::{
     GivenEvent, GivenRules, GivenSizes, are_given_few, given_events_of, have_given_kinds,
 };
 use crate::told_verdict::{ToldVerdict, told_verdict};
+use journal::Event;
 use lrc_check::judge_history;
 use std::alloc::Global;
 
-/// Judges the events, if all that was handed in is in range.
-fn judge_given(
+/// The events that are to be judged, if all that was handed in is in range.
+pub fn given_judged_events(
     alloc: Global,
     sizes: GivenSizes,
     rules: GivenRules,
     events: &[GivenEvent],
-) -> Result<ToldVerdict, CallFault>
-    ensures told { IfOk result (IsGivenJudgedTold sizes rules events.now) }
+) -> Result<Vec<Event>, CallFault>
+    ensures taken { IfOk result (λ v. IsGivenJudgedEvents sizes rules events.now v.items) }
     ensures refused { IfErr result (IsGivenJudgedFault sizes rules events.now) }
 {
-    let judged = sizes.sizes();
-    if !judged.are_judged() {
+    if !sizes.sizes().are_judged() {
         return Err(CallFault::BadSizes);
     }
     if !rules.are_known() {
@@ -33,8 +33,21 @@ fn judge_given(
     if !have_given_kinds(events) {
         return Err(CallFault::BadEvent);
     }
-    let history = given_events_of(alloc, events)?;
-    let found = judge_history(alloc, judged, &history, rules.rules())?;
+    Ok(given_events_of(alloc, events)?)
+}
+
+/// Judges the events, if all that was handed in is in range.
+fn judge_given(
+    alloc: Global,
+    sizes: GivenSizes,
+    rules: GivenRules,
+    events: &[GivenEvent],
+) -> Result<ToldVerdict, CallFault>
+    ensures told { IfOk result (IsGivenJudgedTold sizes rules events.now) }
+    ensures refused { IfErr result (IsGivenJudgedFault sizes rules events.now) }
+{
+    let history = given_judged_events(alloc, sizes, rules, events)?;
+    let found = judge_history(alloc, sizes.sizes(), &history, rules.rules())?;
     Ok(told_verdict(&found))
 }
 

@@ -6,7 +6,7 @@
 //! `told_exploration` (specs/ToldExploration) what the second tell. `CallFault` is why a call did nothing, `call_fault_code` its number.
 //!
 //! **What is proved.** Each export answers 0 only if all that was handed in is in range; then what it wrote is what the
-//! function below promises of these very events or of this very script (`IsGivenJudgedTold`, `IsGivenHistoryRaceTold`, `IsGivenHistoryReplayTold`,
+//! function below promises of these very events or of this very script (`IsGivenJudgedTold`, `IsGivenLocksetsTold`, `IsGivenHistoryRaceTold`, `IsGivenHistoryReplayTold`,
 //! `IsGivenTextTold`). It answers another code only if that is the code of the first thing that is out of range, that of
 //! memory only if nothing is; then it wrote nothing, but of a text that is no script's the fault (`IsGivenTextFaultTold`). No
 //! export has a premise, since nothing checks what C hands in.
@@ -19,9 +19,11 @@ mod call_fault;
 mod given;
 mod given_history;
 mod given_judged;
+mod given_locksets;
 mod given_text;
 mod racing;
 mod replaying;
 mod told_exploration;
 mod told_verdict;
+mod told_words;
 mod unexplored;

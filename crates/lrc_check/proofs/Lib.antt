@@ -9,4 +9,5 @@ pub mod HistoryEnds
 pub mod HistoryNext
 pub mod HistoryLocksets
 pub mod StreamedTraces
+pub mod WaitingWalks
 pub mod ReadLabels

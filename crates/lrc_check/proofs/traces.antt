@@ -9,7 +9,9 @@ pub mod LabelLines
 pub mod Never
 pub mod TraceWalk
 pub mod ReadingOn
+pub mod PassedOver
 pub mod Feeding
+pub mod Unfinished
 pub mod UnlabelledTexts
 pub mod Printed
 pub mod CutRefused

@@ -9,5 +9,6 @@ pub mod FoundInBytes
 pub mod ToldLines
 pub mod ToldTraces
 pub mod Unprotected
+pub mod WaitingCircles
 pub mod Prelude
 pub mod Traces

@@ -9,5 +9,6 @@ pub mod TraceLines
 pub mod Heads
 pub mod TraceFaults
 pub mod FedText
+pub mod RefusedLines
 pub mod Laws
 pub mod Prelude

@@ -2,7 +2,10 @@
 ghost use Rattle.std.specs.Prelude.{◌≡◌, ◌+◌, ◌<◌, ◌≤◌, [], ◌∷◌, ◌++◌, ℕ, IfOk, IfSome, List, IsTrue, MatchOption, None, Ok, OnOk, Option, cond, false, is_some, length};
 ghost use Rattle.journal.specs.Prelude.{AreKeptBaseStateCosts};
 ghost use Rattle.journal.specs.declared.event.Event.{Event};
+ghost use Rattle.journal.specs.Sizes.{addresses};
 ghost use Rattle.judge.specs.declared.locksets.lockset_finder.LocksetWords.{LocksetWords as Words};
+ghost use Rattle.judge.specs.declared.locksets.lockset_finder.LocksetWords.TheVariants.{All};
+ghost use Rattle.judge.specs.Locksets.Prelude.{PairsTellUnprotected};
 ghost use Rattle.judge.specs.declared.sizes.Sizes.{Sizes as JudgedSizes};
 ghost use Rattle.judge.specs.Prelude.{AreStreamedSizes, judged_sizes_of, most_judged_events};
 ghost use Rattle.lrc_check.specs.Prelude.{AreUnprotectedTold, ComesNextInHistory, ComesNextToHistoryLocksets, ComesNextToTally, HasHistoryLocksets, HasJudgedNext, HasJudgedToEnd, IsHistoryLocksets, IsCheckVerdictTraffic, IsHistoryEnd, IsHistoryEndWithin, IsHistoryJudgeOf, IsHistoryTallied, IsNextPartOfHistory, IsTrueCheckVerdict};
@@ -326,11 +329,24 @@ impl HistoryJudge {
             None => Ok(Vec::new(alloc)),
         }
     }
+
+    /// All words so far that need a lock and have none, at times or never, if such words are looked for and no race was met; none
+    /// otherwise. The only error is running out of memory.
+    pub(crate) fn unprotected_so_far(&self, alloc: Global) -> Result<Vec<Unprotected>, AllocError>
+        requires { (j : List Event) × IsHistoryJudgeOf j self.now }
+        ensures { IfOk result (λ v. (j : List Event) → IsHistoryJudgeOf j self.now → MatchOption self.now.locksets (v.items ≡ [])
+            (λ _. PairsTellUnprotected All j (addresses (judged_sizes_of self.now.judge.sizes)) v.items)) }
+    {
+        match &self.locksets {
+            Some(finder) => finder.found(alloc, LocksetWords::All),
+            None => Ok(Vec::new(alloc)),
+        }
+    }
 }
 
 /// What is found of a history, as by `judge_history`, and the words that need a lock and have none, those that are asked for, if
-/// it is faithful and has no race. The only error is running out of memory.
-pub(crate) fn judge_whole_history(
+/// it is faithful and has no race. Time and memory are those of `HistoryJudge`. The only error is running out of memory.
+pub fn judge_whole_history(
     alloc: Global,
     sizes: Sizes,
     events: &[Event],

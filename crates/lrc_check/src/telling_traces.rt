@@ -1,10 +1,10 @@
 //! What of a trace is told: how far, and what is said of it.
-ghost use Rattle.std.specs.Prelude.{◌≡◌, IfOk, is_some};
+ghost use Rattle.std.specs.Prelude.{◌≡◌, IfOk, false, is_some};
 ghost use Rattle.lrc_check.specs.Traces.Prelude.{trace_sizes_of};
-ghost use Rattle.lrc_check.specs.Prelude.{IsHeldTrace, IsTraceTold, is_told_trace_a_lie};
+ghost use Rattle.lrc_check.specs.Prelude.{IsHeldTrace, IsTraceTold, IsTrueCheckVerdict, is_told_trace_a_lie};
 
 use crate::checked::{Rules, TraceVerdict};
-use crate::checking_traces::judge_trace;
+use crate::checking_traces::{JudgedTrace, judge_trace};
 use crate::told_events::ToldEvents;
 use crate::trace_history::trace_history_of;
 use crate::traces::trace::LabelledTrace;
@@ -37,6 +37,34 @@ fn lie_to_tell_of_trace(alloc: Global, verdict: &TraceVerdict) -> Result<Option<
     }
 }
 
+/// What is told of the trace, of which this was found by the rules. The only error is running out of memory.
+fn tell_judged_trace<'a>(
+    alloc: Global,
+    labelled: &'a LabelledTrace,
+    judged: &JudgedTrace,
+    rules: Rules,
+) -> Result<ToldTrace<'a>, AllocError>
+    requires held { IsHeldTrace (trace_sizes_of labelled.now.trace.sizes) labelled.now.trace.events.items }
+    requires on { rules.ends_at_race ≡ false }
+    requires found { IsTrueCheckVerdict rules (trace_sizes_of labelled.now.trace.sizes) labelled.now.trace.events.items judged.now.found }
+    ensures { IfOk result (IsTraceTold rules.model rules.lax (trace_sizes_of labelled.now.trace.sizes) labelled.now.trace.events.items
+        labelled.now.labels) }
+{
+    let told = ToldEvents::of_trace(labelled);
+    let verdict = verdict_text_of(alloc, told, judged, rules)?;
+    let lie = lie_to_tell_of_trace(alloc, &judged.found.verdict)?;
+    let count = judged.found.count;
+    let events: &[Event] = &labelled.trace.events;
+    let labels = labelled.labels.shown(alloc, count)?;
+    Ok(ToldTrace {
+        history: trace_history_of(labelled.trace.sizes, &events[..count]),
+        labels,
+        lie,
+        race: judged.found.race,
+        verdict,
+    })
+}
+
 /// What is told of the trace, which is judged by the model, lax or not. Whether it `can_trace_be_held` is to be asked before.
 /// The only error is running out of memory.
 pub fn tell_trace(
@@ -57,17 +85,5 @@ pub fn tell_trace(
     };
     let mut judged = judge_trace(alloc, &labelled.trace, rules)?;
     judged.unfinished = labelled.unfinished;
-    let told = ToldEvents::of_trace(labelled);
-    let verdict = verdict_text_of(alloc, told, &judged, rules)?;
-    let lie = lie_to_tell_of_trace(alloc, &judged.found.verdict)?;
-    let count = judged.found.count;
-    let events: &[Event] = &labelled.trace.events;
-    let labels = labelled.labels.shown(alloc, count)?;
-    Ok(ToldTrace {
-        history: trace_history_of(labelled.trace.sizes, &events[..count]),
-        labels,
-        lie,
-        race: judged.found.race,
-        verdict,
-    })
+    tell_judged_trace(alloc, labelled, &judged, rules)
 }

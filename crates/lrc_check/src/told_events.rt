@@ -1,5 +1,5 @@
 //! The events of a trace that can be told. Of a trace that is judged as it is read the first ones were let go of.
-ghost use Rattle.std.specs.Prelude.{◌≡◌, ℕ, ◌+◌, ◌<◌, ◌≤◌, List, ◌++◌, length, option_map, slice_get};
+ghost use Rattle.std.specs.Prelude.{◌≡◌, ℕ, ◌+◌, ◌<◌, ◌≤◌, IfOk, List, ◌++◌, length, option_map, slice_get};
 ghost use Rattle.journal.specs.declared.event.Event.{Event};
 ghost use Rattle.lrc_check.specs.Traces.Prelude.{IsFedTextOf, trace_event_label, trace_labels_of};
 ghost use Rattle.lrc_check.specs.Prelude.{told_event, told_known_event, told_known_label, told_label};
@@ -8,6 +8,7 @@ use crate::traces::labels::TraceLabels;
 use crate::traces::reader::Reader;
 use crate::traces::trace::LabelledTrace;
 use journal::Event;
+use std::alloc::{AllocError, Global};
 
 /// An event of a trace that is known though it isn't at hand any more.
 #[derive(Debug, Drop)]
@@ -17,6 +18,26 @@ pub struct KnownEvent {
     pub event: Event,
     /// Without a byte if it has none, or if it isn't known.
     pub label: Vec<u8>,
+}
+
+impl KnownEvent {
+    /// The event at this place with a copy of its label. The only error is running out of memory.
+    pub(crate) fn of(
+        alloc: Global,
+        place: usize,
+        event: Event,
+        label: &[u8],
+    ) -> Result<KnownEvent, AllocError>
+        ensures { IfOk result (λ x. (x.place ≡ place) × (x.event ≡ event) × (x.label.items ≡ label.now)) }
+    {
+        let mut kept = Vec::new(alloc);
+        kept.extend_from_slice(label)?;
+        Ok(KnownEvent {
+            place,
+            event,
+            label: kept,
+        })
+    }
 }
 
 /// The events of a trace that can be told: the last ones, with their labels, and some of those before.

@@ -2,13 +2,15 @@
 ghost use Rattle.std.specs.Prelude.{◌≡◌, ◌≤◌, ℕ, ◌++◌, [], IfErr, IfOk, IfSome, List, MatchOption, OnOk, length};
 ghost use Rattle.journal.specs.declared.event.Event.{Event as AnEvent};
 ghost use Rattle.journal.specs.Prelude.{Race};
-ghost use Rattle.lrc_check.specs.Traces.Prelude.{FedTextBeginsTrace, IsNoLawfulTrace, IsTraceSoFar, trace_sizes_of, without_trace_labels};
+ghost use Rattle.lrc_script.specs.Prelude.{HasNoLineFeed};
+ghost use Rattle.lrc_check.specs.Traces.Prelude.{FedTextBeginsTrace, IsNoLawfulTrace, IsFedLineRefused, IsNoUnfinishedTrace, IsTraceSoFar, trace_sizes_of, without_trace_labels};
 ghost use Rattle.lrc_check.specs.Prelude.{AreUnprotectedTold, HasStreamReadOn, IsFaultFoundInBytes, IsFoundInBytes, IsFoundInStream, IsFoundInUnfinished, IsStreamEnd, IsStreamEndOf, IsStreamJudge, IsTraceStream, unprotected_looked_for};
 
 use crate::check_fault::CheckFault;
 use crate::checked::{Checked, Lie, Rules, TraceVerdict};
 use crate::checking_traces::JudgedTrace;
 use crate::history_judge::HistoryJudge;
+use crate::labelled_accesses::LabelledAccesses;
 use crate::told_events::{KnownEvent, ToldEvents};
 use crate::trace_history::trace_history_sizes;
 use crate::traces::fault::TraceFault;
@@ -26,15 +28,18 @@ use std::alloc::{AllocError, Global};
 /// How many events are kept at hand, but for those of one piece more.
 const MOST_AT_HAND: usize = 1 << 19;
 
-/// A trace that is judged as it is read. It takes the memory of a `HistoryJudge`, and of the
-/// events of the last pieces with their labels, however long the trace is.
+/// A trace that is judged as it is read. It takes the memory of a `HistoryJudge`, of the events of the last pieces with their
+/// labels, and of a `LabelledAccesses`, however long the trace is.
 #[derive(Drop)]
 pub struct TraceStream {
     reader: Reader,
     rules: Rules,
     /// None before the line of the sizes.
     judge: Option<HistoryJudge>,
-    /// The accesses of the race, if they were let go of, and the stores that a lie may answer.
+    /// Accesses that have a label and may still be told, though they were let go of.
+    earlier: LabelledAccesses,
+    /// What is told of the events that were let go of: the accesses of the race, the stores that a lie may answer, and accesses of
+    /// words without a lock.
     kept: Vec<KnownEvent>,
 }
 
@@ -47,13 +52,34 @@ fn keep_known_event(
 ) -> Result<(), AllocError> {
     let told = ToldEvents::of_reader(reader, &[]);
     if let Some(event) = told.event(place) {
-        let mut label = Vec::new(alloc);
-        label.extend_from_slice(told.label(place))?;
-        kept.push(KnownEvent {
-            place,
-            event,
-            label,
-        })?;
+        kept.push(KnownEvent::of(alloc, place, event, told.label(place))?)?;
+    }
+    Ok(())
+}
+
+/// Keeps the first access of the race with its label, if it isn't at hand any more but is kept. The only error is running out of
+/// memory.
+fn keep_earlier_access(
+    alloc: Global,
+    kept: &mut Vec<KnownEvent>,
+    reader: &Reader,
+    earlier: &LabelledAccesses,
+    race: (usize, usize),
+) -> Result<(), AllocError> {
+    let (first, second) = race;
+    let (Some(event), Some(sizes)) = (
+        ToldEvents::of_reader(reader, &[]).event(second),
+        reader.sizes(),
+    ) else {
+        return Ok(());
+    };
+    let (Kind::Load(address, _) | Kind::Store(address, _)) = event.kind else {
+        return Ok(());
+    };
+    if first < reader.gone()
+        && let Some(known) = earlier.at(alloc, sizes.processors, address, first)?
+    {
+        kept.push(known)?;
     }
     Ok(())
 }
@@ -89,6 +115,7 @@ impl TraceStream {
             reader: Reader::new(alloc),
             rules,
             judge: None,
+            earlier: LabelledAccesses::new(alloc, rules.locksets.is_some()),
             kept: Vec::new(alloc),
         }
     }
@@ -101,20 +128,40 @@ impl TraceStream {
             Some(judge) if self.kept.is_empty() => judge.race(),
             _ => None,
         };
-        if let Some((first, second)) = race {
-            keep_known_event(alloc, &mut self.kept, &self.reader, first)?;
-            keep_known_event(alloc, &mut self.kept, &self.reader, second)?;
+        if let Some(race) = race {
+            keep_earlier_access(alloc, &mut self.kept, &self.reader, &self.earlier, race)?;
+            keep_known_event(alloc, &mut self.kept, &self.reader, race.0)?;
+            keep_known_event(alloc, &mut self.kept, &self.reader, race.1)?;
         }
         Ok(())
     }
 
+    /// Keeps the accesses that have a label and may still be told, before the events at hand are let go of. Behind a race no other
+    /// ones are told. The only error is running out of memory.
+    fn keep_labelled(&mut self, alloc: Global) -> Result<(), AllocError>
+        requires { (bytes : List ℕ) × IsTraceStream bytes self.old }
+        ensures { self.new ≡ record self.old { earlier = self.new.earlier } }
+    {
+        let Some(judge) = &self.judge else {
+            return Ok(());
+        };
+        if judge.race().is_some() {
+            return Ok(());
+        }
+        let words = judge.unprotected_so_far(alloc)?;
+        self.earlier.keep_found(alloc, self.reader.gone(), &words)?;
+        self.earlier.note(alloc, &self.reader)
+    }
+
     /// Lets go of the events at hand, if there are many. The only error is running out of memory.
     fn make_room(&mut self, alloc: Global) -> Result<(), AllocError>
+        requires { (bytes : List ℕ) × IsTraceStream bytes self.old }
         ensures stream { OnOk result ((bytes : List ℕ) → IsTraceStream bytes self.old → IsTraceStream bytes self.new) }
         ensures rules { self.new.rules ≡ self.old.rules }
     {
         if self.reader.events().len() >= MOST_AT_HAND {
             self.keep_race(alloc)?;
+            self.keep_labelled(alloc)?;
             self.reader.let_go();
         }
         Ok(())
@@ -132,7 +179,8 @@ impl TraceStream {
         if self.judge.is_none() {
             if let Some(sizes) = self.reader.sizes() {
                 let judge = HistoryJudge::new(alloc, trace_history_sizes(sizes), self.rules)?;
-                self.judge = Some(judge);
+                // The judge that isn't there is large, too: so it goes by one call.
+                drop(self.judge.replace(judge));
             }
         }
         Ok(())
@@ -170,6 +218,8 @@ impl TraceStream {
         ensures found { IfOk result (λ o. IfSome o (λ x. (front : List AnEvent) × IsFoundInStream front x self.new)) }
         ensures refused { IfErr result (λ fault. IsFaultFoundInBytes fault → (bytes : List ℕ) → IsTraceStream bytes self.old
             → ¬ FedTextBeginsTrace (bytes ++ piece.now)) }
+        ensures line { IfErr result (λ fault. IsFaultFoundInBytes fault → (bytes : List ℕ) → IsTraceStream bytes self.old
+            → (front : List AnEvent) × IsFedLineRefused (bytes ++ piece.now) front self.new.reader) }
     {
         self.make_room(alloc)?;
         let seen = self.reader.events().len();
@@ -212,23 +262,28 @@ impl TraceStream {
         ensures at_hand { IfOk result (λ x. (front : List Event) × IsFoundInStream front x self.now) }
         ensures refused { IfErr result (λ fault. IsFaultFoundInBytes fault → (bytes : List ℕ) → IsTraceStream bytes self.now
             → IsNoLawfulTrace (without_trace_labels bytes)) }
+        ensures never { IfErr result (λ _. (bytes : List ℕ) → IsTraceStream bytes self.now → IsNoUnfinishedTrace bytes) }
     {
+        let _line = self.reader.unfinished();
         match &self.judge {
             None => self.finish(),
-            Some(judge) => {
-                let _line = self.reader.unfinished();
-                Ok(judge.finish())
-            }
+            Some(judge) => Ok(judge.finish()),
         }
     }
 
     /// The bytes of the line that a fault is told of, without its line feed, and how many lines before it were passed over.
-    pub fn refused_line(&self) -> (&[u8], usize) {
+    pub fn refused_line(&self) -> (&[u8], usize)
+        ensures line { result.0.now ≡ self.now.reader.unfinished }
+        ensures one_line { HasNoLineFeed result.0.now }
+        ensures passed { result.1 ≡ self.now.reader.passed }
+    {
         (self.reader.unfinished(), self.reader.passed())
     }
 
     /// The trace's sizes, if their line was read.
-    pub fn sizes(&self) -> Option<TraceSizes> {
+    pub fn sizes(&self) -> Option<TraceSizes>
+        ensures { result ≡ self.now.reader.sizes }
+    {
         self.reader.sizes()
     }
 
@@ -298,6 +353,22 @@ impl TraceStream {
         }
     }
 
+    /// Keeps what is told of the accesses that aren't at hand any more: of the race, of this verdict's lie, and of these words without
+    /// a lock. The only error is running out of memory.
+    fn keep_told(
+        &mut self,
+        alloc: Global,
+        verdict: &TraceVerdict,
+        words: &[Unprotected],
+    ) -> Result<(), AllocError>
+        ensures { self.new ≡ record self.old { kept = self.new.kept } }
+    {
+        self.keep_race(alloc)?;
+        self.keep_owed(alloc, verdict)?;
+        self.earlier
+            .tell(alloc, self.reader.gone(), words, &mut self.kept)
+    }
+
     /// What was found, as it is told: with what keeps the race's accesses apart, and who waits at the end, if all events are at hand
     /// and no more than `MOST_HELD`, and with the words that need a lock and have none, if these are asked for and it is faithful
     /// without a race. The only error is running out of memory.
@@ -308,9 +379,9 @@ impl TraceStream {
             → AreUnprotectedTold (unprotected_looked_for self.old.rules.locksets found) (trace_sizes_of is.known)
             (front ++ self.old.reader.events) x.unprotected.items) }
     {
-        self.keep_owed(alloc, &found.verdict)?;
         let race = self.race_apart(alloc, found.race)?;
         let unprotected = self.unprotected(alloc, &found)?;
+        self.keep_told(alloc, &found.verdict, &unprotected)?;
         let waits = self.waits(alloc, &found)?;
         Ok(JudgedTrace {
             found,
@@ -321,8 +392,8 @@ impl TraceStream {
         })
     }
 
-    /// The events that can be told: those at hand, with their labels, and of those before the accesses of the race and the stores
-    /// that a lie may answer.
+    /// The events that can be told: those at hand, with their labels, and of those before the accesses of the race, the stores that a
+    /// lie may answer, and accesses of words without a lock.
     pub fn told(&self) -> ToldEvents<'_> {
         ToldEvents::of_reader(&self.reader, &self.kept)
     }

@@ -16,7 +16,7 @@ command_status_meaning_some (Program fault) is = program_status_meaning_some fau
 command_status_meaning_some (Trace line fault) is = absurd (omega (arith, is))
 command_status_meaning_some Long is = absurd (omega (arith, is))
 command_status_meaning_some Large is = absurd (omega (arith, is))
-command_status_meaning_some (Unshown address) is = absurd (omega (arith, is))
+command_status_meaning_some (Unshown address why) is = absurd (omega (arith, is))
 command_status_meaning_some Untold is = absurd (omega (arith, is))
 
 -- status 2 is the input's
@@ -25,7 +25,7 @@ command_status_means_inputs (Program fault) is = program_status_means_scripts fa
 command_status_means_inputs (Trace line fault) is = tt
 command_status_means_inputs Long is = absurd (omega (arith, is))
 command_status_means_inputs Large is = absurd (omega (arith, is))
-command_status_means_inputs (Unshown address) is = absurd (omega (arith, is))
+command_status_means_inputs (Unshown address why) is = absurd (omega (arith, is))
 command_status_means_inputs Untold is = absurd (omega (arith, is))
 
 -- a fault of the output has status 4
@@ -34,7 +34,7 @@ command_status_means_before (Program fault) isnt = before fault isnt
 command_status_means_before (Trace line fault) isnt = tt
 command_status_means_before Long isnt = tt
 command_status_means_before Large isnt = tt
-command_status_means_before (Unshown address) isnt = tt
+command_status_means_before (Unshown address why) isnt = tt
 command_status_means_before Untold isnt = tt
 
 -- no fault has a status above 5: 6 is that of a trace that isn't faithful, 7 that of a search that was given up
@@ -58,7 +58,7 @@ command_status_meaning_small (Program fault) = command_status_meaning_of_program
 command_status_meaning_small (Trace line fault) = omega arith
 command_status_meaning_small Long = omega arith
 command_status_meaning_small Large = omega arith
-command_status_meaning_small (Unshown address) = omega arith
+command_status_meaning_small (Unshown address why) = omega arith
 command_status_meaning_small Untold = omega arith
 
 -- what is told isn't 0

@@ -22,6 +22,7 @@ use Rattle.lrc_options.specs.declared.options.ExplainOptions.{ExplainOptions}
 use Rattle.lrc_options.specs.declared.options.ExploreOptions.{ExploreOptions}
 use Rattle.lrc_commands.specs.declared.fault.CommandFault.{CommandFault}
 use Rattle.lrc_commands.specs.ExplainCommand.{IsExplainCommandEnd, IsExplainCommandOnSource, IsExplainCommandRun}
+use Rattle.lrc_sample.specs.declared.detail.SampleDetail.{SampleDetail}
 use Rattle.lrc_commands.specs.SampleCommand.{IsSampleCommandWritten, IsSampleCommandOnSource}
 use Rattle.lrc_commands.specs.ExploreCommand.{IsExploreCommandAllowedFound, IsExploreCommandFoundWritten, IsExploreCommandAsked, IsExploreCommandSearchWritten, IsExploreCommandVerdictWritten, ExploreCommandWritten, explore_command_detail}
 use Rattle.lrc_commands.specs.ExploreCommand.{IsExploreCommandAllowedShowing, IsExploreCommandShowingAsked, IsExploreCommandShowingFound, IsExploreCommandShowingTold}
@@ -45,12 +46,12 @@ studied_script_end o s e given by =
     record { by_seed = λ _. by; by_schedule = λ other is. absurd (none-some other (given ∙ is)) }
 
 -- it was sampled
-pub studied_script_sampled : {A : Type 0} (came : Plan → Option ℕ → DrawnRun → Type 0) (runs : ℕ) (json : Bool) (script : Plan)
+pub studied_script_sampled : {A : Type 0} (came : Plan → Option ℕ → DrawnRun → Type 0) (d : SampleDetail) (runs : ℕ) (json : Bool) (script : Plan)
     (source old new : Option (List ℕ)) (result : Result A CommandFault) → IsServedScriptRead source script
-    → OnOk result (IsSampleCommandWritten came runs json script old new) → OnOk result (IsSampleCommandOnSource came runs json source old new)
-studied_script_sampled came runs json script source old new (Ok x) read written =
+    → OnOk result (IsSampleCommandWritten came d runs json script old new) → OnOk result (IsSampleCommandOnSource came d runs json source old new)
+studied_script_sampled came d runs json script source old new (Ok x) read written =
     record { script = script; read = read; sample = written }
-studied_script_sampled came runs json script source old new (Err fault) read written = tt
+studied_script_sampled came d runs json script source old new (Err fault) read written = tt
 
 -- it was explained
 pub studied_script_explained : {A : Type 0} (picture : Bool) (o : ExplainOptions) (script : Plan)

@@ -10,7 +10,7 @@ command_exit_status_of (Program fault) = program_exit_status_of fault
 command_exit_status_of (Trace line fault) = 2
 command_exit_status_of Long = 4
 command_exit_status_of Large = 4
-command_exit_status_of (Unshown address) = 5
+command_exit_status_of (Unshown address why) = 5
 command_exit_status_of Untold = 4
 
 -- the status of a fault, or that of running out of memory if there was none to say it
@@ -23,7 +23,7 @@ IsCommandExitStatusOfInput (Program fault) = IsProgramExitStatusOfScript fault
 IsCommandExitStatusOfInput (Trace line fault) = ⊤
 IsCommandExitStatusOfInput Long = ⊥
 IsCommandExitStatusOfInput Large = ⊥
-IsCommandExitStatusOfInput (Unshown address) = ⊥
+IsCommandExitStatusOfInput (Unshown address why) = ⊥
 IsCommandExitStatusOfInput Untold = ⊥
 
 -- the fault came before anything was written

@@ -1,5 +1,5 @@
 -- What the program does with a script whose schedules are all looked at.
-use Rattle.std.specs.Prelude.{ℕ, ◌≡◌, Bool, true, false, List, [], ◌∷◌, Option}
+use Rattle.std.specs.Prelude.{ℕ, ◌≡◌, ◌*◌, ◌<◌, ◌≤◌, Bool, true, false, List, [], ◌∷◌, Option, length}
 use Rattle.std.specs.Io.KnownBytes.{Appends}
 use Rattle.lrc_script.specs.Plan.{Plan}
 use Rattle.explore.specs.AllowedRuns.{AreAllowedRunOutcomes}
@@ -25,12 +25,20 @@ use Rattle.lrc_options.specs.declared.options.ExploreOptions.{ExploreOptions}
 use Rattle.lrc_options.specs.declared.options.OutcomeDetail.{OutcomeDetail}
 use Rattle.lrc_options.specs.declared.options.OutcomeDetail.TheVariants as outcomes
 use Rattle.lrc_program.specs.Served.{IsServedScriptRead}
+use Rattle.lrc_commands.specs.declared.fault.WhyUnshown.{WhyUnshown}
+use Rattle.lrc_commands.specs.declared.fault.WhyUnshown.TheVariants as why
 
 -- what outcomes tell, by the options
 abbrev pub explore_command_detail : OutcomeDetail → Detail
 explore_command_detail outcomes.Words = detail.Words
 explore_command_detail outcomes.Loads = detail.Loads
 explore_command_detail outcomes.All = detail.All
+
+-- why a script doesn't show an address: it is outside of its sizes; or one more could be shown, or as many are as may be
+abbrev pub IsWhyUnshown : Plan → ℕ → WhyUnshown → Type 0
+IsWhyUnshown s address why.LeftOut = (address < s.pages * s.words) × (length s.shown < 64)
+IsWhyUnshown s address why.Full = (address < s.pages * s.words) × (64 ≤ length s.shown)
+IsWhyUnshown s address (why.Outside addresses) = (addresses ≡ s.pages * s.words) × (addresses ≤ address)
 
 -- the text of what was found was written; or JSON, of which no more is said
 abbrev pub IsExploreCommandAnswer : Bool → Option (List ℕ) → Option (List ℕ) → Explored → Type 0

@@ -5,9 +5,9 @@ ghost use Rattle.lrc_script.specs.Prelude.{IsLawful, plan_of};
 ghost use Rattle.lrc_program.specs.Prelude.{IsServedWithoutScript};
 ghost use Rattle.lrc_commands.specs.Prelude.{IsCommandExitStatusBeforeAnswer, IsCommandExitStatusOfInput, IsExploreCommandAnswer, IsExploreCommandAsked, IsExploreCommandSearchWritten, ExploreCommandWritten};
 ghost use Rattle.lrc_commands.specs.Prelude.{IsExploreCommandAllowedAnswer, IsExploreCommandAllowedFound, IsExploreCommandFoundWritten, IsExploreCommandShowingAnswer, IsExploreCommandShowingAsked, explore_command_detail};
-ghost use Rattle.lrc_commands.specs.Prelude.{IsExploreCommandAllowedShowing, IsExploreCommandAllowedShowingAnswer, IsExploreCommandShowingFound};
+ghost use Rattle.lrc_commands.specs.Prelude.{IsExploreCommandAllowedShowing, IsExploreCommandAllowedShowingAnswer, IsExploreCommandShowingFound, IsWhyUnshown};
 
-use crate::fault::CommandFault;
+use crate::fault::{CommandFault, WhyUnshown};
 use conformance::ScriptRunner;
 use explore::{
     AllowedOutcomes, AllowedUntil, Detail, Explored, ExploredUntil, Progress, Showing, Verdict,
@@ -22,10 +22,25 @@ use lrc_json::{
 };
 use lrc_options::options::{ExploreOptions, OutcomeDetail};
 use lrc_program::program::program_reads_script;
-use lrc_script::script::Script;
+use lrc_script::script::{MOST_SHOWN, Script};
 use std::alloc::Global;
 use std::io::{Read, Write};
 use std::sync::Wait;
+
+/// Why the script doesn't show the word at this address.
+fn why_unshown(script: &Script, address: usize) -> WhyUnshown
+    requires { IsLawful (plan_of script.now) }
+    ensures { IsWhyUnshown (plan_of script.now) address result }
+{
+    let addresses = script.pages * script.words;
+    if address >= addresses {
+        WhyUnshown::Outside(addresses)
+    } else if script.shown.len() < MOST_SHOWN {
+        WhyUnshown::LeftOut
+    } else {
+        WhyUnshown::Full
+    }
+}
 
 /// The exit status if the search was given up.
 const UNDECIDED: u8 = 7;
@@ -274,7 +289,7 @@ fn explore_command_prints_showing<T: ScriptRunner, R: Wait, W: Write, P: Progres
         (λ fault. IsCommandExitStatusBeforeAnswer fault → Keeps (W.contents out.old) (W.contents out.new)) }
 {
     if let Some(address) = unshown_asked_address(&script.shown, &options.until) {
-        return Err(CommandFault::Unshown(address));
+        return Err(CommandFault::Unshown(address, why_unshown(script, address)));
     }
     let explored = explore_until(
         alloc,

@@ -24,12 +24,44 @@ use lrc_picture::picture::PictureFault;
 use lrc_program::fault::ProgramFault;
 use lrc_program::program::program_says_line;
 use lrc_sample::text::TextFault;
+use lrc_script::script::MOST_SHOWN;
 use std::alloc::{AllocError, Global};
 use std::io;
 use std::io::Write;
 
 /// The exit status if a run can't go on.
 pub(crate) const HALTED: u8 = 3;
+
+/// Why a script doesn't show the word at an address.
+#[derive(Clone, Copy)]
+pub enum WhyUnshown {
+    /// Its last line leaves it out.
+    LeftOut,
+    /// Its last line leaves it out, and has as many addresses as it may have.
+    Full,
+    /// The script has only so many addresses, those from 0 on.
+    Outside(usize),
+}
+
+impl WhyUnshown {
+    /// What is said of the address, and what to do. A line that the script may not have isn't advised.
+    fn lines(self, alloc: Global, address: usize) -> Result<String, AllocError> {
+        match self {
+            WhyUnshown::LeftOut => format!(in alloc;
+                "lrc: until: address {address} isn't shown\n  add {address} to the last line of the script, show ADDRESS ..\n"
+            ),
+            WhyUnshown::Full => format!(in alloc;
+                "lrc: until: address {address} isn't shown\n  the last line of the script has {MOST_SHOWN} addresses, the most: put {address} in the place of one\n"
+            ),
+            WhyUnshown::Outside(addresses) => {
+                let last = addresses.saturating_sub(1);
+                format!(in alloc;
+                    "lrc: until: address {address} is outside the script's sizes\n  its addresses are those from 0 to {last}\n"
+                )
+            }
+        }
+    }
+}
 
 /// Why a command that studies a script or a trace ends without an answer.
 #[derive(Clone, Copy)]
@@ -42,8 +74,8 @@ pub enum CommandFault {
     Long,
     /// The trace has more events than one that is told with all its events at hand.
     Large,
-    /// The word at this address is asked for, and the script doesn't show it.
-    Unshown(usize),
+    /// The word at this address is asked for, and the script doesn't show it, as this says.
+    Unshown(usize, WhyUnshown),
     /// A run's journal isn't one of the script's sizes, or isn't there if the run can't go on. That doesn't come of runs on a
     /// cluster.
     Untold,
@@ -62,9 +94,7 @@ impl CommandFault {
             CommandFault::Large => format!(in alloc;
                 "lrc: trace too large to hold\n  at most {MOST_HELD} events; check takes more\n"
             ),
-            CommandFault::Unshown(address) => format!(in alloc;
-                "lrc: until: address {address} isn't shown\n  add {address} to the last line of the script, show ADDRESS ..\n"
-            ),
+            CommandFault::Unshown(address, why) => why.lines(alloc, address),
             CommandFault::Untold => String::from_str(alloc, "lrc: no journal of the run\n"),
         }
     }
@@ -78,7 +108,7 @@ impl CommandFault {
             CommandFault::Program(fault) => fault.status(),
             CommandFault::Trace(..) => 2,
             CommandFault::Long | CommandFault::Large | CommandFault::Untold => 4,
-            CommandFault::Unshown(_) => 5,
+            CommandFault::Unshown(..) => 5,
         }
     }
 

@@ -4,20 +4,32 @@ ghost use Rattle.std.specs.Io.KnownBytes.{Keeps};
 ghost use Rattle.lrc_script.specs.Prelude.{IsLawful, plan_of};
 ghost use Rattle.lrc_program.specs.Prelude.{IsServedWithoutScript};
 ghost use Rattle.lrc_sample.specs.Prelude.{CameBySampleRunSeed};
-ghost use Rattle.lrc_commands.specs.Prelude.{IsCommandExitStatusBeforeAnswer, IsCommandExitStatusOfInput, IsSampleCommandAnswer, IsSampleCommandWritten, IsSampleCommandOnSource, sample_command_lock};
+ghost use Rattle.lrc_commands.specs.Prelude.{IsCommandExitStatusBeforeAnswer, IsCommandExitStatusOfInput, IsSampleCommandAnswer, IsSampleCommandWritten, IsSampleCommandOnSource, sample_command_detail, sample_command_lock};
 
 use crate::fault::CommandFault;
 use crate::locks::command_lock_of;
 use conformance::ScriptRunner;
 use lrc_json::write_sampled_json;
-use lrc_options::options::SampleOptions;
+use lrc_options::options::{OutcomeDetail, SampleOptions};
 use lrc_program::program::program_reads_script;
+use lrc_sample::detail::SampleDetail;
 use lrc_sample::sampling::{Sampled, sample};
 use lrc_sample::text::render;
 use lrc_script::script::Script;
 use std::alloc::Global;
 use std::io::{Read, Write};
 use std::sync::Wait;
+
+/// What outcomes tell, by the options.
+fn sample_command_detail(outcomes: OutcomeDetail) -> SampleDetail
+    ensures { result ≡ sample_command_detail outcomes }
+{
+    match outcomes {
+        OutcomeDetail::Words => SampleDetail::Words,
+        OutcomeDetail::Loads => SampleDetail::Loads,
+        OutcomeDetail::All => SampleDetail::All,
+    }
+}
 
 /// Writes what a script's runs came to, as text or as JSON.
 fn sample_command_writes<W: Write>(
@@ -48,13 +60,14 @@ fn sample_command_prints<T: ScriptRunner, R: Wait, W: Write>(
 ) -> Result<(), CommandFault>
     requires { IsLawful (plan_of script.now) }
     ensures written { OnOk result (IsSampleCommandWritten (CameBySampleRunSeed T.followed T.drawn (sample_command_lock options.now.ticket))
-        (options.now.seeds + 1) options.now.json (plan_of script.now) (W.contents out.old) (W.contents out.new)) }
+        (sample_command_detail options.now.outcomes) (options.now.seeds + 1) options.now.json (plan_of script.now) (W.contents out.old) (W.contents out.new)) }
     ensures runs { IfErr result (λ fault. IsCommandExitStatusOfInput fault → ⊥) }
     ensures early { IfErr result
         (λ fault. IsCommandExitStatusBeforeAnswer fault → Keeps (W.contents out.old) (W.contents out.new)) }
 {
     let lock = command_lock_of(options.ticket);
-    let sampled = sample(runs, rt, alloc, script, lock, options.seeds)?;
+    let detail = sample_command_detail(options.outcomes);
+    let sampled = sample(runs, rt, alloc, detail, script, lock, options.seeds)?;
     sample_command_writes(alloc, options.json, &sampled, out)?;
     Ok(())
 }
@@ -70,7 +83,7 @@ fn sample_command_on_script<T: ScriptRunner, R: Wait, S: Read, W: Write>(
     out: &mut W,
 ) -> Result<(), CommandFault>
     ensures sampled { OnOk result (IsSampleCommandOnSource (CameBySampleRunSeed T.followed T.drawn (sample_command_lock options.now.ticket))
-        (options.now.seeds + 1) options.now.json (S.remaining source.old) (W.contents out.old) (W.contents out.new)) }
+        (sample_command_detail options.now.outcomes) (options.now.seeds + 1) options.now.json (S.remaining source.old) (W.contents out.old) (W.contents out.new)) }
     ensures refused { IfErr result (λ fault. IsCommandExitStatusOfInput fault → IsServedWithoutScript (S.remaining source.old)) }
     ensures early { IfErr result
         (λ fault. IsCommandExitStatusBeforeAnswer fault → Keeps (W.contents out.old) (W.contents out.new)) }
@@ -91,9 +104,9 @@ pub fn run_sample_command<T: ScriptRunner, R: Wait, S: Read, W: Write, E: Write>
     err: &mut E,
 ) -> u8
     // The script that was read was run once by each of so many seeds and once without, with the lock that was asked for, and
-    // what that came to was written, whole: as text, or as JSON if that was asked for.
+    // what that came to was written, whole, in the detail that was asked for: as text, or as JSON if that was asked for.
     ensures sampled { result ≡ 0 → IsSampleCommandOnSource (CameBySampleRunSeed T.followed T.drawn (sample_command_lock options.now.ticket))
-        (options.now.seeds + 1) options.now.json (S.remaining source.old) (W.contents out.old) (W.contents out.new) }
+        (sample_command_detail options.now.outcomes) (options.now.seeds + 1) options.now.json (S.remaining source.old) (W.contents out.old) (W.contents out.new) }
     // What is refused as a script is none.
     ensures refused { result ≡ 2 → IsServedWithoutScript (S.remaining source.old) }
     // At any status but 4, the text is written whole or not at all.

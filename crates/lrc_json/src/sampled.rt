@@ -8,11 +8,19 @@ use crate::members::Members;
 use crate::outcomes::{outcome_replies_json, outcome_word_json};
 use crate::output::{put_json_output_line, write_json_output};
 use lrc_sample::TallyLine;
-use lrc_sample::outcome::{Reply, SampleOutcome, SampleOutcomeAnswers};
+use lrc_sample::outcome::{Reply, SampleOutcome, SampleOutcomeAnswers, SampleVerdict};
 use lrc_sample::sampling::Sampled;
+use lrc_sample::text::runs_of_sample_verdict;
 use serde_json::Value;
 use std::alloc::{AllocError, Global};
 use std::io::Write;
+
+/// How many runs had a verdict stands in this member.
+const VERDICTS: [(&str, SampleVerdict); 3] = [
+    ("race_free", SampleVerdict::RaceFree),
+    ("racy", SampleVerdict::Racy),
+    ("stuck", SampleVerdict::Stuck),
+];
 
 /// The shown addresses with their words.
 fn sampled_words_json(alloc: Global, words: &[(usize, u32)]) -> Result<Value, AllocError> {
@@ -53,7 +61,7 @@ fn sampled_replies_json(alloc: Global, replies: &[Reply]) -> Result<Value, Alloc
     Ok(Value::Array(values))
 }
 
-/// Adds what a run that ended answered.
+/// Adds what a run that ended answered, as far as it is told.
 fn put_sampled_answers_json(
     members: &mut Members,
     alloc: Global,
@@ -95,7 +103,7 @@ fn sampled_result_json(alloc: Global, line: &TallyLine) -> Result<Members, Alloc
     Ok(members)
 }
 
-/// How many runs and results there were.
+/// How many runs and results there were, and how many runs had each verdict.
 fn sampled_summary_json(alloc: Global, lines: &[TallyLine]) -> Result<Members, AllocError> {
     let mut runs: u64 = 0;
     for line in lines {
@@ -104,6 +112,9 @@ fn sampled_summary_json(alloc: Global, lines: &[TallyLine]) -> Result<Members, A
     let mut members = Members::telling(alloc, "end")?;
     members.put("runs", Value::from(runs))?;
     members.put_number("results", lines.len())?;
+    for (name, verdict) in VERDICTS {
+        members.put(name, Value::from(runs_of_sample_verdict(lines, verdict)))?;
+    }
     Ok(members)
 }
 

@@ -162,8 +162,9 @@ abbrev pub explain_option_rules : ValueParser → ValueParser → App
 explain_option_rules locks models = judged_option_rules (with_rule (told_option_rules locks) traced_option_rule) models
 
 -- `lrc sample`
-abbrev pub sample_option_rules : ValueParser → App
-sample_option_rules locks = flagged_option_rules (codes "sample") seeds_option_rule locks json_option_rule
+abbrev pub sample_option_rules : ValueParser → ValueParser → App
+sample_option_rules locks details =
+    with_rule (with_rule (script_option_rules (codes "sample") seeds_option_rule locks) (outcomes_option_rule details)) json_option_rule
 
 -- `lrc explore`
 abbrev pub explore_option_rules : ValueParser → App
@@ -198,7 +199,7 @@ option_parsers locks models words details = record { locks = locks; models = mod
 -- `lrc` with all its commands
 abbrev pub lrc_option_rules : OptionParsers → App
 lrc_option_rules by = with_subcommand (with_subcommand (with_subcommand (with_subcommand (with_subcommand (with_subcommand bare_option_rules
-    (run_option_rules by.locks).top) (step_option_rules by.locks).top) (explain_option_rules by.locks by.models).top) (sample_option_rules by.locks).top)
+    (run_option_rules by.locks).top) (step_option_rules by.locks).top) (explain_option_rules by.locks by.models).top) (sample_option_rules by.locks by.details).top)
     (explore_option_rules by.details).top) (check_option_rules by.models by.words).top
 
 -- the parser takes these names and no others
@@ -310,6 +311,7 @@ option_rule_ticket rows = option_map_or (λ t. bytes_eq t (codes "ticket")) (fir
 pub record AreOptionsByRulesOfSample (rows : List Row) (o : SampleOptions) : Type 0 where
   pub file : option_map (λ f. string_bytes f) o.file ≡ first_of (codes "FILE") rows
   pub seeds : IsNumberByOptionRule 1 option_rule_most_seed option_rule_default_seeds (one_of (codes "seeds") rows) o.seeds
+  pub outcomes : o.outcomes ≡ option_rule_detail_given rows
   pub ticket : o.ticket ≡ option_rule_ticket rows
   pub json : IsFlagByOptionRule (one_of (codes "json") rows) o.json
 

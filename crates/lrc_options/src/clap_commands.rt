@@ -311,12 +311,18 @@ fn clap_explain_command<'a>(
 }
 
 /// `lrc sample`.
-fn clap_sample_command<'a>(alloc: Global, locks: &'a [&'a str]) -> Result<Command<'a>, AllocError>
-    ensures { IfOk result (IsCommandByOptionRules (sample_option_rules (vp.Names locks.entry))) }
+fn clap_sample_command<'a>(
+    alloc: Global,
+    locks: &'a [&'a str],
+    details: &'a [&'a str],
+) -> Result<Command<'a>, AllocError>
+    ensures { IfOk result (IsCommandByOptionRules (sample_option_rules (vp.Names locks.entry) (vp.Names details.entry))) }
 {
     let about = "Runs the script by many drawn schedules, and tells each kind of result once";
     let own = clap_seeds_arg(alloc);
-    clap_flagged_command(alloc, "sample", about, SAMPLE, own, locks, "json", JSON)
+    let command = clap_script_command(alloc, "sample", about, SAMPLE, own, locks);
+    let command = with_clap_arg(command, clap_outcomes_arg(alloc, details));
+    with_clap_arg(command, clap_flag_arg(alloc, "json", JSON))
 }
 
 /// `lrc explore`.
@@ -394,7 +400,7 @@ pub(crate) fn clap_lrc_command<'a>(
     let lrc = with_clap_subcommand(lrc, clap_run_command(alloc, locks));
     let lrc = with_clap_subcommand(lrc, clap_step_command(alloc, locks));
     let lrc = with_clap_subcommand(lrc, clap_explain_command(alloc, locks, models));
-    let lrc = with_clap_subcommand(lrc, clap_sample_command(alloc, locks));
+    let lrc = with_clap_subcommand(lrc, clap_sample_command(alloc, locks, details));
     let lrc = with_clap_subcommand(lrc, clap_explore_command(alloc, details));
     with_clap_subcommand(lrc, clap_check_command(alloc, models, words))
 }

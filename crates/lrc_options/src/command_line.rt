@@ -393,6 +393,7 @@ fn command_line_sample_options(
     Ok(SampleOptions {
         file,
         seeds: command_line_seeds(matches),
+        outcomes: command_line_detail(matches),
         ticket: command_line_wants_ticket(matches),
         json: command_line_wants_json(matches),
     })
@@ -526,7 +527,8 @@ fn command_line_answer(alloc: Global, name: &str, matches: &ArgMatches<'_>) -> R
 /// `lrc step [FILE] [--seed N | --schedule S] [--lock KIND] [--journal]`,
 /// `lrc explain [FILE] [--seed N | --schedule S] [--lock KIND] [--svg | --html] [--state] [--events A..B] [--processors P,..]`,
 /// `lrc explain [FILE] --trace [--model NAME] [--strict] [--lax] [--unfinished]` with the same to say what is shown,
-/// `lrc sample [FILE] [--seeds N] [--lock KIND] [--json]`, `lrc explore [FILE] [--most N] [--until A=V,..] [--outcomes WHAT] [--json]` or
+/// `lrc sample [FILE] [--seeds N] [--lock KIND] [--outcomes WHAT] [--json]`,
+/// `lrc explore [FILE] [--most N] [--until A=V,..] [--outcomes WHAT] [--json]` or
 /// `lrc check [FILE] [--model NAME] [--strict] [--lax] [--unfinished] [--race-is-error] [--locksets WHICH] [--json]`.
 ///
 /// # Errors

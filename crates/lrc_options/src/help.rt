@@ -78,11 +78,14 @@ out of memory, or a failed write; 5 usage, or the file can't be read; 6 the trac
 pub(crate) const SAMPLE: &str =
     "The script is as `lrc run --help` tells it. What is printed, the most frequent result first:
   runs R                   there were R runs, whose processors went at different speeds
+  verdicts race-free A racy B stuck C
+                           A of them ended without a race, B ended with one, C got stuck
   result K RESULT schedule S
                            K of them came to this; `lrc step --schedule S` shows it. RESULT is one of
     race-free words A V .. replies pP V ..
-                           address A has V in the end, and the loads of processor P answered V .., in order, as
-                           far as the journal has them
+                           address A has V in the end; with --outcomes loads, the instructions `load` of processor
+                           P answered V .., in order; with --outcomes all, what its `add` loaded is among them;
+                           both as far as the journal has them
     racy words ..          the same of a run with a race
     stuck P                no processor got on, and P is the least that waits
 

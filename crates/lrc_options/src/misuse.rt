@@ -7,7 +7,7 @@ use clap::{ArgMatches, Command, Error};
 use std::alloc::{AllocError, Global};
 
 /// Each command with each option that it has. Of the commands that have an option the first one is named.
-const OPTIONS: [(&str, &str); 34] = [
+const OPTIONS: [(&str, &str); 35] = [
     ("run", "--tries"),
     ("run", "--lock"),
     ("run", "--journal"),
@@ -42,6 +42,7 @@ const OPTIONS: [(&str, &str); 34] = [
     ("explain", "--lax"),
     ("check", "--unfinished"),
     ("explain", "--unfinished"),
+    ("sample", "--outcomes"),
 ];
 
 /// A command that was given an option that it lacks, and a command that has it.

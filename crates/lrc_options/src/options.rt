@@ -74,6 +74,8 @@ pub struct SampleOptions {
     pub file: Option<String>,
     /// How many seeds draw turns of a run, beside the run that goes in rounds alone: those from 0 on. It is 1 at least.
     pub seeds: u32,
+    /// How much of a run its outcome tells.
+    pub outcomes: OutcomeDetail,
     /// Whether the book's lock is the ticket lock, and not the array lock.
     pub ticket: bool,
     /// Whether the answer is JSON, an object a line, and not text.

@@ -109,6 +109,67 @@ impl RaceProse<'_> {
         text.put(".");
     }
 
+    /// Whether somebody has set, watched or awaited a flag before this place, as far as that is told.
+    fn has_flags(&self, before: usize) -> bool {
+        for place in self.numbers.opening..before {
+            let Some(event) = self.events.get(place) else {
+                return false;
+            };
+            if let Kind::Set(_) | Kind::Watch(_) | Kind::Await(_) = event.kind {
+                return true;
+            }
+        }
+        false
+    }
+
+    /// The last flag that the processor of this access has awaited before it, and the number of that event, if it is told.
+    fn awaited(&self, access: usize) -> Option<(usize, u64)> {
+        let by = self.events.get(access)?.processor;
+        let mut last = None;
+        for place in self.numbers.opening..access {
+            let event = self.events.get(place)?;
+            if let Kind::Await(flag) = event.kind
+                && event.processor == by
+            {
+                last = Some((flag, self.numbers.of(place)));
+            }
+        }
+        last
+    }
+
+    /// Puts which flag the processor of this access has awaited last.
+    fn put_awaited(&self, text: &mut ProseText, access: usize) {
+        match self.awaited(access) {
+            Some((flag, number)) => {
+                text.put_number(" had last awaited flag ", flag);
+                text.put_number(" (event ", number);
+                text.put(")");
+            }
+            None => text.put(" had awaited none"),
+        }
+    }
+
+    /// Puts, if there are flags, which of them the two have awaited: a lock may be made of flags, and is none of the locks that
+    /// are told.
+    fn put_flags(&self, text: &mut ProseText, indent: usize, first: usize, second: usize) {
+        if !self.has_flags(self.apart.second) {
+            return;
+        }
+        begin_race_prose_line(text, indent);
+        text.put("Flags aren't among these locks");
+        text.put(if self.numbers.has_cut() {
+            "; since the cut"
+        } else {
+            ":"
+        });
+        text.put_number(" p", first);
+        self.put_awaited(text, self.apart.first);
+        text.put_number(", p", second);
+        self.put_awaited(text, self.apart.second);
+        text.put(".");
+        text.end_line();
+    }
+
     /// Puts what would have ordered the two.
     fn put_remedy(&self, text: &mut ProseText, first: RaceProseEvent, second: RaceProseEvent) {
         text.put("What would order them: one lock round both, a barrier between them,");
@@ -142,6 +203,7 @@ impl RaceProse<'_> {
         begin_race_prose_line(text, indent);
         self.put_no_lock(text, first.event.processor, second.event.processor);
         text.end_line();
+        self.put_flags(text, indent, first.event.processor, second.event.processor);
         begin_race_prose_line(text, indent);
         self.put_remedy(text, first, second);
         text.end_line();

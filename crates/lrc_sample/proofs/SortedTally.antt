@@ -10,7 +10,7 @@ use Rattle.std.proofs.lemmas.Option.{slice_get_within, slice_get-get_or}
 use Rattle.base.specs.InOrderOnce.{InOrder}
 use Rattle.lrc_sample.specs.declared.outcome.SampleOutcome.{SampleOutcome}
 use Rattle.lrc_sample.specs.declared.tally.TallyLine.{TallyLine}
-use Rattle.lrc_sample.specs.Tally.{IsTallyShown, TallyCountsOutcomes, tally_place_of_seed, tally_times_of}
+use Rattle.lrc_sample.specs.Tally.{IsTallyShown, TallyCountsOutcomes, tally_place_of_seed, tally_times_of, tally_times_of_kind}
 use Rattle.lrc_sample.specs.TallyOrder.{IsTallyOrderByFrequency, IsTallyOrderAsSeen, TallyOrderRanksAbove}
 use Rattle.lrc_sample.proofs.SwappedItems.{swapped_item_place, swapped_item_place_back, swapped_item_at}
 use Rattle.lrc_sample.proofs.TallyNoted.{tally_noted_item_at, tally_noted_times_few}
@@ -39,6 +39,10 @@ sorted_tally_swapped_counts os lines i j first second is = record {
   sum = sum_by-IsPermutation tally_times_of lines (swap lines i j)
       (IsPermutation-swap lines (swap lines i j) i j first second refl)
       ∙ is.sum;
+  kinds = λ kind.
+      sum_by-IsPermutation (tally_times_of_kind kind) lines (swap lines i j)
+      (IsPermutation-swap lines (swap lines i j) i j first second refl)
+      ∙ is.kinds kind;
 }
 
 -- lines in another order

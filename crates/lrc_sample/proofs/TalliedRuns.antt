@@ -11,6 +11,7 @@ use Rattle.conformance.specs.declared.ended.Ended.TheVariants.{Halted, Whole}
 use Rattle.conformance.specs.declared.schedule.DrawnRun.{DrawnRun}
 use Rattle.conformance.specs.OrderedTurns.{IsEndByOrderedTurns}
 use Rattle.conformance.specs.ScheduleTexts.{schedule_orders}
+use Rattle.lrc_sample.specs.declared.detail.SampleDetail.{SampleDetail}
 use Rattle.lrc_sample.specs.declared.outcome.SampleOutcome.{SampleOutcome}
 use Rattle.lrc_sample.specs.declared.tally.TallyLine.{TallyLine}
 use Rattle.lrc_sample.specs.declared.sampling.Sampled.{Sampled}
@@ -45,14 +46,14 @@ tallied_runs_seeds_agree (Some a) None same = absurd (omega (arith, same))
 tallied_runs_seeds_agree (Some a) (Some b) same = ap Some (omega (arith, same))
 
 -- how a run ended is what it came to
-tallied_runs_show_end : (s : Plan) (orders : ℕ → List ℕ) (e : Ended) → IsEndByOrderedTurns s orders e
-    → IsSampleOutcomeOf s orders (sample_outcome_of_end s.processors e)
-tallied_runs_show_end s orders (Whole report) by = (report, (by, refl))
-tallied_runs_show_end s orders (Halted halt) by = (halt, by, refl)
+tallied_runs_show_end : (d : SampleDetail) (s : Plan) (orders : ℕ → List ℕ) (e : Ended) → IsEndByOrderedTurns s orders e
+    → IsSampleOutcomeOf d s orders (sample_outcome_of_end d s e)
+tallied_runs_show_end d s orders (Whole report) by = (report, (by, refl))
+tallied_runs_show_end d s orders (Halted halt) by = (halt, by, refl)
 
 -- before the first run
-pub tallied_runs_none : (came : Plan → Option ℕ → DrawnRun → Type 0) (s : Plan) → AreSampleRunsInMaking came s 0 []
-tallied_runs_none came s = record {
+pub tallied_runs_none : (came : Plan → Option ℕ → DrawnRun → Type 0) (d : SampleDetail) (s : Plan) → AreSampleRunsInMaking came d s 0 []
+tallied_runs_none came d s = record {
   runs = [];
   are = record { many = refl; each = λ seed run at. absurd (none-some run at) };
   noted = record {
@@ -61,6 +62,7 @@ tallied_runs_none came s = record {
       once = λ i k a b at_a at_b e. absurd (none-some a at_a);
       all = λ o has. absurd (none-some o has.1);
       sum = refl;
+      kinds = λ is. refl;
     };
     seen = λ i k a b less at_a at_b. absurd (none-some a at_a);
   };
@@ -68,14 +70,14 @@ tallied_runs_none came s = record {
 }
 
 -- one run more
-pub tallied_runs_next : {came : Plan → Option ℕ → DrawnRun → Type 0} {s : Plan} {seed : Option ℕ} {run : DrawnRun} {old new : List TallyLine} (is : AreSampleRunsInMaking came s (tally_place_of_seed seed) old) → IsSampleRun came s seed run
-    → IsTallyOrderStarted (sample_runs_came_to s is.runs ++ sample_outcome_of_end s.processors run.ended ∷ []) new
-    → IsTallyShown (sample_run_schedules is.runs ++ run.schedule.turns.items ∷ []) new → AreSampleRunsInMaking came s (tally_place_of_seed seed + 1) new
-tallied_runs_next {came = came} {s = s} {seed = seed} {run = run} {new = new} is one noted shown = record {
+pub tallied_runs_next : {came : Plan → Option ℕ → DrawnRun → Type 0} {d : SampleDetail} {s : Plan} {seed : Option ℕ} {run : DrawnRun} {old new : List TallyLine} (is : AreSampleRunsInMaking came d s (tally_place_of_seed seed) old) → IsSampleRun came s seed run
+    → IsTallyOrderStarted (sample_runs_came_to d s is.runs ++ sample_outcome_of_end d s run.ended ∷ []) new
+    → IsTallyShown (sample_run_schedules is.runs ++ run.schedule.turns.items ∷ []) new → AreSampleRunsInMaking came d s (tally_place_of_seed seed + 1) new
+tallied_runs_next {came = came} {d = d} {s = s} {seed = seed} {run = run} {new = new} is one noted shown = record {
   runs = is.runs ++ run ∷ [];
   are = record { many = omega (arith, length-append is.runs (run ∷ []), is.are.many); each = each };
   noted = subst (λ os. IsTallyOrderStarted os new)
-      (sym (tallied_runs_map_push (λ (r : DrawnRun). sample_outcome_of_end s.processors r.ended) is.runs run)) noted;
+      (sym (tallied_runs_map_push (λ (r : DrawnRun). sample_outcome_of_end d s r.ended) is.runs run)) noted;
   shown = subst (λ turns. IsTallyShown turns new)
       (sym (tallied_runs_map_push (λ (r : DrawnRun). r.schedule.turns.items) is.runs run)) shown;
 }
@@ -90,48 +92,48 @@ tallied_runs_next {came = came} {s = s} {seed = seed} {run = run} {new = new} is
     ]
 
 -- the runs have as many outcomes and schedules
-pub tallied_runs_counted : (came : Plan → Option ℕ → DrawnRun → Type 0) (s : Plan) (n : ℕ) (lines : List TallyLine)
-    (is : AreSampleRunsInMaking came s n lines) → (n ≡ length (sample_runs_came_to s is.runs)) × (n ≡ length (sample_run_schedules is.runs))
-tallied_runs_counted came s n lines is =
-    let outcomes = tallied_runs_map_length (λ (r : DrawnRun). sample_outcome_of_end s.processors r.ended) is.runs in
+pub tallied_runs_counted : (came : Plan → Option ℕ → DrawnRun → Type 0) (d : SampleDetail) (s : Plan) (n : ℕ) (lines : List TallyLine)
+    (is : AreSampleRunsInMaking came d s n lines) → (n ≡ length (sample_runs_came_to d s is.runs)) × (n ≡ length (sample_run_schedules is.runs))
+tallied_runs_counted came d s n lines is =
+    let outcomes = tallied_runs_map_length (λ (r : DrawnRun). sample_outcome_of_end d s r.ended) is.runs in
     let schedules = tallied_runs_map_length (λ (r : DrawnRun). r.schedule.turns.items) is.runs in
     (omega (arith, outcomes, is.are.many), omega (arith, schedules, is.are.many))
 
 -- the counts fit
-pub tallied_runs_few : (came : Plan → Option ℕ → DrawnRun → Type 0) (s : Plan) (n : ℕ) (lines : List TallyLine) → n ≤ 2 ^ 32
-    → AreSampleRunsInMaking came s n lines → sum_by tally_times_of lines < 2 ^ 64
-tallied_runs_few came s n lines few is = omega (arith, few, is.noted.tally.sum, (tallied_runs_counted came s n lines is).0)
+pub tallied_runs_few : (came : Plan → Option ℕ → DrawnRun → Type 0) (d : SampleDetail) (s : Plan) (n : ℕ) (lines : List TallyLine) → n ≤ 2 ^ 32
+    → AreSampleRunsInMaking came d s n lines → sum_by tally_times_of lines < 2 ^ 64
+tallied_runs_few came d s n lines few is = omega (arith, few, is.noted.tally.sum, (tallied_runs_counted came d s n lines is).0)
 
 -- a line's schedule shows its outcome
-tallied_runs_shown_by_schedule : {came : Plan → Option ℕ → DrawnRun → Type 0} {s : Plan} {n : ℕ} {runs : List DrawnRun} {lines : List TallyLine} → AreSampleRuns came s n runs → TallyCountsOutcomes (sample_runs_came_to s runs) lines
+tallied_runs_shown_by_schedule : (d : SampleDetail) {came : Plan → Option ℕ → DrawnRun → Type 0} {s : Plan} {n : ℕ} {runs : List DrawnRun} {lines : List TallyLine} → AreSampleRuns came s n runs → TallyCountsOutcomes (sample_runs_came_to d s runs) lines
     → IsTallyShown (sample_run_schedules runs) lines → (line : TallyLine) → Has lines line
-    → SampleRunShows s line.schedule.turns.items line.outcome
-tallied_runs_shown_by_schedule {came = came} {s = s} {runs = runs} {lines = lines} are tally shown line has =
-    let told = telling_law_first_run (sample_runs_came_to s runs) lines line tally has in
-    let a = tallied_runs_map_at (λ (r : DrawnRun). sample_outcome_of_end s.processors r.ended) runs (tally_place_of_seed line.seed) line.outcome told.came in
+    → SampleRunShows d s line.schedule.turns.items line.outcome
+tallied_runs_shown_by_schedule d {came = came} {s = s} {runs = runs} {lines = lines} are tally shown line has =
+    let told = telling_law_first_run (sample_runs_came_to d s runs) lines line tally has in
+    let a = tallied_runs_map_at (λ (r : DrawnRun). sample_outcome_of_end d s r.ended) runs (tally_place_of_seed line.seed) line.outcome told.came in
     let b = tallied_runs_map_at (λ (r : DrawnRun). r.schedule.turns.items) runs (tally_place_of_seed line.seed) line.schedule.turns.items
     (shown line has) in
     let same : b.0 ≡ a.0 = same_Some b.0 a.0 (sym b.1.0 ∙ a.1.0) in
     let turns : a.0.schedule.turns.items ≡ line.schedule.turns.items =
     ap (λ (r : DrawnRun). r.schedule.turns.items) (sym same) ∙ b.1.1 in
     let by = (are.each line.seed a.0 a.1.0).by_turns in
-    subst (λ t. SampleRunShows s t line.outcome) turns
-    (subst (SampleRunShows s a.0.schedule.turns.items) a.1.1 (tallied_runs_show_end s (schedule_orders s a.0.schedule.turns.items) a.0.ended by))
+    subst (λ t. SampleRunShows d s t line.outcome) turns
+    (subst (SampleRunShows d s a.0.schedule.turns.items) a.1.1 (tallied_runs_show_end d s (schedule_orders s a.0.schedule.turns.items) a.0.ended by))
 
 -- in order
-pub tallied_runs_are_sample : (came : Plan → Option ℕ → DrawnRun → Type 0) (s : Plan) (n : ℕ) (old : List TallyLine)
-    (sampled : Sampled) (is : AreSampleRunsInMaking came s n old)
+pub tallied_runs_are_sample : (came : Plan → Option ℕ → DrawnRun → Type 0) (d : SampleDetail) (s : Plan) (n : ℕ) (old : List TallyLine)
+    (sampled : Sampled) (is : AreSampleRunsInMaking came d s n old)
     → ((os : List SampleOutcome) → TallyCountsOutcomes os old → TallyCountsOutcomes os sampled.lines.items)
     → ((turns : List (List ℕ)) → IsTallyShown turns old → IsTallyShown turns sampled.lines.items)
-    → (IsTallyOrderAsSeen old → IsTallyOrderByFrequency sampled.lines.items) → IsSampleOfRuns came s n sampled
-tallied_runs_are_sample came s n old sampled is tally shown order =
-    let counts = tally (sample_runs_came_to s is.runs) is.noted.tally in
+    → (IsTallyOrderAsSeen old → IsTallyOrderByFrequency sampled.lines.items) → IsSampleOfRuns came d s n sampled
+tallied_runs_are_sample came d s n old sampled is tally shown order =
+    let counts = tally (sample_runs_came_to d s is.runs) is.noted.tally in
     let by = shown (sample_run_schedules is.runs) is.shown in
     record {
       runs = is.runs;
       are = is.are;
       tally = counts;
       shown = by;
-      shows = tallied_runs_shown_by_schedule is.are counts by;
+      shows = tallied_runs_shown_by_schedule d is.are counts by;
       order = order is.noted.seen;
     }

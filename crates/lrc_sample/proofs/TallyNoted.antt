@@ -1,5 +1,5 @@
 -- A tally of one run more.
-use Rattle.std.proofs.Common.{◌≡◌, ◌≢◌, ◌∙◌, ◌+◌, ◌<◌, ◌≤◌, ℕ, inl, inr, zero, suc, List, [], ◌∷◌, ◌++◌, Some, Option, length, slice_get, slice_set, slice_index_or, ap, sym, subst, refl, arith}
+use Rattle.std.proofs.Common.{◌≡◌, ◌≢◌, ◌∙◌, ◌+◌, ◌<◌, ◌≤◌, ℕ, inl, inr, zero, suc, Bool, true, false, cond, List, [], ◌∷◌, ◌++◌, Some, Option, length, slice_get, slice_set, slice_index_or, ap, sym, subst, refl, arith}
 use Rattle.std.specs.List.{sum_by}
 use Rattle.std.proofs.lemmas.Bool.{cases_eq}
 use Rattle.std.proofs.lemmas.Option.{none-some, same_Some, slice_get-get_or, slice_get_within}
@@ -12,7 +12,7 @@ use Rattle.base.proofs.SliceSets.{slice_get-set_found, slice_get-set_other, slic
 use Rattle.conformance.specs.declared.schedule.Schedule.{Schedule}
 use Rattle.lrc_sample.specs.declared.outcome.SampleOutcome.{SampleOutcome}
 use Rattle.lrc_sample.specs.declared.tally.TallyLine.{TallyLine}
-use Rattle.lrc_sample.specs.Tally.{IsTallyShown, IsTallyOfOutcome, TallyCountsOutcomes, tally_place_of_seed, tally_times_of}
+use Rattle.lrc_sample.specs.Tally.{IsTallyShown, IsTallyOfOutcome, TallyCountsOutcomes, tally_counts_of_kind, tally_place_of_seed, tally_times_of, tally_times_of_kind}
 use Rattle.lrc_sample.specs.TallyOrder.{IsTallyOrderAsSeen, IsTallyOrderStarted}
 use Rattle.lrc_sample.proofs.TallyLines.{tally_line_counted, tally_line_again, tally_line_new, tally_line_other_outcome, tally_line_runs_before, tally_line_stays}
 
@@ -67,11 +67,21 @@ tally_noted_times_few lines k line at =
     let is = ap tally_times_of (tally_noted_item_at lines k line line at) in
     omega (arith, few, is)
 
+-- what one more run of a line counts in a kind of outcomes
+tally_noted_kind_counted : (kind : SampleOutcome → Bool) (line : TallyLine) (o : SampleOutcome) → line.outcome ≡ o
+    → tally_times_of_kind kind (tally_line_counted line) ≡ tally_times_of_kind kind line + tally_counts_of_kind kind o
+tally_noted_kind_counted kind line o same =
+    counted (kind line.outcome) ∙ ap (λ x. cond (kind line.outcome) line.times 0 + cond (kind x) 1 0) same
+  where
+    counted : (b : Bool) → cond b (line.times + 1) 0 ≡ cond b line.times 0 + cond b 1 0
+    counted true = refl
+    counted false = refl
+
 -- a run that came to what the line at k has
 pub tally_noted_again : (os : List SampleOutcome) (lines : List TallyLine) (o : SampleOutcome) (k : ℕ) (line : TallyLine)
     → slice_get lines k ≡ Some line → line.outcome ≡ o → TallyCountsOutcomes os lines
     → TallyCountsOutcomes (os ++ o ∷ []) (slice_set lines k (tally_line_counted line))
-tally_noted_again os lines o k line at same is = record { each = each; once = once; all = all; sum = sum }
+tally_noted_again os lines o k line at same is = record { each = each; once = once; all = all; sum = sum; kinds = kinds }
   where
     each : (a : TallyLine) → Has (slice_set lines k (tally_line_counted line)) a → IsTallyOfOutcome (os ++ o ∷ []) a
     each a (j, has) = elim (cases_eq j k) [
@@ -107,6 +117,13 @@ tally_noted_again os lines o k line at same is = record { each = each; once = on
         let set = sum_by-set tally_times_of lines k (tally_line_counted line) line (slice_get_within lines k line at) in
         let it = ap tally_times_of (tally_noted_item_at lines k line line at) in
         omega (arith, set, it, is.sum, length-append os (o ∷ []))
+
+    kinds : (kind : SampleOutcome → Bool)
+        → sum_by (tally_times_of_kind kind) (slice_set lines k (tally_line_counted line)) ≡ sum_by (tally_counts_of_kind kind) (os ++ o ∷ [])
+    kinds kind =
+        let set = sum_by-set (tally_times_of_kind kind) lines k (tally_line_counted line) line (slice_get_within lines k line at) in
+        let it = ap (tally_times_of_kind kind) (tally_noted_item_at lines k line line at) in
+        omega (arith, set, it, is.kinds kind, tally_noted_kind_counted kind line o same, sum_by_push (tally_counts_of_kind kind) os o)
 
 -- it keeps the order of the first runs
 tally_noted_seen_again : (lines : List TallyLine) (k : ℕ) (line : TallyLine) → slice_get lines k ≡ Some line → IsTallyOrderAsSeen lines
@@ -145,7 +162,7 @@ tally_noted_line o seed schedule = record { outcome = o; times = 1; seed = seed;
 tally_noted_new : (os : List SampleOutcome) (lines : List TallyLine) (o : SampleOutcome) (seed : Option ℕ) (schedule : Schedule)
     → ((k : ℕ) (line : TallyLine) → slice_get lines k ≡ Some line → line.outcome ≢ o) → tally_place_of_seed seed ≡ length os
     → TallyCountsOutcomes os lines → TallyCountsOutcomes (os ++ o ∷ []) (lines ++ tally_noted_line o seed schedule ∷ [])
-tally_noted_new os lines o seed schedule none place is = record { each = each; once = once; all = all; sum = sum }
+tally_noted_new os lines o seed schedule none place is = record { each = each; once = once; all = all; sum = sum; kinds = kinds }
   where
     unseen : ¬ Has os o
     unseen has = let r = is.all o has in none r.1.0.0 r.0 r.1.0.1 r.1.1
@@ -180,6 +197,11 @@ tally_noted_new os lines o seed schedule none place is = record { each = each; o
 
     sum : sum_by tally_times_of (lines ++ tally_noted_line o seed schedule ∷ []) ≡ length (os ++ o ∷ [])
     sum = omega (arith, sum_by_push tally_times_of lines (tally_noted_line o seed schedule), is.sum, length-append os (o ∷ []))
+
+    kinds : (kind : SampleOutcome → Bool)
+        → sum_by (tally_times_of_kind kind) (lines ++ tally_noted_line o seed schedule ∷ []) ≡ sum_by (tally_counts_of_kind kind) (os ++ o ∷ [])
+    kinds kind =
+        omega (arith, sum_by_push (tally_times_of_kind kind) lines (tally_noted_line o seed schedule), is.kinds kind, sum_by_push (tally_counts_of_kind kind) os o)
 
 -- and it is seen last
 tally_noted_seen_new : (os : List SampleOutcome) (lines : List TallyLine) (new : TallyLine) → tally_place_of_seed new.seed ≡ length os → IsTallyOrderStarted os lines

@@ -38,7 +38,7 @@ telling_law_false_by false none = refl
 telling_law_false_by true none = absurd (none refl)
 
 pub telling_law_race_free : SampleRaceFreeLaw
-telling_law_race_free s orders answers (r, (by, are)) never =
+telling_law_race_free d s orders answers (r, (by, are)) never =
     let is = by.report in
     let told = recomputed_race_free_law s is.history is.tells.well_formed is.tells.explained is.tells.follows never in
     ap (λ (a : SampleAnswers). a.racy) are

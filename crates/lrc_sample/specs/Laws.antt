@@ -3,6 +3,7 @@ use Rattle.std.specs.Prelude.{ℕ, ◌≡◌, ◌≢◌, ◌<◌, false, List, S
 use Rattle.base.specs.InOrderOnce.{Has}
 use Rattle.lrc_script.specs.Plan.{Plan}
 use Rattle.conformance.specs.FlatRuns.{NeverRacesFlat}
+use Rattle.lrc_sample.specs.declared.detail.SampleDetail.{SampleDetail}
 use Rattle.lrc_sample.specs.declared.outcome.SampleOutcome.{SampleOutcome}
 use Rattle.lrc_sample.specs.declared.outcome.SampleOutcome.TheVariants.{Ended}
 use Rattle.lrc_sample.specs.declared.tally.TallyLine.{TallyLine}
@@ -24,5 +25,5 @@ SampleFirstLaw = (outcomes : List SampleOutcome) (lines : List TallyLine) (line 
 
 -- a script that never races on one flat memory has no outcome with a race
 abbrev pub SampleRaceFreeLaw : Type 0
-SampleRaceFreeLaw = (s : Plan) (orders : ℕ → List ℕ) (answers : SampleAnswers) → IsSampleOutcomeOf s orders (Ended answers)
+SampleRaceFreeLaw = (d : SampleDetail) (s : Plan) (orders : ℕ → List ℕ) (answers : SampleAnswers) → IsSampleOutcomeOf d s orders (Ended answers)
     → NeverRacesFlat s → answers.racy ≡ false

@@ -9,6 +9,7 @@ use Rattle.conformance.specs.declared.schedule.DrawnRun.{DrawnRun}
 use Rattle.conformance.specs.declared.schedule.ScheduleFault.{ScheduleFault}
 use Rattle.conformance.specs.OrderedTurns.{IsEndByOrderedTurns}
 use Rattle.conformance.specs.ScheduleTexts.{schedule_orders}
+use Rattle.lrc_sample.specs.declared.detail.SampleDetail.{SampleDetail}
 use Rattle.lrc_sample.specs.declared.outcome.SampleOutcome.{SampleOutcome}
 use Rattle.lrc_sample.specs.declared.tally.TallyLine.{TallyLine}
 use Rattle.lrc_sample.specs.declared.sampling.Sampled.{Sampled}
@@ -17,8 +18,8 @@ use Rattle.lrc_sample.specs.SampleOutcomes.{IsSampleOutcomeOf, sample_outcome_of
 use Rattle.lrc_sample.specs.Tally.{IsTallyShown, TallyCountsOutcomes, tally_place_of_seed}
 
 -- it is what the script's run by this schedule comes to
-abbrev pub SampleRunShows : Plan → List ℕ → SampleOutcome → Type 0
-SampleRunShows s turns o = IsSampleOutcomeOf s (schedule_orders s turns) o
+abbrev pub SampleRunShows : SampleDetail → Plan → List ℕ → SampleOutcome → Type 0
+SampleRunShows d s turns o = IsSampleOutcomeOf d s (schedule_orders s turns) o
 
 -- this came of the script with this lock by the turns that the seed draws, or without one in rounds by rising number;
 -- `followed` and `drawn` are what comes by a schedule and by a seed
@@ -39,29 +40,29 @@ pub record AreSampleRuns (came : Plan → Option ℕ → DrawnRun → Type 0) (s
   pub many : length runs ≡ count
   pub each : (seed : Option ℕ) (run : DrawnRun) → slice_get runs (tally_place_of_seed seed) ≡ Some run → IsSampleRun came s seed run
 
--- what the runs came to
-abbrev pub sample_runs_came_to : Plan → List DrawnRun → List SampleOutcome
-sample_runs_came_to s runs = map (λ (run : DrawnRun). sample_outcome_of_end s.processors run.ended) runs
+-- what the runs came to, in this detail
+abbrev pub sample_runs_came_to : SampleDetail → Plan → List DrawnRun → List SampleOutcome
+sample_runs_came_to d s runs = map (λ (run : DrawnRun). sample_outcome_of_end d s run.ended) runs
 
 -- and by which schedules
 abbrev pub sample_run_schedules : List DrawnRun → List (List ℕ)
 sample_run_schedules runs = map (λ (run : DrawnRun). run.schedule.turns.items) runs
 
 -- the lines as they are made, after so many runs
-pub record AreSampleRunsInMaking (came : Plan → Option ℕ → DrawnRun → Type 0) (s : Plan) (count : ℕ) (lines : List TallyLine)
+pub record AreSampleRunsInMaking (came : Plan → Option ℕ → DrawnRun → Type 0) (d : SampleDetail) (s : Plan) (count : ℕ) (lines : List TallyLine)
     : Type 0 where
   pub runs : List DrawnRun
   pub are : AreSampleRuns came s count runs
-  pub noted : IsTallyOrderStarted (sample_runs_came_to s runs) lines
+  pub noted : IsTallyOrderStarted (sample_runs_came_to d s runs) lines
   pub shown : IsTallyShown (sample_run_schedules runs) lines
 
--- the script was run so many times, and the lines tell what the runs came to, how often and where first, and the schedule of
+-- the script was run so many times, and the lines tell what the runs came to in this detail, how often and where first, and the schedule of
 -- that run, which shows it
-pub record IsSampleOfRuns (came : Plan → Option ℕ → DrawnRun → Type 0) (s : Plan) (count : ℕ) (sampled : Sampled)
+pub record IsSampleOfRuns (came : Plan → Option ℕ → DrawnRun → Type 0) (d : SampleDetail) (s : Plan) (count : ℕ) (sampled : Sampled)
     : Type 0 where
   pub runs : List DrawnRun
   pub are : AreSampleRuns came s count runs
-  pub tally : TallyCountsOutcomes (sample_runs_came_to s runs) sampled.lines.items
+  pub tally : TallyCountsOutcomes (sample_runs_came_to d s runs) sampled.lines.items
   pub shown : IsTallyShown (sample_run_schedules runs) sampled.lines.items
-  pub shows : (line : TallyLine) → Has sampled.lines.items line → SampleRunShows s line.schedule.turns.items line.outcome
+  pub shows : (line : TallyLine) → Has sampled.lines.items line → SampleRunShows d s line.schedule.turns.items line.outcome
   pub order : IsTallyOrderByFrequency sampled.lines.items

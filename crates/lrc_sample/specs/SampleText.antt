@@ -5,11 +5,14 @@ use Rattle.std.specs.List.{flat_map, sum_by}
 use Rattle.lrc_sample.specs.declared.outcome.SampleOutcome.{SampleOutcome}
 use Rattle.lrc_sample.specs.declared.outcome.SampleOutcome.TheVariants.{Ended, Stuck}
 use Rattle.lrc_sample.specs.declared.outcome.Reply.{Reply}
+use Rattle.lrc_sample.specs.declared.outcome.SampleVerdict.{SampleVerdict}
+use Rattle.lrc_sample.specs.declared.outcome.SampleVerdict.TheVariants as verdict
 use Rattle.lrc_sample.specs.declared.sampling.Sampled.{Sampled}
 use Rattle.lrc_sample.specs.declared.tally.TallyLine.{TallyLine}
 use Rattle.conformance.specs.ScheduleTexts.{schedule_text}
 use Rattle.lrc_sample.specs.SampleAnswers.{SampleAnswers}
-use Rattle.lrc_sample.specs.Tally.{tally_times_of}
+use Rattle.lrc_sample.specs.SampleOutcomes.{has_sample_verdict}
+use Rattle.lrc_sample.specs.Tally.{tally_times_of, tally_times_of_kind}
 
 -- a shown address with its last word
 abbrev pub sample_text_of_word : ℕ × ℕ → List ℕ
@@ -52,6 +55,18 @@ sample_text_of_line l =
 abbrev pub sample_text_runs : List TallyLine → ℕ
 sample_text_runs lines = min (sum_by tally_times_of lines) (2 ^ 64 - 1)
 
--- how many runs there were, and each outcome in a line of its own
+-- how many of them had this verdict
+abbrev pub sample_runs_of_verdict : SampleVerdict → List TallyLine → ℕ
+sample_runs_of_verdict v lines = min (sum_by (tally_times_of_kind (has_sample_verdict v)) lines) (2 ^ 64 - 1)
+
+-- the same of each verdict
+abbrev pub sample_text_of_verdicts : List TallyLine → List ℕ
+sample_text_of_verdicts lines =
+    codes "verdicts race-free " ++ (decimal (sample_runs_of_verdict verdict.RaceFree lines)
+    ++ (codes " racy " ++ (decimal (sample_runs_of_verdict verdict.Racy lines)
+    ++ (codes " stuck " ++ (decimal (sample_runs_of_verdict verdict.Stuck lines) ++ codes "\n")))))
+
+-- how many runs there were, how many of each verdict, and each outcome in a line of its own
 abbrev pub sample_text : Sampled → List ℕ
-sample_text s = (codes "runs " ++ (decimal (sample_text_runs s.lines.items) ++ codes "\n")) ++ flat_map sample_text_of_line s.lines.items
+sample_text s = (codes "runs " ++ (decimal (sample_text_runs s.lines.items) ++ codes "\n"))
+    ++ (sample_text_of_verdicts s.lines.items ++ flat_map sample_text_of_line s.lines.items)

@@ -13,6 +13,7 @@
 //! **What is only tested** (in `test_lrc`): that other faults than being stuck end a sample, and that the text is one write.
 #![tactic(auto)]
 
+pub mod detail;
 pub mod laws;
 pub mod outcome;
 pub mod sampling;

@@ -3,6 +3,7 @@ ghost use Rattle.std.specs.Prelude.{◌≡◌, ◌≤◌, ◌+◌, ◌^◌, IfOk
 ghost use Rattle.lrc_script.specs.Prelude.{IsLawful, plan_of};
 ghost use Rattle.lrc_sample.specs.Prelude.{CameBySampleRunSeed, AreSampleRunsInMaking, IsSampleOfRuns, IsSampleRun, sample_outcome_of_end, tally_place_of_seed};
 
+use crate::detail::SampleDetail;
 use crate::outcome::{SampleOutcome, SampleOutcomeAnswers};
 use crate::tally::{TallyLine, note_in_sample_tally, sort_sample_tally};
 use conformance::{
@@ -27,12 +28,17 @@ fn no_memory(error: AllocError) -> RunFault {
     }
 }
 
-/// What a run came to: a run that can't go on is stuck.
-fn sampled_outcome(alloc: Global, script: &Script, ended: Ended) -> Result<SampleOutcome, RunFault>
-    ensures { IfOk result (λ outcome. outcome ≡ sample_outcome_of_end script.now.processors ended) }
+/// What a run came to, in this detail: a run that can't go on is stuck.
+fn sampled_outcome(
+    alloc: Global,
+    detail: SampleDetail,
+    script: &Script,
+    ended: Ended,
+) -> Result<SampleOutcome, RunFault>
+    ensures { IfOk result (λ outcome. outcome ≡ sample_outcome_of_end detail (plan_of script.now) ended) }
 {
     match ended {
-        Ended::Whole(report) => match SampleOutcomeAnswers::of(alloc, script.processors, report) {
+        Ended::Whole(report) => match SampleOutcomeAnswers::of(alloc, detail, script, report) {
             Ok(answers) => Ok(SampleOutcome::Ended(answers)),
             Err(error) => Err(no_memory(error)),
         },
@@ -70,6 +76,7 @@ fn sample_once<T: ScriptRunner, R: Wait>(
     runs: &T,
     rt: &R,
     alloc: Global,
+    detail: SampleDetail,
     script: &Script,
     lock: LockChoice,
     seed: Option<u64>,
@@ -77,12 +84,12 @@ fn sample_once<T: ScriptRunner, R: Wait>(
 ) -> Result<(), RunFault>
     requires lawful { IsLawful (plan_of script.now) }
     requires few { tally_place_of_seed seed ≤ 2 ^ 32 }
-    requires made { AreSampleRunsInMaking (CameBySampleRunSeed T.followed T.drawn lock) (plan_of script.now) (tally_place_of_seed seed) lines.old.items }
-    ensures { OnOk result (AreSampleRunsInMaking (CameBySampleRunSeed T.followed T.drawn lock) (plan_of script.now) (tally_place_of_seed seed + 1)
+    requires made { AreSampleRunsInMaking (CameBySampleRunSeed T.followed T.drawn lock) detail (plan_of script.now) (tally_place_of_seed seed) lines.old.items }
+    ensures { OnOk result (AreSampleRunsInMaking (CameBySampleRunSeed T.followed T.drawn lock) detail (plan_of script.now) (tally_place_of_seed seed + 1)
         lines.new.items) }
 {
     let DrawnRun { schedule, ended } = sampled_run(runs, rt, alloc, script, lock, seed)?;
-    let outcome = sampled_outcome(alloc, script, ended)?;
+    let outcome = sampled_outcome(alloc, detail, script, ended)?;
     match note_in_sample_tally(lines, outcome, seed, schedule) {
         Ok(()) => Ok(()),
         Err(error) => Err(no_memory(error)),
@@ -90,7 +97,7 @@ fn sample_once<T: ScriptRunner, R: Wait>(
 }
 
 /// Runs the script by turns, in rounds by rising number and then by the turns that each seed from 0 to `seeds` - 1 draws, and
-/// tells each outcome once, with the schedule of the first run that came to it. A run that is stuck is an outcome; every
+/// tells each outcome once, in this detail, with the schedule of the first run that came to it. A run that is stuck is an outcome; every
 /// fault ends it, also running out of memory.
 ///
 /// It takes the time of the runs, and for each run a comparison with each outcome that came before: kinds are few.
@@ -98,20 +105,22 @@ pub fn sample<T: ScriptRunner, R: Wait>(
     runs: &T,
     rt: &R,
     alloc: Global,
+    detail: SampleDetail,
     script: &Script,
     lock: LockChoice,
     seeds: u32,
 ) -> Result<Sampled, RunFault>
     requires { IsLawful (plan_of script.now) }
-    ensures { IfOk result (IsSampleOfRuns (CameBySampleRunSeed T.followed T.drawn lock) (plan_of script.now) (seeds + 1)) }
+    ensures { IfOk result (IsSampleOfRuns (CameBySampleRunSeed T.followed T.drawn lock) detail (plan_of script.now) (seeds + 1)) }
 {
     let mut lines = Vec::new(alloc);
-    sample_once(runs, rt, alloc, script, lock, None, &mut lines)?;
+    sample_once(runs, rt, alloc, detail, script, lock, None, &mut lines)?;
     for seed in 0..seeds {
         sample_once(
             runs,
             rt,
             alloc,
+            detail,
             script,
             lock,
             Some(u64::from(seed)),

@@ -5,9 +5,9 @@ ghost use Rattle.std.specs.Io.KnownBytes.{Appends};
 ghost use Rattle.std.specs.List.{flat_map};
 ghost use Rattle.lrc_sample.specs.declared.text.TextFault.TheVariants.{NoMemory, Output};
 ghost use Rattle.lrc_sample.specs.Prelude.{sample_text_of_all_replies, sample_text_of_answers, sample_text_of_line, sample_text_of_outcome, sample_text_of_owner, sample_text_of_replies, sample_text_runs};
-ghost use Rattle.lrc_sample.specs.Prelude.{sample_text, sample_text_of_word};
+ghost use Rattle.lrc_sample.specs.Prelude.{sample_runs_of_verdict, sample_text, sample_text_of_verdicts, sample_text_of_word};
 
-use crate::outcome::{Reply, SampleOutcome, SampleOutcomeAnswers};
+use crate::outcome::{Reply, SampleOutcome, SampleOutcomeAnswers, SampleVerdict};
 use crate::sampling::Sampled;
 use crate::tally::TallyLine;
 use std::alloc::{AllocError, Global};
@@ -157,12 +157,39 @@ fn runs_in_sample_text(lines: &[TallyLine]) -> u64
     runs
 }
 
+/// How many runs had this verdict.
+pub fn runs_of_sample_verdict(lines: &[TallyLine], verdict: SampleVerdict) -> u64
+    ensures { result ≡ sample_runs_of_verdict verdict lines.now }
+{
+    let mut runs: u64 = 0;
+    for line in lines {
+        if line.outcome.has(verdict) {
+            runs = runs.saturating_add(line.times);
+        }
+    }
+    runs
+}
+
+/// Adds how many runs had each verdict.
+fn put_sample_verdicts_text(text: &mut String, lines: &[TallyLine]) -> Result<(), AllocError>
+    ensures { OnOk result (string_bytes text.new ≡ string_bytes text.old ++ sample_text_of_verdicts lines.now) }
+{
+    let race_free = runs_of_sample_verdict(lines, SampleVerdict::RaceFree);
+    let racy = runs_of_sample_verdict(lines, SampleVerdict::Racy);
+    let stuck = runs_of_sample_verdict(lines, SampleVerdict::Stuck);
+    write!(
+        text,
+        "verdicts race-free {race_free} racy {racy} stuck {stuck}\n"
+    )
+}
+
 /// The whole text. The only error is running out of memory.
 fn sample_text_of(alloc: Global, sampled: &Sampled) -> Result<String, AllocError>
     ensures { IfOk result (λ s. string_bytes s ≡ sample_text sampled.now) }
 {
     let runs = runs_in_sample_text(&sampled.lines);
     let mut text = format!(in alloc; "runs {runs}\n")?;
+    put_sample_verdicts_text(&mut text, &sampled.lines)?;
     put_sample_lines_text(&mut text, &sampled.lines)?;
     Ok(text)
 }
@@ -184,19 +211,20 @@ fn write_sample_text<W: Write>(text: &str, out: &mut W) -> Result<(), TextFault>
 /// Writes what a script's runs came to, and flushes the writer. The text is made whole first and then written: after
 /// NoMemory nothing was written, after Output a beginning of it.
 ///
-/// First comes how many runs there were, then each outcome in a line of its own:
+/// First comes how many runs there were, then how many of them had each verdict, then each outcome in a line of its own:
 ///
 /// ```text
 /// runs 1001
+/// verdicts race-free 999 racy 1 stuck 1
 /// result 999 race-free words 0 7 1 8 replies p1 0 7 p2 5 schedule -
 /// result 1 racy words 0 7 1 8 replies p1 0 0 p2 5 schedule 1:3,0,2
 /// result 1 stuck 0 schedule 2:2,1
 /// ```
 ///
 /// After `result` stands how many runs came to it. After `schedule` stands one that shows it, as `Schedule::parse` reads it.
-/// After `words` stands each shown address with its last word. After `replies` stands for each processor that loads its
-/// number and the words that its loads answered, in order: those of the journal, so none from before a cut, and not those
-/// that show the last words. If nobody loads, `replies` isn't there. `stuck` has the processor that waits for what doesn't come.
+/// After `words` stands each shown address with its last word. After `replies` stands for each processor whose loads are told
+/// its number and the words that they answered, in order: those of the journal, so none from before a cut, and not those
+/// that show the last words. If no load is told, `replies` isn't there. `stuck` has the processor that waits for what doesn't come.
 pub fn render<W: Write>(alloc: Global, sampled: &Sampled, out: &mut W) -> Result<(), TextFault>
     ensures written { OnOk result (Appends (W.contents out.old) (W.contents out.new) (sample_text sampled.now)) }
     ensures unwritten { result ≡ Err NoMemory → W.contents out.new ≡ W.contents out.old }

@@ -15,6 +15,7 @@ use conformance::{Cause, LockChoice, RunFault};
 use explore::{Detail, Progress, Silent, explore};
 use failing::Failing;
 use lrc_explore::ExploreFault;
+use lrc_sample::detail::SampleDetail;
 use lrc_sample::sampling::{Sampled, sample};
 use lrc_sample::text::TextFault;
 use lrc_script::script::{Script, parse};
@@ -101,7 +102,10 @@ fn sampled<R: Wait>(
     seeds: u32,
 ) -> Result<Result<Sampled, RunFault>, Fail> {
     match parse(alloc, text) {
-        Ok(script) => Ok(sample(&Failing { fails }, rt, alloc, &script, lock, seeds)),
+        Ok(script) => {
+            let runs = Failing { fails };
+            Ok(sample(&runs, rt, alloc, SampleDetail::Words, &script, lock, seeds))
+        }
         Err(_) => Err(Fail::from("no script")),
     }
 }
@@ -136,10 +140,10 @@ fn sampled_runs(rt: HostRuntime) -> Result<(), Fail> {
         (
             STORES,
             6,
-            b"runs 7\nresult 4 racy words 0 2 schedule -\nresult 3 racy words 0 1 schedule 0,2,1,2,1\n",
+            b"runs 7\nverdicts race-free 0 racy 7 stuck 0\nresult 4 racy words 0 2 schedule -\nresult 3 racy words 0 1 schedule 0,2,1,2,1\n",
         ),
-        (STICKS, 0, b"runs 1\nresult 1 stuck 0 schedule -\n"),
-        (STICKS, 2, b"runs 3\nresult 3 stuck 0 schedule -\n"),
+        (STICKS, 0, b"runs 1\nverdicts race-free 0 racy 0 stuck 1\nresult 1 stuck 0 schedule -\n"),
+        (STICKS, 2, b"runs 3\nverdicts race-free 0 racy 0 stuck 3\nresult 3 stuck 0 schedule -\n"),
     ];
     for (script, seeds, text) in rows {
         assert!(&rt; has_text(&rt, rt.alloc(), script, seeds, text)?);

@@ -14,12 +14,14 @@ use Rattle.lrc_check.specs.Traces.TraceFaults.{IsTraceFaultLasting, IsTraceFault
 use Rattle.lrc_check.specs.Traces.FedText.{FedTextBeginsTrace, IsUnfinishedTrace, IsFedTextOf, IsFedTextWhole, FedTextFaultStays, FedText, HasReadFedText, fed_text_labels_with, fed_text_line_number, fed_text_with}
 use Rattle.lrc_check.specs.Traces.LawfulTraces.{IsLawfulTrace}
 use Rattle.lrc_check.specs.Traces.LabelLines.{AreTraceLabelsLeft, trace_line_count}
-use Rattle.lrc_check.specs.Traces.Labels.{is_trace_line_passed_over, without_trace_labels, line_without_trace_label, trace_event_label, trace_label_by_lines, trace_labels_of}
+use Rattle.lrc_check.specs.Traces.RefusedLines.{IsFedLineRefused, IsLineRefused}
+use Rattle.lrc_check.specs.Traces.Labels.{ArePassedOver, is_trace_line_passed_over, without_trace_labels, line_without_trace_label, trace_event_label, trace_label_by_lines, trace_labels_of}
 use Rattle.lrc_check.specs.Traces.Sizes.{trace_sizes_of}
 use Rattle.lrc_check.proofs.traces.LabelLines.{label_lines_let_go, label_lines_of_event, label_lines_unread}
 use Rattle.lrc_check.proofs.traces.TextParts.{text_parts_of_no_other_trace}
 use Rattle.lrc_check.specs.Traces.TraceText.{trace_text}
 use Rattle.lrc_check.proofs.traces.Labelling.{labelling_dropped_clean, labelling_lines_last, labelling_lines_passed_on, labelling_lines_read_on}
+use Rattle.lrc_check.proofs.traces.PassedOver.{passed_over_further}
 use Rattle.lrc_check.proofs.traces.TraceWalk.{trace_walk_fault_behind, trace_walk_fault_only, trace_walk_first_fault}
 
 -- ---- a line
@@ -93,20 +95,49 @@ feeding_line_read change old now left kept end behind piece none cut was more =
 
 -- ---- what was read of all bytes
 
+-- what was read so far, as readers have it
+abbrev pub feeding_fed_text : ℕ → Bool → Option Trace → List ℕ → List ℕ → ℕ → FedText
+feeding_fed_text gone headed begun labels unfinished passed = record {
+  gone = gone;
+  headed = headed;
+  sizes = trace_begun_sizes begun;
+  events = trace_begun_events begun;
+  labels = labels;
+  unfinished = unfinished;
+  passed = passed;
+}
+
 pub feeding_further : (x y : FedText) (bytes piece : List ℕ) (front : List Event) (told : List ℕ)
     → (IsTraceSoFar x.sizes x.gone front x.events → IsTraceSoFar y.sizes y.gone front y.events)
     → (IsTraceSoFar x.sizes x.gone front x.events → (more : List ℕ) → fed_text_with front y more ≡ fed_text_with front x (piece ++ more))
     → ((more : List ℕ) → fed_text_labels_with [] y more ≡ fed_text_labels_with [] x (piece ++ more))
     → (AreTraceLabelsLeft x.headed x.gone (trace_line_count x.sizes x.events) told x.labels
     → AreTraceLabelsLeft y.headed y.gone (trace_line_count y.sizes y.events) told y.labels)
+    → ArePassedOver x.passed (x.unfinished ++ piece) y.passed y.unfinished
     → IsFedTextOf bytes front told x → IsFedTextOf (bytes ++ piece) front told y
-feeding_further x y bytes piece front told trace text labels lines h = record {
+feeding_further x y bytes piece front told trace text labels lines over h = record {
   text = λ more. text h.trace more ∙ h.text (piece ++ more) ∙ ap without_trace_labels (sym (append_assoc bytes piece more));
   labels = λ more.
       ap (λ (t : List ℕ). told ++ t) (labels more) ∙ h.labels (piece ++ more)
       ∙ ap trace_labels_of (sym (append_assoc bytes piece more));
   trace = trace h.trace;
   lines = lines h.lines;
+  passed = passed_over_further 0 x.passed y.passed bytes x.unfinished piece y.unfinished h.passed over;
+}
+
+-- a line was refused
+pub feeding_line_refused : (gone : ℕ) (headed : Bool) (begun now : Option Trace) (labels unfinished : List ℕ) (passed : ℕ) (bytes piece : List ℕ)
+    (front : List Event) (told : List ℕ) (y : FedText) → y.sizes ≡ trace_begun_sizes now → y.events ≡ trace_begun_events now
+    → IsFedTextOf bytes front told (feeding_fed_text gone headed begun labels unfinished passed)
+    → IsLineRefused gone begun now (unfinished ++ piece) passed y.passed → IsFedLineRefused (bytes ++ piece) front y
+feeding_line_refused gone headed begun now labels unfinished passed bytes piece front told y sizes events h refused = record {
+  left = refused.left;
+  line = refused.line;
+  text = λ more.
+      rw (sizes, events) (refused.text front h.trace more
+      ∙ ap (λ (x : List ℕ). trace_begun_text front begun ++ without_trace_labels x) (append_assoc unfinished piece more) ∙ h.text (piece ++ more)
+      ∙ ap without_trace_labels (sym (append_assoc bytes piece more)));
+  over = passed_over_further 0 passed y.passed bytes unfinished piece refused.left h.passed refused.over;
 }
 
 pub feeding_fault_further : (x : FedText) (bytes piece : List ℕ) (front : List Event) (told : List ℕ) (n : ℕ) (f : TraceFault)
@@ -165,28 +196,17 @@ feeding_labels_whole labels rest bytes none h =
     sym (append-nil labels) ∙ ap (λ (t : List ℕ). labels ++ trace_labels_of (t ++ [])) (sym none) ∙ h
     ∙ ap trace_labels_of (append-nil bytes)
 
--- what was read so far, as readers have it
-abbrev pub feeding_fed_text : ℕ → Bool → Option Trace → List ℕ → List ℕ → FedText
-feeding_fed_text gone headed begun labels unfinished = record {
-  gone = gone;
-  headed = headed;
-  sizes = trace_begun_sizes begun;
-  events = trace_begun_events begun;
-  labels = labels;
-  unfinished = unfinished;
-}
-
 -- the line behind those that were read
 pub feeding_line_number : (gone : ℕ) (headed : Bool) (begun : Option Trace) (labels unfinished : List ℕ) → IsTraceLeft gone begun
-    → trace_begun_line_number gone begun ≡ fed_text_line_number (feeding_fed_text gone headed begun labels unfinished)
+    → trace_begun_line_number gone begun ≡ fed_text_line_number (feeding_fed_text gone headed begun labels unfinished 0)
 feeding_line_number gone headed None labels unfinished left = omega (arith, left)
 feeding_line_number gone headed (Some t) labels unfinished left = omega arith
 
-pub feeding_whole : (gone : ℕ) (headed : Bool) (begun : Option Trace) (labels unfinished bytes : List ℕ) (front : List Event) (told : List ℕ)
-    → begun ≢ None → unfinished ≡ [] → IsFedTextOf bytes front told (feeding_fed_text gone headed begun labels unfinished)
-    → IsFedTextWhole bytes front told (feeding_fed_text gone headed begun labels unfinished)
-feeding_whole gone headed None labels unfinished bytes front told some none h = absurd (some refl)
-feeding_whole gone headed (Some t) labels unfinished bytes front told some none h =
+pub feeding_whole : (gone : ℕ) (headed : Bool) (begun : Option Trace) (labels unfinished : List ℕ) (passed : ℕ) (bytes : List ℕ) (front : List Event) (told : List ℕ)
+    → begun ≢ None → unfinished ≡ [] → IsFedTextOf bytes front told (feeding_fed_text gone headed begun labels unfinished passed)
+    → IsFedTextWhole bytes front told (feeding_fed_text gone headed begun labels unfinished passed)
+feeding_whole gone headed None labels unfinished passed bytes front told some none h = absurd (some refl)
+feeding_whole gone headed (Some t) labels unfinished passed bytes front told some none h =
     let s = trace_sizes_of t.sizes in
     let es = front ++ t.events.items in
     let all : without_trace_labels bytes ≡ trace_text s es =
@@ -224,34 +244,35 @@ feeding_let_go_lines None false gone told labels none h =
 feeding_let_go_lines (Some t) true gone told labels left h = label_lines_let_go true gone (length t.events.items) told labels h
 feeding_let_go_lines (Some t) false gone told labels left h = label_lines_let_go false gone (length t.events.items) told labels h
 
-pub feeding_let_go : (gone : ℕ) (headed : Bool) (begun : Option Trace) (labels unfinished bytes : List ℕ) (front : List Event) (told : List ℕ)
+pub feeding_let_go : (gone : ℕ) (headed : Bool) (begun : Option Trace) (labels unfinished : List ℕ) (passed : ℕ) (bytes : List ℕ) (front : List Event) (told : List ℕ)
     (y : FedText) → IsTraceLeft gone begun → y.gone ≡ gone + length (trace_begun_events begun) → y.headed ≡ headed && is_none begun
-    → y.sizes ≡ trace_begun_sizes begun → y.events ≡ [] → y.labels ≡ [] → y.unfinished ≡ unfinished
-    → IsFedTextOf bytes front told (feeding_fed_text gone headed begun labels unfinished)
+    → y.sizes ≡ trace_begun_sizes begun → y.events ≡ [] → y.labels ≡ [] → y.unfinished ≡ unfinished → y.passed ≡ passed
+    → IsFedTextOf bytes front told (feeding_fed_text gone headed begun labels unfinished passed)
     → IsFedTextOf bytes (front ++ trace_begun_events begun) (told ++ labels) y
-feeding_let_go gone headed begun labels unfinished bytes front told y left count head sizes events none rest h = record {
+feeding_let_go gone headed begun labels unfinished passed bytes front told y left count head sizes events none rest over h = record {
   text = λ more. rw (sizes, events, rest, append-nil (front ++ trace_begun_events begun)) (h.text more);
   labels = λ more. rw (none, rest) (append_assoc told labels (trace_labels_of (unfinished ++ more)) ∙ h.labels more);
   trace = rw (sizes, count, events) (feeding_let_go_trace begun gone front h.trace);
   lines = rw (head, sizes, count, events, none) (feeding_let_go_lines begun headed gone told labels left h.lines);
+  passed = rw (over, rest) h.passed;
 }
 
-pub feeding_read_let_go : (gone : ℕ) (headed : Bool) (begun : Option Trace) (labels unfinished bytes : List ℕ) (front : List Event) (y : FedText)
+pub feeding_read_let_go : (gone : ℕ) (headed : Bool) (begun : Option Trace) (labels unfinished : List ℕ) (passed : ℕ) (bytes : List ℕ) (front : List Event) (y : FedText)
     → y.gone ≡ gone + length (trace_begun_events begun) → y.sizes ≡ trace_begun_sizes begun → y.events ≡ []
-    → HasReadFedText bytes front (feeding_fed_text gone headed begun labels unfinished)
+    → HasReadFedText bytes front (feeding_fed_text gone headed begun labels unfinished passed)
     → HasReadFedText bytes (front ++ trace_begun_events begun) y
-feeding_read_let_go gone headed begun labels unfinished bytes front y count sizes events h = record {
+feeding_read_let_go gone headed begun labels unfinished passed bytes front y count sizes events h = record {
   trace = rw (sizes, count, events) (feeding_let_go_trace begun gone front h.trace);
   text = λ more. rw (sizes, events, append-nil (front ++ trace_begun_events begun)) (h.text more);
 }
 
 -- ---- the label of an event that is left
 
-pub feeding_label : (gone : ℕ) (headed : Bool) (begun : Option Trace) (labels unfinished bytes : List ℕ) (front : List Event) (told : List ℕ)
+pub feeding_label : (gone : ℕ) (headed : Bool) (begun : Option Trace) (labels unfinished : List ℕ) (passed : ℕ) (bytes : List ℕ) (front : List Event) (told : List ℕ)
     (index : ℕ) → index < length (trace_begun_events begun)
-    → IsFedTextOf bytes front told (feeding_fed_text gone headed begun labels unfinished)
+    → IsFedTextOf bytes front told (feeding_fed_text gone headed begun labels unfinished passed)
     → slice_index_or (parts_of_read_line 10 labels) (cond headed (index + 1) index) [] ≡ trace_event_label (trace_labels_of bytes) (gone + index)
-feeding_label gone headed None labels unfinished bytes front told index less h = absurd (omega arith)
-feeding_label gone headed (Some t) labels unfinished bytes front told index less h =
+feeding_label gone headed None labels unfinished passed bytes front told index less h = absurd (omega arith)
+feeding_label gone headed (Some t) labels unfinished passed bytes front told index less h =
     label_lines_of_event headed gone (length t.events.items) index told labels (trace_labels_of (unfinished ++ [])) (trace_labels_of bytes)
     h.lines less (h.labels [] ∙ ap trace_labels_of (append-nil bytes))

@@ -7,14 +7,14 @@ use Rattle.lrc_check.specs.declared.traces.fault.TraceFault.{TraceFault}
 use Rattle.lrc_check.specs.declared.traces.trace.TraceSizes.{TraceSizes}
 use Rattle.lrc_check.specs.Traces.Begun.{IsTraceSoFar, trace_text_so_far}
 use Rattle.lrc_check.specs.Traces.LabelLines.{AreTraceLabelsLeft, trace_line_count}
-use Rattle.lrc_check.specs.Traces.Labels.{without_trace_labels, trace_labels_of}
+use Rattle.lrc_check.specs.Traces.Labels.{ArePassedOver, without_trace_labels, trace_labels_of}
 use Rattle.lrc_check.specs.Traces.LawfulTraces.{IsLawfulTrace, IsNoOtherLawfulTrace}
 use Rattle.lrc_check.specs.Traces.Sizes.{trace_sizes_of}
 use Rattle.lrc_check.specs.Traces.TraceText.{trace_text}
 use Rattle.lrc_check.specs.Traces.TraceFaults.{IsTraceFault}
 
 -- how many events were let go of; whether the label of the sizes' line wasn't; the sizes, if their line was read; the events
--- behind those; the labels that were not let go of; and the bytes of the line that isn't whole
+-- behind those; the labels that were not let go of; the bytes of the line that isn't whole; and how many lines were passed over
 pub record FedText : Type 0 where
   pub gone : ℕ
   pub headed : Bool
@@ -22,6 +22,7 @@ pub record FedText : Type 0 where
   pub events : List Event
   pub labels : List ℕ
   pub unfinished : List ℕ
+  pub passed : ℕ
 
 -- what is read behind this front if these bytes come next: the text without its labels
 abbrev pub fed_text_with : List Event → FedText → List ℕ → List ℕ
@@ -37,6 +38,7 @@ pub record IsFedTextOf (bytes : List ℕ) (front : List Event) (told : List ℕ)
   pub labels : (more : List ℕ) → fed_text_labels_with told x more ≡ trace_labels_of (bytes ++ more)
   pub trace : IsTraceSoFar x.sizes x.gone front x.events
   pub lines : AreTraceLabelsLeft x.headed x.gone (trace_line_count x.sizes x.events) told x.labels
+  pub passed : ArePassedOver 0 bytes x.passed x.unfinished
 
 -- these are sizes and events of the first lines of these bytes, however they go on, where these events were let go of. It is
 -- so also where a line behind them was refused.
@@ -61,6 +63,10 @@ pub record IsFedTextWhole (bytes : List ℕ) (front : List Event) (told : List �
 -- the bytes are, without their labels, the text of this trace and the beginning of a line
 abbrev pub IsUnfinishedTrace : List ℕ → Sizes → List Event → Type 0
 IsUnfinishedTrace bytes s es = (left : List ℕ) × HasNoLineFeed left × (without_trace_labels bytes ≡ trace_text s es ++ left)
+
+-- they are of no trace
+abbrev pub IsNoUnfinishedTrace : List ℕ → Type 0
+IsNoUnfinishedTrace bytes = (s : Sizes) (es : List Event) → IsLawfulTrace s es → ¬ IsUnfinishedTrace bytes s es
 
 -- however the bytes go on, line n has the fault
 abbrev pub FedTextFaultStays : List ℕ → ℕ → TraceFault → Type 0

@@ -1,5 +1,5 @@
 -- The labels of lines: what stands on a line behind two spaces in a row is the logger's own. And the lines that are passed over.
-use Rattle.std.specs.Prelude.{ℕ, Bool, true, ◌≡◌, ◌+◌, suc, ◌==◌, ◌&&◌, Some, if◌then◌else◌, List, [], ◌∷◌, drop, length, map, nat_le, slice_get, slice_index, slice_index_or, take}
+use Rattle.std.specs.Prelude.{ℕ, Bool, true, ◌≡◌, ◌<◌, ◌^◌, ◌++◌, ◌+◌, suc, ◌==◌, ◌&&◌, Some, if◌then◌else◌, List, [], ◌∷◌, drop, length, map, nat_le, slice_get, slice_index, slice_index_or, take}
 use Rattle.std.specs.Global.{Vec}
 use Rattle.std.specs.List.{join_with_byte}
 use Rattle.lrc_script.specs.LineReading.{parts_of_read_line}
@@ -32,6 +32,21 @@ abbrev pub told_trace_lines : List (List ℕ) → List (List ℕ)
 told_trace_lines [] = []
 told_trace_lines (l ∷ []) = l ∷ []
 told_trace_lines (l ∷ m ∷ ls) = if is_trace_line_passed_over l then told_trace_lines (m ∷ ls) else l ∷ told_trace_lines (m ∷ ls)
+
+-- how many of these lines are passed over, and what stands behind the last line feed never is
+abbrev pub passed_over_lines : List (List ℕ) → ℕ
+passed_over_lines [] = 0
+passed_over_lines (l ∷ []) = 0
+passed_over_lines (l ∷ m ∷ ls) = (if is_trace_line_passed_over l then 1 else 0) + passed_over_lines (m ∷ ls)
+
+-- how many lines of a text are
+abbrev pub trace_lines_passed_over : List ℕ → ℕ
+trace_lines_passed_over bytes = passed_over_lines (parts_of_read_line 10 bytes)
+
+-- so many were passed over when these bytes were to come, and so many are now that these are left, unless 64 bits don't hold them
+abbrev pub ArePassedOver : ℕ → List ℕ → ℕ → List ℕ → Type 0
+ArePassedOver was bytes now left = (more : List ℕ) → was + trace_lines_passed_over (bytes ++ more) < 2 ^ 64
+    → now + trace_lines_passed_over (left ++ more) ≡ was + trace_lines_passed_over (bytes ++ more)
 
 -- the text with each of its lines changed so, but for those that are passed over, which it doesn't have
 abbrev pub trace_label_by_lines : (List ℕ → List ℕ) → List ℕ → List ℕ

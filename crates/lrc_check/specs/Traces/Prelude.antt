@@ -9,6 +9,7 @@ pub use Rattle.lrc_check.specs.Traces.TraceLines.{TraceLineGivesKind, HasBadTrac
 pub use Rattle.lrc_check.specs.Traces.TraceFaults.{BeginsTraceText, TraceFaultSaysOfEvent, TraceFaultSaysOfHead, IsTraceFault, IsTraceFaultAt, IsTraceFaultBehind, IsTraceFaultInHead, IsTraceFaultPast}
 pub use Rattle.lrc_check.specs.Traces.TraceFaults.{TraceFaultSaysNoSizes, TraceLineHasSizes, IsTraceFaultLasting, IsTraceFaultOfNoEvent, TraceFaultSaysOfLine, TraceFaultRefuses, trace_fault_from_script}
 pub use Rattle.lrc_check.specs.Traces.Laws.{UnlabelledTraceLaw, CutRefusedLaw, OneTraceLaw, PrintedTraceLaw, WellFormedTraceLaw}
-pub use Rattle.lrc_check.specs.Traces.Labels.{AreTraceLabelsShown, is_trace_line_passed_over, without_trace_labels, line_without_trace_label, trace_event_label, trace_label_at, trace_labels_of, trace_line_label, trace_label_byte_shown}
+pub use Rattle.lrc_check.specs.Traces.Labels.{ArePassedOver, AreTraceLabelsShown, trace_lines_passed_over, is_trace_line_passed_over, without_trace_labels, line_without_trace_label, trace_event_label, trace_label_at, trace_labels_of, trace_line_label, trace_label_byte_shown}
 pub use Rattle.lrc_check.specs.Traces.LabelLines.{AreTraceLabelLines, AreTraceLabelsBehind, AreTraceLabelsLeft, trace_label_lines, trace_line_count}
-pub use Rattle.lrc_check.specs.Traces.FedText.{FedTextBeginsTrace, IsUnfinishedTrace, IsFedTextOf, IsFedTextWhole, FedTextFaultStays, FedText, HasReadFedText, fed_text_labels_with, fed_text_line_number, fed_text_with}
+pub use Rattle.lrc_check.specs.Traces.FedText.{FedTextBeginsTrace, IsUnfinishedTrace, IsNoUnfinishedTrace, IsFedTextOf, IsFedTextWhole, FedTextFaultStays, FedText, HasReadFedText, fed_text_labels_with, fed_text_line_number, fed_text_with}
+pub use Rattle.lrc_check.specs.Traces.RefusedLines.{IsFedLineRefused, IsLineRefused, IsToldLineLeft}

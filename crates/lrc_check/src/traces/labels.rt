@@ -112,6 +112,25 @@ fn show_trace_label(alloc: Global, label: &[u8]) -> Result<Vec<u8>, AllocError>
         .collect(alloc)
 }
 
+/// A walk through labels of a trace's lines, in order.
+#[derive(Drop)]
+pub(crate) struct TraceLabelWalk<'a> {
+    left: &'a [u8],
+}
+
+impl<'a> TraceLabelWalk<'a> {
+    /// The next label, without a byte if there is none.
+    pub(crate) fn next_label(&mut self) -> &'a [u8]
+        ensures label { result.now ≡ slice_index_or (parts_of_read_line 10 self.old.left.now) 0 [] }
+        ensures left { (n : ℕ) → slice_index_or (parts_of_read_line 10 self.new.left.now) n []
+            ≡ slice_index_or (parts_of_read_line 10 self.old.left.now) (n + 1) [] }
+    {
+        let label = first_of_trace_labels(self.left);
+        self.left = rest_of_trace_labels(self.left);
+        label
+    }
+}
+
 /// The labels of a trace's lines. They are kept as a text that has of each line its label, so a line without one takes one
 /// byte. Contracts see that text.
 #[derive(Drop)]
@@ -166,6 +185,18 @@ impl TraceLabels {
         ensures { result.now ≡ slice_index_or (parts_of_read_line 10 self.now) index [] }
     {
         line_of_trace_labels(&self.lines, index)
+    }
+
+    /// A walk through the labels of the events, from the first one on. The labels begin with that of the line of the sizes, if
+    /// they are `headed`.
+    pub(crate) fn walk(&self, headed: bool) -> TraceLabelWalk<'_> {
+        TraceLabelWalk {
+            left: if headed {
+                rest_of_trace_labels(&self.lines)
+            } else {
+                &self.lines
+            },
+        }
     }
 
     /// The labels of the first so many events, as they are shown among other words. It takes time in the order of the lines. The

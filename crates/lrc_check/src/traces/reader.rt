@@ -3,8 +3,8 @@ ghost use Rattle.std.specs.Prelude.{◌≡◌, ◌≢◌, ℕ, ◌+◌, ◌<◌,
 ghost use Rattle.journal.specs.declared.event.Event.{Event};
 ghost use Rattle.lrc_script.specs.Prelude.{HasNoLineFeed};
 ghost use Rattle.lrc_check.specs.declared.traces.fault.TraceFault.TheVariants.{NoMemory, Truncated};
-ghost use Rattle.lrc_check.specs.Traces.Prelude.{FedTextBeginsTrace, IsNoOtherLawfulTrace, IsNoLawfulTrace, IsFedTextOf, IsFedTextWhole, IsLawfulTrace, IsUnfinishedTrace, IsTraceBegun, IsTraceLeft, IsTraceFault};
-ghost use Rattle.lrc_check.specs.Traces.Prelude.{AreTraceLabelsBehind, AreTraceSizesKept, BeginsWithTraceBegun, FedTextFaultStays, HasReadFedText, IsTraceReadOn, without_trace_labels, fed_text_line_number, trace_event_label, trace_begun_events, trace_begun_line_count, trace_begun_line_number, trace_begun_sizes, trace_begun_text, trace_labels_of, trace_sizes_of, trace_text};
+ghost use Rattle.lrc_check.specs.Traces.Prelude.{FedTextBeginsTrace, IsNoOtherLawfulTrace, IsNoLawfulTrace, IsFedTextOf, IsFedTextWhole, IsLawfulTrace, IsUnfinishedTrace, IsNoUnfinishedTrace, IsTraceBegun, IsTraceLeft, IsTraceFault};
+ghost use Rattle.lrc_check.specs.Traces.Prelude.{ArePassedOver, AreTraceLabelsBehind, AreTraceSizesKept, IsFedLineRefused, IsLineRefused, BeginsWithTraceBegun, FedTextFaultStays, HasReadFedText, IsTraceReadOn, without_trace_labels, fed_text_line_number, trace_event_label, trace_begun_events, trace_begun_line_count, trace_begun_line_number, trace_begun_sizes, trace_begun_text, trace_labels_of, trace_sizes_of, trace_text};
 
 use crate::traces::fault::TraceFault;
 use crate::traces::labels::{TraceLabels, is_trace_line_passed_over, split_trace_label};
@@ -45,6 +45,7 @@ impl Model for Reader {
       events = trace_begun_events r.begun;
       labels = r.labels;
       unfinished = r.unfinished.items;
+      passed = r.passed;
     } };
 
     ghost invariant = { λ r. IsTraceLeft r.gone r.begun × HasNoLineFeed r.unfinished.items };
@@ -91,6 +92,9 @@ fn read_piece(
         ≡ labels.old ++ trace_labels_of (unfinished.old.items ++ (piece.now ++ more))) }
     ensures lines { OnOk result ((n : ℕ) → AreTraceLabelsBehind n (trace_begun_line_count begun.old) labels.old
         → AreTraceLabelsBehind n (trace_begun_line_count begun.new) labels.new) }
+    ensures passed { OnOk result (ArePassedOver passed.old (unfinished.old.items ++ piece.now) passed.new unfinished.new.items) }
+    ensures refused { IfErr result (λ e. e.1 ≢ NoMemory
+        → IsLineRefused gone begun.old begun.new (unfinished.old.items ++ piece.now) passed.old passed.new) }
     ensures number { IfErr result (λ e. e.0 ≡ trace_begun_line_number gone begun.new) }
     ensures fault { IfErr result (λ e. e.1 ≢ NoMemory → (front : List Event) → IsTraceBegun gone front begun.old → (more : List ℕ)
         → IsTraceFault (trace_begun_text front begun.old ++ without_trace_labels (unfinished.old.items ++ (piece.now ++ more))) e.0 e.1) }
@@ -227,6 +231,9 @@ impl Reader {
         // No beginning of a trace's text is refused, unless memory runs out.
         ensures only { IfErr result (λ e. e.1 ≢ NoMemory → (bytes : List ℕ) (front : List Event) (told : List ℕ)
             → IsFedTextOf bytes front told self.old → ¬ FedTextBeginsTrace (bytes ++ piece.now)) }
+        // So many lines before it were passed over.
+        ensures refused { IfErr result (λ e. e.1 ≢ NoMemory → (bytes : List ℕ) (front : List Event) (told : List ℕ)
+            → IsFedTextOf bytes front told self.old → IsFedLineRefused (bytes ++ piece.now) front self.new) }
         // However the bytes go on, that line has that fault.
         ensures fault { IfErr result (λ e. e.1 ≢ NoMemory → (bytes : List ℕ) (front : List Event) (told : List ℕ)
             → IsFedTextOf bytes front told self.old → FedTextFaultStays (bytes ++ piece.now) e.0 e.1) }
@@ -252,7 +259,9 @@ impl Reader {
     }
 
     /// How many lines were passed over, behind a fault before the line that has it.
-    pub fn passed(&self) -> usize {
+    pub fn passed(&self) -> usize
+        ensures { result ≡ self.now.passed }
+    {
         self.passed
     }
 
@@ -406,6 +415,7 @@ impl Reader {
         ensures found { IfOk result (λ t. (bytes : List ℕ) → IsFedTextOf bytes [] [] self
             → IsUnfinishedTrace bytes (trace_sizes_of t.trace.sizes) t.trace.events.items) }
         ensures only { IfErr result (λ _. (bytes : List ℕ) → IsFedTextOf bytes [] [] self → IsNoLawfulTrace (without_trace_labels bytes)) }
+        ensures never { IfErr result (λ _. (bytes : List ℕ) → IsFedTextOf bytes [] [] self → IsNoUnfinishedTrace bytes) }
     {
         if self.begun.is_none() {
             return self.finish();

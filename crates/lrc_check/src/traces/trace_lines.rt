@@ -3,7 +3,7 @@ ghost use Rattle.std.specs.Prelude.{◌≡◌, ◌≢◌, ℕ, ◌+◌, List, []
 ghost use Rattle.journal.specs.declared.event.Event.{Event};
 ghost use Rattle.lrc_script.specs.Prelude.{HasNoLineFeed};
 ghost use Rattle.lrc_check.specs.declared.traces.fault.TraceFault.TheVariants.{NoMemory, Truncated};
-ghost use Rattle.lrc_check.specs.Traces.Prelude.{TraceFaultSaysNoSizes, TraceLineHasSizes, AreTraceLabelsBehind, BeginsWithTraceBegun, IsTraceBegun, IsTraceFault, IsTraceFaultLasting, IsTraceLeft, IsTraceReadOn, IsNoOtherLawfulTrace};
+ghost use Rattle.lrc_check.specs.Traces.Prelude.{ArePassedOver, IsLineRefused, TraceFaultSaysNoSizes, TraceLineHasSizes, AreTraceLabelsBehind, BeginsWithTraceBegun, IsTraceBegun, IsTraceFault, IsTraceFaultLasting, IsTraceLeft, IsTraceReadOn, IsNoOtherLawfulTrace};
 ghost use Rattle.lrc_check.specs.Traces.Prelude.{IsNoLawfulTrace, IsLawfulTrace, IsTraceLineOfEvent, without_trace_labels, trace_begun_line_count, trace_begun_text, trace_labels_of, trace_begun_line_number, trace_sizes_of, trace_text};
 
 use crate::traces::fault::TraceFault;
@@ -130,6 +130,8 @@ pub fn read_trace_lines<'a>(
         → labels.new ++ trace_labels_of (rest.now ++ more) ≡ labels.old ++ trace_labels_of (bytes.now ++ more)) }
     ensures lines { OnOk result ((n : ℕ) → AreTraceLabelsBehind n (trace_begun_line_count begun.old) labels.old
         → AreTraceLabelsBehind n (trace_begun_line_count begun.new) labels.new) }
+    ensures passed { IfOk result (λ rest. ArePassedOver passed.old bytes.now passed.new rest.now) }
+    ensures refused { IfErr result (λ _. IsLineRefused gone begun.old begun.new bytes.now passed.old passed.new) }
     ensures number { IfErr result (λ e. e.0 ≡ trace_begun_line_number gone begun.new) }
     ensures fault { IfErr result (λ e. (front : List Event) → IsTraceBegun gone front begun.old → (more : List ℕ)
         → IsTraceFault (trace_begun_text front begun.old ++ without_trace_labels (bytes.now ++ more)) e.0 e.1) }

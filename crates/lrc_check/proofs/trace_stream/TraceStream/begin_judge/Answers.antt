@@ -33,11 +33,12 @@ returns-in_ok-judge-clause-begun c = λ front seen read.
     record {
       trace = read.trace;
       within = read.within;
-      judged = record {
-        known = c.in-Some.sizes;
-        sizes_are = sym c.sizes.ensures ∙ c.in-Some.is;
-        judged_sizes = ap judged_sizes_of c.in_ok-judge.ensures.sizes ∙ c.trace_history_sizes.ensures;
-        rules_are = c.in_ok-judge.ensures.rules;
-        judged = subst (λ j. IsHistoryJudgeOf j c.in_ok-judge.judge) (sym none) c.in_ok-judge.ensures.judged;
-      };
+      judged = subst (λ o. MatchOption o (front ++ take seen x.reader.events ≡ []) (IsStreamJudgeOf x.rules x.reader.sizes (front ++ take seen x.reader.events)))
+          (sym c.replace.ensures.after) record {
+            known = c.in-Some.sizes;
+            sizes_are = sym c.sizes.ensures ∙ c.in-Some.is;
+            judged_sizes = ap judged_sizes_of c.in_ok-judge.ensures.sizes ∙ c.trace_history_sizes.ensures;
+            rules_are = c.in_ok-judge.ensures.rules;
+            judged = subst (λ j. IsHistoryJudgeOf j c.in_ok-judge.judge) (sym none) c.in_ok-judge.ensures.judged;
+          };
     }

@@ -6,6 +6,7 @@ use Rattle.lrc_check.specs.declared.checked.Rules.{Rules}
 use Rattle.lrc_check.specs.declared.trace_stream.TraceStream.{TraceStream}
 use Rattle.lrc_check.specs.Traces.Begun.{AreTraceSizesKept}
 use Rattle.lrc_check.specs.Traces.FedText.{FedText, HasReadFedText, IsFedTextOf}
+use Rattle.lrc_check.specs.Traces.RefusedLines.{IsFedLineRefused}
 use Rattle.lrc_check.specs.TraceStreams.{HasStreamReadOn, IsStreamEnd, IsStreamJudge, IsTraceStreamOf}
 use Rattle.lrc_check.proofs.StreamedTraces.{stream_end, stream_end_at_hand, stream_read_on}
 use Rattle.lrc_check.proofs.trace_stream.TraceStream.feed.Goals as goal
@@ -98,3 +99,12 @@ returns-in_err-fed-clause-refused c =
     if_err c.from_residual-in_err-fed.result _ _ (λ fault given found bytes was.
     (let stream = c.in_ok-make_room.ensures.stream bytes was in
     c.in_err-fed.ensures.only (given found) bytes stream.0 stream.1 stream.2.read)) c.from_residual-in_err-fed.ensures.1
+
+pub returns-in_err-fed-clause-line : goal.returns-in_err-fed-clause-line
+returns-in_err-fed-clause-line c =
+    if_err c.from_residual-in_err-fed.result _ _ (λ fault given found bytes was.
+    (let stream = c.in_ok-make_room.ensures.stream bytes was in (
+      stream.0,
+      subst (IsFedLineRefused (bytes ++ c.args.piece.now) stream.0) (sym c.judge_behind.ensures.reader)
+          (c.in_err-fed.ensures.refused (given found) bytes stream.0 stream.1 stream.2.read),
+    ))) c.from_residual-in_err-fed.ensures.1

@@ -1,5 +1,5 @@
-use Rattle.std.proofs.Common.{◌≡◌, ◌∙◌, ℕ, ◌++◌, List, Option, Some, subst, sym, ap}
-use Rattle.std.specs.Prelude.{Result, Ok, Err, IfOk}
+use Rattle.std.proofs.Common.{◌≡◌, ◌∙◌, ℕ, ◌++◌, List, Option, Some, None, subst, sym, ap}
+use Rattle.std.specs.Prelude.{Result, Ok, Err, IfErr, IfOk}
 use Rattle.journal.specs.declared.event.Event.{Event}
 use Rattle.lrc_check.specs.declared.history_judge.HistoryJudge.{HistoryJudge}
 use Rattle.lrc_check.specs.declared.trace_stream.TraceStream.{TraceStream}
@@ -9,6 +9,7 @@ use Rattle.lrc_check.specs.declared.checked.Checked.{Checked}
 use Rattle.lrc_check.specs.declared.checked.Rules.{Rules}
 use Rattle.lrc_script.specs.ScriptFaults.{HasNoLineFeed}
 use Rattle.lrc_check.proofs.StreamedTraces.{stream_found_at_hand, stream_found_finished, stream_found_unfinished}
+use Rattle.lrc_check.proofs.traces.Unfinished.{unfinished_unread}
 use Rattle.lrc_check.proofs.trace_stream.TraceStream.finish_unfinished.Goals as goal
 
 -- what is known of the judge, which is this or none
@@ -50,3 +51,14 @@ returns-in-Some-clause-at_hand c =
       stream_found_at_hand x c.in-Some.judge c.finish-in-Some.result c.in-Some.is c.finish-in-Some.ensures.race judge stream.2.read.trace
           (c.finish-in-Some.ensures.says (stream.0 ++ x.reader.events) judge.judged).0,
     )
+
+-- of any error
+if_err_any : {A E : Type 0} (r : Result A E) (Q : Type 0) → Q → IfErr r (λ _. Q)
+if_err_any (Ok a) Q q = tt
+if_err_any (Err e) Q q = q
+
+pub returns-in-None-clause-never : goal.returns-in-None-clause-never
+returns-in-None-clause-never c = if_err_any c.finish.result _ (λ bytes stream.
+    let x = c.args.self.now in
+    let judge = judge_is x None bytes stream.0 stream.1 stream.2 c.in-None.is in
+    unfinished_unread x.reader bytes stream.0 stream.1 judge.0 (subst HasNoLineFeed c.unfinished-line.ensures.bytes c.unfinished-line.ensures.line) stream.2.read)

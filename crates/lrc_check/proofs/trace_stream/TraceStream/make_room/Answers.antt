@@ -9,11 +9,20 @@ kept_besides : (x y : TraceStream) (bytes : List ℕ) → y ≡ record x { kept 
 kept_besides x y bytes is stream =
     subst (IsTraceStream bytes) (sym is) (stream.0, stream.1, record { read = stream.2.read; judged = stream.2.judged })
 
-pub returns-in_ok-keep_race-clause-stream : goal.returns-in_ok-keep_race-clause-stream
-returns-in_ok-keep_race-clause-stream c = λ bytes was.
-    let x = c.keep_race.new.self in
+-- nor do the labels that are kept
+earlier_besides : (x y : TraceStream) (bytes : List ℕ) → y ≡ record x { earlier = y.earlier } → IsTraceStream bytes x → IsTraceStream bytes y
+earlier_besides x y bytes is stream =
+    subst (IsTraceStream bytes) (sym is) (stream.0, stream.1, record { read = stream.2.read; judged = stream.2.judged })
+
+pub keep_labelled-requires : goal.keep_labelled-requires
+keep_labelled-requires c = (c.requires.0, kept_besides c.args.self.now c.keep_race.new.self c.requires.0 c.keep_race.ensures c.requires.1)
+
+pub returns-in_ok-keep_labelled-clause-stream : goal.returns-in_ok-keep_labelled-clause-stream
+returns-in_ok-keep_labelled-clause-stream c = λ bytes was.
+    let x = c.keep_labelled.new.self in
     let y = c.let_go.new.self in
-    let stream = kept_besides c.args.self.now x bytes c.keep_race.ensures was in
+    let raced = kept_besides c.args.self.now c.keep_race.new.self bytes c.keep_race.ensures was in
+    let stream = earlier_besides c.keep_race.new.self x bytes c.keep_labelled.ensures raced in
     let front = stream.0 in
     let told = stream.1 in
     let none = c.let_go.ensures.events in

@@ -1,7 +1,9 @@
-use Rattle.std.proofs.Common.{ap, sym, ◌∙◌, ◌++◌, List, ℕ}
+use Rattle.std.proofs.Common.{ap, sym, subst, ◌∙◌, ◌++◌, ◌∷◌, [], List, ℕ}
 use Rattle.std.proofs.lemmas.Result.{err_from_is_err_and, on_ok_weaker}
 use Rattle.lrc_check.specs.Traces.Begun.{trace_begun_text}
-use Rattle.lrc_check.specs.Traces.Labels.{without_trace_labels, line_without_trace_label, trace_labels_of, trace_line_label}
+use Rattle.lrc_check.specs.Traces.RefusedLines.{IsLineRefused}
+use Rattle.lrc_check.specs.Traces.Labels.{ArePassedOver, without_trace_labels, line_without_trace_label, trace_labels_of, trace_line_label}
+use Rattle.lrc_check.proofs.traces.PassedOver.{line_refused_behind, line_refused_further, passed_over_further, passed_over_piece}
 use Rattle.lrc_check.proofs.traces.Feeding.{feeding_fault_same, feeding_line_read, feeding_piece_bytes}
 use Rattle.lrc_check.proofs.traces.ReadingOn.{reading_on_begins_same}
 use Rattle.lrc_check.proofs.traces.TraceWalk.{trace_walk_nothing_behind}
@@ -105,4 +107,58 @@ returns-clause-labels c =
     ∙ c.in_ok-rest.ensures.labels more
     ∙ feeding_line_read trace_line_label c.args.labels.now c.read_trace_lines.new.labels c.in_ok-read_trace_lines.field-0.now kept
     end c.in-Some.behind.now c.args.piece.now none c.in-Some.ensures labels more)
+    c.keep-4.ensures.kept
+
+pub returns-in_err-read_trace_lines-clause-refused : goal.returns-in_err-read_trace_lines-clause-refused
+returns-in_err-read_trace_lines-clause-refused c =
+    let p = err_from_is_err_and c.from_residual-in_err-read_trace_lines.result c.from_residual-in_err-read_trace_lines.ensures.1 in
+    let refused = rw (c.deref.ensures.value, c.in_ok-keep-2.ensures.kept, c.in_ok-keep.ensures.kept)
+    at c.in_err-read_trace_lines.ensures.refused in
+    let kept = c.args.unfinished.now.items in
+    let end = c.in-Some.end.now in
+    let behind = c.in-Some.behind.now in
+    rw (p.1, p.2) (λ ne.
+    subst (λ (x : List ℕ). IsLineRefused c.args.gone c.args.begun.now c.read_trace_lines.new.begun x c.args.passed.now c.read_trace_lines.new.passed)
+    (passed_over_piece kept end behind c.args.piece.now c.in-Some.ensures)
+    (line_refused_behind c.args.gone c.args.begun.now c.read_trace_lines.new.begun ((kept ++ end) ++ 10 ∷ []) behind c.args.passed.now
+    c.read_trace_lines.new.passed refused))
+
+pub returns-in_err-rest-clause-refused : goal.returns-in_err-rest-clause-refused
+returns-in_err-rest-clause-refused c =
+    let p = err_from_is_err_and c.from_residual-in_err-rest.result c.from_residual-in_err-rest.ensures.1 in
+    let text = rw (c.deref.ensures.value, c.in_ok-keep-2.ensures.kept, c.in_ok-keep.ensures.kept)
+    at c.in_ok-read_trace_lines.ensures.text in
+    let before = rw (c.deref.ensures.value, c.in_ok-keep-2.ensures.kept, c.in_ok-keep.ensures.kept)
+    at c.in_ok-read_trace_lines.ensures.behind in
+    let over = rw (c.deref.ensures.value, c.in_ok-keep-2.ensures.kept, c.in_ok-keep.ensures.kept)
+    at c.in_ok-read_trace_lines.ensures.passed in
+    let kept = c.args.unfinished.now.items in
+    let end = c.in-Some.end.now in
+    let behind = c.in-Some.behind.now in
+    let none = trace_walk_nothing_behind before.0 (kept ++ end) c.in_ok-read_trace_lines.field-0.now c.in_ok-read_trace_lines.ensures.rest (sym before.1) in
+    rw (p.1, p.2) (λ ne.
+    subst (λ (x : List ℕ). IsLineRefused c.args.gone c.args.begun.now c.read_trace_lines-2.new.begun x c.args.passed.now c.read_trace_lines-2.new.passed)
+    (passed_over_piece kept end behind c.args.piece.now c.in-Some.ensures)
+    (line_refused_further c.args.gone c.args.begun.now c.read_trace_lines.new.begun c.read_trace_lines-2.new.begun ((kept ++ end) ++ 10 ∷ [])
+    c.in_ok-read_trace_lines.field-0.now behind c.args.passed.now c.read_trace_lines.new.passed c.read_trace_lines-2.new.passed none
+    c.read_trace_lines.ensures.on.begun text over c.in_err-rest.ensures.refused))
+
+pub returns-clause-passed : goal.returns-clause-passed
+returns-clause-passed c =
+    let before = rw (c.deref.ensures.value, c.in_ok-keep-2.ensures.kept, c.in_ok-keep.ensures.kept)
+    at c.in_ok-read_trace_lines.ensures.behind in
+    let over = rw (c.deref.ensures.value, c.in_ok-keep-2.ensures.kept, c.in_ok-keep.ensures.kept)
+    at c.in_ok-read_trace_lines.ensures.passed in
+    let kept = c.args.unfinished.now.items in
+    let end = c.in-Some.end.now in
+    let behind = c.in-Some.behind.now in
+    let none = trace_walk_nothing_behind before.0 (kept ++ end) c.in_ok-read_trace_lines.field-0.now c.in_ok-read_trace_lines.ensures.rest (sym before.1) in
+    on_ok_weaker c.keep-4.result (λ now.
+    subst (λ (x : List ℕ). ArePassedOver c.args.passed.now x c.read_trace_lines-2.new.passed c.keep-4.new.unfinished.items)
+    (passed_over_piece kept end behind c.args.piece.now c.in-Some.ensures)
+    (subst (λ (x : List ℕ). ArePassedOver c.args.passed.now (((kept ++ end) ++ 10 ∷ []) ++ behind) c.read_trace_lines-2.new.passed x)
+    (sym (now ∙ ap (λ (x : List ℕ). x ++ c.in_ok-rest.rest.now) c.clear.ensures.items))
+    (passed_over_further c.args.passed.now c.read_trace_lines.new.passed c.read_trace_lines-2.new.passed ((kept ++ end) ++ 10 ∷ []) [] behind
+    c.in_ok-rest.rest.now (subst (ArePassedOver c.args.passed.now ((kept ++ end) ++ 10 ∷ []) c.read_trace_lines.new.passed) none over)
+    c.in_ok-rest.ensures.passed)))
     c.keep-4.ensures.kept

@@ -10,6 +10,7 @@ use Rattle.lrc_check.proofs.traces.LabelLines.{label_lines_clean, label_lines_pu
 use Rattle.lrc_check.proofs.traces.Labelling.{labelling_dropped_clean}
 use Rattle.lrc_check.proofs.traces.ReadingOn.{reading_on_begins, reading_on_further}
 use Rattle.lrc_check.proofs.traces.TraceWalk.{trace_walk_line_among}
+use Rattle.lrc_check.proofs.traces.PassedOver.{passed_over_one, passed_over_told}
 use Rattle.lrc_check.proofs.traces.Feeding.{feeding_line_fault, feeding_line_kept, feeding_line_passed, feeding_refused_label}
 use Rattle.lrc_check.proofs.traces.trace_lines.read_trace_lines.Goals as goal
 
@@ -73,6 +74,8 @@ loop-line-preserved-then-is_trace_line_passed_over c =
           (c.loop-line.invariant.text front h);
       lines = c.loop-line.invariant.lines;
       labels = feeding_line_passed trace_line_label c.loop-line.labels rest line after _ c.in-Some.ensures passed c.loop-line.invariant.labels;
+      passed = passed_over_one c.args.passed.now c.loop-line.passed _ c.args.bytes.now rest line after c.in-Some.ensures passed c.saturating_add.ensures
+          c.loop-line.invariant.passed;
     }
 
 pub loop-line-preserved : goal.loop-line-preserved
@@ -97,4 +100,37 @@ loop-line-preserved c =
       labels =
           feeding_line_kept trace_line_label c.loop-line.labels c.keep_trace_line_label.new.labels rest line after _ c.in-Some.ensures told kept
           c.loop-line.invariant.labels;
+      passed = passed_over_told c.args.passed.now c.loop-line.passed c.args.bytes.now rest line after c.in-Some.ensures told c.loop-line.invariant.passed;
+    }
+
+pub returns-in_err-keep_trace_line_label-clause-refused : goal.returns-in_err-keep_trace_line_label-clause-refused
+returns-in_err-keep_trace_line_label-clause-refused c =
+    let p = err_from_is_err_and c.from_residual.result c.from_residual.ensures.1 in
+    rw p.1 record {
+      left = c.loop-line.rest.now;
+      line = record {
+        line = c.in-Some.line.now;
+        after = c.in-Some.after.now;
+        cut = c.in-Some.ensures;
+        told = sym c.if-is_trace_line_passed_over.ensures;
+      };
+      text = c.loop-line.invariant.text;
+      over = c.loop-line.invariant.passed;
+    }
+
+pub returns-in_err-read_trace_line-clause-refused : goal.returns-in_err-read_trace_line-clause-refused
+returns-in_err-read_trace_line-clause-refused c =
+    let p = err_from_is_err_and c.from_residual-in_err-read_trace_line.result c.from_residual-in_err-read_trace_line.ensures.1 in
+    rw p.1 record {
+      left = c.loop-line.rest.now;
+      line = record {
+        line = c.in-Some.line.now;
+        after = c.in-Some.after.now;
+        cut = c.in-Some.ensures;
+        told = sym c.if-is_trace_line_passed_over.ensures;
+      };
+      text = λ front h more.
+          ap (λ (x : List ℕ). x ++ without_trace_labels (c.loop-line.rest.now ++ more)) (c.in_err-read_trace_line.ensures.unread front)
+          ∙ c.loop-line.invariant.text front h more;
+      over = c.loop-line.invariant.passed;
     }

@@ -2,7 +2,7 @@ use Rattle.std.proofs.Common.{◌≡◌, ℕ, List, ◌++◌, length}
 use Rattle.journal.specs.declared.event.Event.{Event}
 use Rattle.lrc_check.specs.Traces.Begun.{IsTraceBegun, IsTraceReadOn, trace_begun_line_count, trace_begun_text}
 use Rattle.lrc_check.specs.Traces.LabelLines.{AreTraceLabelsBehind}
-use Rattle.lrc_check.specs.Traces.Labels.{without_trace_labels, trace_labels_of}
+use Rattle.lrc_check.specs.Traces.Labels.{ArePassedOver, without_trace_labels, trace_labels_of}
 use Rattle.lrc_check.proofs.traces.trace_lines.read_trace_lines.Given as goal
 
 -- the lines so far and their labels, and what is left of the bytes
@@ -16,6 +16,7 @@ invariant-loop-line l = record {
   lines : (n : ℕ) → AreTraceLabelsBehind n (trace_begun_line_count l.fn.begun) l.fn.labels
       → AreTraceLabelsBehind n (trace_begun_line_count l.begun) l.labels;
   labels : (more : List ℕ) → l.labels ++ trace_labels_of (l.rest ++ more) ≡ l.fn.labels ++ trace_labels_of (l.fn.bytes ++ more);
+  passed : ArePassedOver l.fn.passed l.fn.bytes l.passed l.rest;
 }
 
 abbrev pub decreases-loop-line : goal.decreases-loop-line

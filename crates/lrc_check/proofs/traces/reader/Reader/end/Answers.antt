@@ -39,5 +39,5 @@ returns-clause-whole c = λ bytes front told h.
     let left = rw c.deref.ensures.value at c.split_trace_label.ensures.bare in
     let none = labelling_dropped_none c.self.inside.unfinished.items (sym left ∙ c.in_ok-end_trace_lines.ensures.whole) in
     subst (IsFedTextWhole bytes front told) c.self.view_is
-    (feeding_whole c.self.inside.gone c.self.inside.headed c.self.inside.begun c.self.inside.labels c.self.inside.unfinished.items bytes front told
+    (feeding_whole c.self.inside.gone c.self.inside.headed c.self.inside.begun c.self.inside.labels c.self.inside.unfinished.items c.self.inside.passed bytes front told
     c.in_ok-end_trace_lines.ensures.some none (subst (IsFedTextOf bytes front told) (sym c.self.view_is) h))

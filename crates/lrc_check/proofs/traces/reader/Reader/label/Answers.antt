@@ -16,6 +16,6 @@ returns c = λ bytes front told h.
     ] in
     subst (λ (y : FedText). c.at.result.now ≡ trace_event_label (trace_labels_of bytes) (y.gone + c.args.index)) c.self.view_is
     (c.at.ensures ∙ ap (λ n. slice_index_or (parts_of_read_line 10 x.labels) n []) line
-    ∙ feeding_label x.gone x.headed x.begun x.labels x.unfinished.items bytes front told c.args.index
+    ∙ feeding_label x.gone x.headed x.begun x.labels x.unfinished.items x.passed bytes front told c.args.index
     (subst (λ (y : FedText). c.args.index < length y.events) (sym c.self.view_is) c.requires)
     (subst (IsFedTextOf bytes front told) (sym c.self.view_is) h))

@@ -1,0 +1,347 @@
+//! The accesses that have a label and may still be told, though they aren't at hand any more.
+
+use crate::told_events::KnownEvent;
+use crate::traces::reader::Reader;
+use indexmap::IndexMap;
+use journal::{Event, Kind};
+use judge::locksets::{PairedAccess, Unprotected};
+use std::alloc::{AllocError, Global};
+
+/// Of how many words without a lock at most accesses are told that aren't at hand any more: each of those is looked for among all.
+const MOST_TOLD: usize = 256;
+
+/// A word, as one processor accesses it.
+#[derive(Clone, Copy, PartialEq, Eq, Hash)]
+struct AccessedWord {
+    address: usize,
+    processor: usize,
+}
+
+/// An access with its label.
+#[derive(Drop)]
+struct LabelledAccess {
+    stores: bool,
+    /// The locks that its processor held, rising; none if they aren't kept.
+    locks: Vec<usize>,
+    place: usize,
+    value: u32,
+    label: Vec<u8>,
+}
+
+/// The accesses that have a label, those that a finder may still tell: of each word, processor, kind and set of locks held the
+/// last one, which `NearestRaces` and `LocksetFinder` keep, too; and those of words without a lock that were found.
+///
+/// It takes memory for these accesses and their labels, however long the trace is, and none if no access has a label.
+#[derive(Drop)]
+pub(crate) struct LabelledAccesses {
+    /// Whether it is kept which locks are held.
+    by_locks: bool,
+    /// Of each processor the locks that it holds, rising.
+    held: Vec<Vec<usize>>,
+    last: IndexMap<AccessedWord, Vec<LabelledAccess>>,
+    /// By place the accesses of words without a lock.
+    found: IndexMap<usize, KnownEvent>,
+    /// The places of those that are still at hand.
+    wanted: IndexMap<usize, ()>,
+}
+
+impl LabelledAccess {
+    /// The event that it is.
+    fn event(&self, word: AccessedWord) -> Event {
+        let AccessedWord { address, processor } = word;
+        let kind = if self.stores {
+            Kind::Store(address, self.value)
+        } else {
+            Kind::Load(address, self.value)
+        };
+        Event { processor, kind }
+    }
+
+    /// The same as it is told. The only error is running out of memory.
+    fn known(&self, alloc: Global, word: AccessedWord) -> Result<KnownEvent, AllocError> {
+        KnownEvent::of(alloc, self.place, self.event(word), &self.label)
+    }
+
+    /// Whether it is an access of this kind with these locks held.
+    fn is_of(&self, stores: bool, locks: &[usize]) -> bool {
+        self.stores == stores && self.locks.as_slice() == locks
+    }
+
+    /// Takes the place of an access of its sort that comes later. The only error is running out of memory.
+    fn update(&mut self, place: usize, value: u32, label: &[u8]) -> Result<(), AllocError> {
+        self.label.clear();
+        self.label.extend_from_slice(label)?;
+        self.place = place;
+        self.value = value;
+        Ok(())
+    }
+}
+
+/// The word that the event accesses, whether it is stored to, and its value; None if it accesses none.
+fn labelled_access_of(event: Event) -> Option<(AccessedWord, bool, u32)> {
+    let processor = event.processor;
+    match event.kind {
+        Kind::Load(address, value) => Some((AccessedWord { address, processor }, false, value)),
+        Kind::Store(address, value) => Some((AccessedWord { address, processor }, true, value)),
+        _ => None,
+    }
+}
+
+/// The accesses of a word without a lock that are told: two that hold none in common, and two that do, if there are such.
+fn accesses_of_unprotected(word: &Unprotected) -> [Option<PairedAccess>; 4] {
+    let (one, other) = word.unguarded;
+    let (third, fourth) = match word.guarded {
+        Some(guarded) => (Some(guarded.accesses.0), Some(guarded.accesses.1)),
+        None => (None, None),
+    };
+    [Some(one), Some(other), third, fourth]
+}
+
+/// Takes note of the lock that the event acquires or releases.
+fn note_labelled_locks(locks: &mut Vec<usize>, kind: Kind) -> Result<(), AllocError> {
+    match kind {
+        Kind::Acquire(lock) if !locks.contains(&lock) => {
+            let place = locks.partition_point(|held| *held < lock);
+            locks.insert(place, lock)?;
+        }
+        Kind::Release(lock) => locks.retain(|held| *held != lock),
+        _ => {}
+    }
+    Ok(())
+}
+
+/// The locks that the processor holds, as far as it is kept.
+fn labelled_locks_of(held: &[Vec<usize>], processor: usize) -> &[usize] {
+    match held.get(processor) {
+        Some(locks) => locks,
+        None => &[],
+    }
+}
+
+/// Keeps an access in the place of the last one of its sort, if there is one. The only error is running out of memory.
+fn keep_labelled_access(
+    alloc: Global,
+    accesses: &mut Vec<LabelledAccess>,
+    stores: bool,
+    locks: &[usize],
+    place: usize,
+    value: u32,
+    label: &[u8],
+) -> Result<(), AllocError> {
+    for access in accesses.iter_mut() {
+        if access.is_of(stores, locks) {
+            return access.update(place, value, label);
+        }
+    }
+    let mut access = LabelledAccess {
+        stores,
+        locks: Vec::new(alloc),
+        place,
+        value,
+        label: Vec::new(alloc),
+    };
+    access.locks.extend_from_slice(locks)?;
+    access.label.extend_from_slice(label)?;
+    accesses.push(access)?;
+    Ok(())
+}
+
+impl LabelledAccesses {
+    /// Before the first event. If words without a lock are looked for, it is kept which locks are held.
+    pub(crate) fn new(alloc: Global, by_locks: bool) -> LabelledAccesses {
+        LabelledAccesses {
+            by_locks,
+            held: Vec::new(alloc),
+            last: IndexMap::new(alloc),
+            found: IndexMap::new(alloc),
+            wanted: IndexMap::new(alloc),
+        }
+    }
+
+    /// Takes note of the locks that the event's processor holds behind it. The only error is running out of memory.
+    fn note_locks(&mut self, alloc: Global, event: Event) -> Result<(), AllocError> {
+        if !self.by_locks {
+            return Ok(());
+        }
+        for _ in self.held.len()..event.processor.saturating_add(1) {
+            self.held.push(Vec::new(alloc))?;
+        }
+        match self.held.get_mut(event.processor) {
+            Some(locks) => note_labelled_locks(locks, event.kind),
+            None => Ok(()),
+        }
+    }
+
+    /// Keeps the event, if it is an access. The only error is running out of memory.
+    fn keep(
+        &mut self,
+        alloc: Global,
+        place: usize,
+        event: Event,
+        label: &[u8],
+    ) -> Result<(), AllocError> {
+        let Some((word, stores, value)) = labelled_access_of(event) else {
+            return Ok(());
+        };
+        let locks = labelled_locks_of(&self.held, event.processor);
+        if let Some(accesses) = self.last.get_mut(&word) {
+            return keep_labelled_access(alloc, accesses, stores, locks, place, value, label);
+        }
+        let mut accesses = Vec::new(alloc);
+        keep_labelled_access(alloc, &mut accesses, stores, locks, place, value, label)?;
+        self.last.insert(word, accesses)?;
+        Ok(())
+    }
+
+    /// Keeps the event, if it is an access of a word without a lock. The only error is running out of memory.
+    fn keep_wanted(
+        &mut self,
+        alloc: Global,
+        place: usize,
+        event: Event,
+        label: &[u8],
+    ) -> Result<(), AllocError> {
+        if !self.wanted.contains_key(&place) {
+            return Ok(());
+        }
+        let known = KnownEvent::of(alloc, place, event, label)?;
+        self.found.insert(place, known)?;
+        Ok(())
+    }
+
+    /// Takes note of the events at hand, which are to be let go of. The only error is running out of memory.
+    pub(crate) fn note(&mut self, alloc: Global, reader: &Reader) -> Result<(), AllocError> {
+        let mut labels = reader.labels().walk(reader.is_headed());
+        for (index, event) in reader.events().iter().enumerate() {
+            let label = labels.next_label();
+            let place = reader.gone().saturating_add(index);
+            if !label.is_empty() {
+                self.keep_wanted(alloc, place, *event, label)?;
+                self.keep(alloc, place, *event, label)?;
+            }
+            self.note_locks(alloc, *event)?;
+        }
+        self.wanted.clear();
+        Ok(())
+    }
+
+    /// The processor's last access of a sort of this word, if it stands at this place. The only error is running out of memory.
+    fn last_at(
+        &self,
+        alloc: Global,
+        word: AccessedWord,
+        place: usize,
+    ) -> Result<Option<KnownEvent>, AllocError> {
+        if let Some(accesses) = self.last.get(&word) {
+            for access in accesses {
+                if access.place == place {
+                    return Ok(Some(access.known(alloc, word)?));
+                }
+            }
+        }
+        Ok(None)
+    }
+
+    /// The access of this word at this place by one of so many processors, if it is kept. The only error is running out of memory.
+    pub(crate) fn at(
+        &self,
+        alloc: Global,
+        processors: usize,
+        address: usize,
+        place: usize,
+    ) -> Result<Option<KnownEvent>, AllocError> {
+        for processor in 0..processors {
+            let known = self.last_at(alloc, AccessedWord { address, processor }, place)?;
+            if known.is_some() {
+                return Ok(known);
+            }
+        }
+        Ok(None)
+    }
+
+    /// Keeps an access of a word without a lock from now on; `gone` events aren't at hand any more. The only error is running out
+    /// of memory.
+    fn keep_paired(
+        &mut self,
+        alloc: Global,
+        gone: usize,
+        address: usize,
+        access: PairedAccess,
+    ) -> Result<(), AllocError> {
+        let PairedAccess { place, processor } = access;
+        if self.found.contains_key(&place) {
+            return Ok(());
+        }
+        if place >= gone {
+            self.wanted.insert(place, ())?;
+            return Ok(());
+        }
+        if let Some(known) = self.last_at(alloc, AccessedWord { address, processor }, place)? {
+            self.found.insert(place, known)?;
+        }
+        Ok(())
+    }
+
+    /// Keeps the accesses of these words without a lock from now on, those that have a label, before the events at hand are noted.
+    /// `gone` events aren't at hand any more. The only error is running out of memory.
+    pub(crate) fn keep_found(
+        &mut self,
+        alloc: Global,
+        gone: usize,
+        words: &[Unprotected],
+    ) -> Result<(), AllocError> {
+        for word in words {
+            for access in accesses_of_unprotected(word) {
+                if let Some(access) = access {
+                    self.keep_paired(alloc, gone, word.address, access)?;
+                }
+            }
+        }
+        Ok(())
+    }
+
+    /// Adds what is kept of the accesses of a word without a lock that aren't at hand any more. The only error is running out of
+    /// memory.
+    fn tell_word(
+        &self,
+        alloc: Global,
+        gone: usize,
+        word: &Unprotected,
+        told: &mut Vec<KnownEvent>,
+    ) -> Result<(), AllocError> {
+        for access in accesses_of_unprotected(word) {
+            let Some(PairedAccess { place, processor }) = access else {
+                continue;
+            };
+            if place >= gone {
+                continue;
+            }
+            let address = word.address;
+            if let Some(known) = self.found.get(&place) {
+                told.push(KnownEvent::of(alloc, place, known.event, &known.label)?)?;
+            } else if let Some(known) = self.last_at(
+                alloc,
+                AccessedWord { address, processor },
+                place,
+            )? {
+                told.push(known)?;
+            }
+        }
+        Ok(())
+    }
+
+    /// Adds what is kept of the accesses of these words without a lock that aren't at hand any more, of `MOST_TOLD` words at most.
+    /// The only error is running out of memory.
+    pub(crate) fn tell(
+        &self,
+        alloc: Global,
+        gone: usize,
+        words: &[Unprotected],
+        told: &mut Vec<KnownEvent>,
+    ) -> Result<(), AllocError> {
+        for word in words.iter().take(MOST_TOLD) {
+            self.tell_word(alloc, gone, word, told)?;
+        }
+        Ok(())
+    }
+}
