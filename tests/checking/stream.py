@@ -12,10 +12,14 @@ them, and so is the first one of a race; others are told by number and processor
 `explain --trace` refuses a trace of more events than it has at hand.
 The last line is `N passed, M failed`.
 """
+import array
+import fcntl
 import re
 import resource
 import subprocess
 import sys
+import termios
+import time
 from pathlib import Path
 
 PROGRAM = sys.argv[1] if len(sys.argv) > 1 else str(Path(__file__).resolve().parents[2] / "crates/lrc/out/lrc")
@@ -50,17 +54,31 @@ def while_open(text, *words):
     return status, said.decode(), wrong.decode()
 
 
-def judged(text, *words, pieces=None):
-    """What the program says of the text, which comes in pieces of so many bytes, and how it ends."""
-    run = subprocess.Popen([PROGRAM, "check", *words], stdin=subprocess.PIPE, stdout=subprocess.PIPE, stderr=subprocess.PIPE)
+def wait_until_read(run):
+    """Waits until the program has read what was written, or has ended."""
+    left = array.array("i", [1])
+    while left[0] and run.poll() is None:
+        fcntl.ioctl(run.stdin, termios.FIONREAD, left)
+        time.sleep(0.0001)
+
+
+def judged(*pieces):
+    """What the program says of the text that comes in these pieces, each behind the other, and how it ends."""
+    run = subprocess.Popen([PROGRAM, "check"], stdin=subprocess.PIPE, stdout=subprocess.PIPE, stderr=subprocess.PIPE)
     try:
-        for begin in range(0, len(text), pieces or len(text)):
-            run.stdin.write(text[begin : begin + (pieces or len(text))])
+        for piece in pieces:
+            run.stdin.write(piece)
             run.stdin.flush()
+            wait_until_read(run)
     except BrokenPipeError:
         pass
     said, wrong = run.communicate()
     return run.returncode, said.decode(), wrong.decode()
+
+
+def cut(text, size):
+    """The text in pieces of so many bytes; in one where that is None."""
+    return [text[at : at + (size or len(text))] for at in range(0, len(text), size or len(text))]
 
 
 LIE = b"cluster 2 1 1 0\nevent 0 0 store 0 5\nevent 1 0 load 0 6  here\n"
@@ -81,14 +99,17 @@ HINT = """lrc: line 4: line not understood
 """
 count("a bad line is told while the pipe is open", (status, wrong) == (2, HINT), status, said, wrong)
 for size in (1, 7, 40, None):
-    status, said, _ = judged(LIE + BAD, pieces=size)
+    status, said, _ = judged(*cut(LIE + BAD, size))
     count(f"the lie comes before the bad line, in pieces of {size}", (status, said) == (6, LIE_TOLD), status, said)
-    status, said, wrong = judged(RACE + BAD + LIE, pieces=size)
+    status, said, wrong = judged(*cut(RACE + BAD + LIE, size))
     count(f"the bad line comes before the lie, in pieces of {size}", (status, said) == (2, ""), status, said, wrong)
     count(f"the bad line is shown, in pieces of {size}", wrong == HINT, wrong)
     commented = b"# one\n\n" + RACE + b"\n# two\n\n" + BAD + LIE
-    status, said, wrong = judged(commented, pieces=size)
+    status, said, wrong = judged(*cut(commented, size))
     count(f"lines that are passed over are counted, in pieces of {size}", wrong == HINT.replace(" 4:", " 9:").replace(":4:", ":9:"), wrong)
+whole = judged(RACE)
+broken = [at for at in range(len(RACE)) if judged(RACE[:at], RACE[at:]) != whole]
+count("a trace is the same, wherever it is cut", whole[0] == 0 and not broken, whole, broken)
 STORING = (("--model", "happens-before"), ("--model", "lazy-release"), ("--model", "lazy-release", "--lax"))
 for words in STORING:
     status, said, wrong = while_open(LIE, *words)

@@ -1,7 +1,8 @@
 /* Loaded before the C library (LD_PRELOAD): tells at the end of a process how many threads it started, how many bytes it
-   asked for, and how much of the processor's time its threads took.
+   asked for, how much of the processor's time its threads took, and by how many writes its standard output came.
 
-   WATCH_REPORT     the file that is written when the process ends by itself, as one line: THREADS BYTES TIME MOST
+   WATCH_REPORT     the file that is written when the process ends by itself, as one line: THREADS BYTES TIME MOST WRITES
+   WATCH_TAKES      how many bytes standard output takes of each write, at most; any number where it isn't set
 
    A thread is a call of pthread_create. Bytes are those of each call of malloc, calloc, realloc, aligned_alloc,
    memalign or posix_memalign, of any thread, whether they were given back or not. TIME is what all those threads took
@@ -24,7 +25,7 @@ extern void *__libc_realloc(void *block, size_t size);
 extern void *__libc_memalign(size_t alignment, size_t size);
 extern void __libc_free(void *block);
 
-static atomic_ulong threads, bytes, time_of_all, time_of_busiest;
+static atomic_ulong threads, bytes, time_of_all, time_of_busiest, writes;
 static atomic_int ended;
 
 /* Writes the report; where the process is already on its way out, not again. */
@@ -35,8 +36,8 @@ __attribute__((destructor)) static void end(void) {
     if (!report || atomic_exchange(&ended, 1))
         return;
     at = open(report, O_WRONLY | O_CREAT | O_TRUNC, 0600);
-    count = snprintf(line, sizeof line, "%lu %lu %lu %lu\n", atomic_load(&threads), atomic_load(&bytes),
-                     atomic_load(&time_of_all), atomic_load(&time_of_busiest));
+    count = snprintf(line, sizeof line, "%lu %lu %lu %lu %lu\n", atomic_load(&threads), atomic_load(&bytes),
+                     atomic_load(&time_of_all), atomic_load(&time_of_busiest), atomic_load(&writes));
     if (at < 0 || write(at, line, count) != count)
         abort();
     close(at);
@@ -85,6 +86,16 @@ int pthread_create(pthread_t *thread, const pthread_attr_t *how, void *(*work)(v
     if (fault)
         __libc_free(errand);
     return fault;
+}
+
+ssize_t write(int file, const void *text, size_t size) {
+    const char *most = getenv("WATCH_TAKES");
+    if (file == STDOUT_FILENO) {
+        atomic_fetch_add(&writes, 1);
+        if (most && size > strtoul(most, NULL, 10))
+            size = strtoul(most, NULL, 10);
+    }
+    return syscall(SYS_write, file, text, size);
 }
 
 void *malloc(size_t size) {

@@ -1,12 +1,9 @@
-"""Files of specs/ and proofs/: their declarations, and the names that they bring in."""
+"""Files of specs/ and proofs/: their declarations."""
 import functools
 import re
 from dataclasses import dataclass
 
-# A name, an operator or a number; a path's or a field's `.` stands between two.
-WORD = re.compile(r"[^\s(){}\[\],;.«»⟦⟧]+")
 COMMENT = re.compile(r"(?m)(?:(?<=\s)|^)--(?:\s.*)?$")
-USE = re.compile(r"(?m)^( *)((?:pub |ghost )*)use (Rattle\.[^\s{;]+?)(?:\.\{([^}]*)\}| as ([^\s;]+))?;?$")
 HEADER = re.compile(
     r"(?P<indent> *)(?P<marks>(?:abbrev |pub |unfoldable )*)(?:(?P<kind>record|data) (?P<named>[^\s({:]+)(?=[ :]|$)"
     r"|(?P<name>[^\s(){}:;]+)(?: \{[^}]*\})* :(?= |$))")
@@ -69,75 +66,3 @@ def declarations(text):
     for one, start in zip(found, [*(it.start for it in found[1:]), len(text)]):
         one.text = text[one.start:start]
     return found
-
-
-@dataclass
-class Use:
-    """A `use` line: the module's path behind `Rattle.`, and of each name what it is called here; or the module's alias."""
-
-    path: str
-    names: list
-    alias: str
-    passes_on: bool
-    span: tuple
-
-
-@functools.lru_cache(maxsize=None)
-def uses(text):
-    """The `use` lines of a file."""
-    found = []
-    for line in USE.finditer(text):
-        names = []
-        for item in filter(None, (it.strip() for it in (line[4] or "").split(","))):
-            name, _, alias = item.partition(" as ")
-            names.append((name, alias or name))
-        found.append(Use(line[3].removeprefix("Rattle."), names, line[5] or "", "pub" in line[2], line.span()))
-    return found
-
-
-class Scopes:
-    """Where each name of specs/ and proofs/ is declared, by way of the files that pass it on."""
-
-    def __init__(self, tree):
-        self.declared, self.passed, self.crates = {}, {}, set(tree.crates())
-        for path, crate, folder, place in tree.sources("antt"):
-            module = ".".join([crate, folder, *([] if place == ["Lib"] else place)])
-            text = tree.texts[path]
-            self.declared[module] = {it.name: it for it in declarations(text)}
-            self.passed[module] = {alias: (use.path, name) for use in uses(text) if use.passes_on
-                                   for name, alias in use.names}
-
-    def origin(self, module, name):
-        """The module that declares what a module calls so; None where it has no such name."""
-        seen = set()
-        while (module, name) not in seen:
-            seen.add((module, name))
-            if name in self.declared.get(module, {}):
-                return module, name
-            above, _, type_name = module.rpartition(".")
-            of = (module, "") if module in self.declared else self.origin(above, type_name) if type_name else None
-            for it in self.constructors(*of) if of else []:
-                if it.rpartition(".")[2] == name:
-                    return of[0], it
-            if name not in self.passed.get(module, {}):
-                return None
-            module, name = self.passed[module][name]
-        return None
-
-    def constructors(self, module, type_name=""):
-        """The constructors of a module's types, or of one of them, each as `Type.name`."""
-        return [name for name, it in self.declared.get(module, {}).items()
-                if it.kind == "constructor" and (not type_name or name.rpartition(".")[0] == type_name)]
-
-    def scope(self, text, module=None):
-        """What each name means that a file brings in or declares: the module and the name there."""
-        found = {}
-        for use in uses(text):
-            if use.path.split(".")[0] in self.crates:
-                if use.alias:
-                    found[use.alias] = use.path, ""
-                for name, alias in use.names:
-                    found[alias] = self.origin(use.path, name) or (use.path, name)
-        for name in self.declared.get(module, {}):
-            found[name] = module, name
-        return found

@@ -1,10 +1,9 @@
-"""Files of src/: their types, functions and contracts."""
+"""Files of src/: their types and functions."""
 import functools
 import re
-from dataclasses import dataclass, field
+from dataclasses import dataclass
 
 # Comments, texts and characters. (A lifetime has no second quote.)
-COMMENT = re.compile(r"//[^\n]*")
 PLAIN = re.compile(
     r"//[^\n]*|/\*.*?\*/|b?r#*\".*?\"#*|b?\"(?:\\.|[^\"\\])*\"|b?'(?:\\(?:x..|u\{\w+\}|.)|[^'\\\n])'", re.DOTALL)
 ITEM = re.compile(
@@ -31,8 +30,7 @@ def matching(text, at):
 
 @dataclass
 class Item:
-    """A function or a type: the type that it belongs to, the trait whose impl it stands in, and of a function the clauses,
-    each its kind, its name and its text."""
+    """A function or a type: the type that it belongs to, and the trait whose impl it stands in."""
 
     kind: str
     name: str
@@ -42,7 +40,6 @@ class Item:
     test: bool
     start: int
     end: int
-    clauses: list = field(default_factory=list)
 
 
 def owner_of(rest):
@@ -61,22 +58,19 @@ def owner_of(rest):
     return (names[-1] if names else ""), traits[-1] if found and traits else ""
 
 
-def clauses_after(code, text, at):
-    """The clauses of a function from there on, and where its body or its `;` stands."""
-    found = []
+def body_after(code, at):
+    """Where the function's body or its `;` stands from there on, behind its clauses."""
     while at < len(code):
         clause = CLAUSE.match(code, at)
         if clause:
-            end = matching(code, clause.end() - 1)
-            found.append((clause[1] + clause[2], clause[3] or "", " ".join(text[clause.end():end].split())))
-            at = end + 1
+            at = matching(code, clause.end() - 1) + 1
         elif code[at] in "{;":
             break
         elif code[at] in "([":
             at = matching(code, at) + 1
         else:
             at += 1
-    return found, at
+    return at
 
 
 @functools.lru_cache(maxsize=None)
@@ -107,7 +101,7 @@ def items(text):
         public = bool(item["public"]) and not item["within"] or bool(owner[2]) and kind == "fn"
         one = Item(kind, name[0], owner[1], owner[2], public, test or owner[3], line, name.end())
         if kind == "fn":
-            one.clauses, body = clauses_after(code, text, name.end())
+            body = body_after(code, name.end())
             one.end = matching(code, body) if body < len(code) and code[body] == "{" else body
             # What stands in a function belongs to it.
             owners.append((one.end, None, "", False))
@@ -123,16 +117,3 @@ def items(text):
             one.end = matching(code, stop.start()) if stop and stop[0] == "{" else stop.start() if stop else len(code)
         found.append(one)
     return found
-
-
-def clause_spans(text):
-    """The places of what is antt in a file of src/: clauses, `ghost` members, and the lemmas that an attribute names."""
-    code = masked(text)
-    heads = re.compile(r"\b(?:requires|ensures|ghost|invariant|decreases)\*?(?:\s+«?\w+»?)?\s*[:=]?\s*\{|#!?\[tactic\(")
-    spans, last = [], 0
-    for head in heads.finditer(code):
-        if head.start() >= last:
-            last = matching(code, code.find("{" if head[0][-1] == "{" else "(", head.start()))
-            spans.append((head.end(), last))
-    spans += [(use.start(), use.end()) for use in re.finditer(r"ghost use [^;]*;", code)]
-    return sorted(spans)

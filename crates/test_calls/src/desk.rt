@@ -1,4 +1,4 @@
-//! The cluster and the journal at hand, and what the lines do with them.
+//! The cluster, the book and the journal at hand, and what the lines do with them.
 ghost use Rattle.std.specs.Prelude.{◌≤◌, ◌^◌};
 
 use crate::answer::Said;
@@ -6,14 +6,17 @@ use crate::fault::ListFault;
 use crate::kept::Kept;
 use crate::line::Deed;
 use crate::look::{Look, seen_of};
+use crate::told_book::{BookAnswer, ToldBook};
 use book::Refused;
 use cluster::{BookTurn, Processor};
 use journal::Journal;
 use std::alloc::Global;
 use std::sync::Wait;
 use test_crews::crews::{Call, CallAnswer, Crew};
+use test_memory::histories::Told;
+use transit::Message;
 
-/// The cluster that is open, and the journal at hand.
+/// The cluster and the book that are open, and the journal at hand.
 #[derive(Drop)]
 pub struct Desk<'r, T: BookTurn, R> {
     rt: &'r R,
@@ -21,6 +24,7 @@ pub struct Desk<'r, T: BookTurn, R> {
     again: bool,
     blind: bool,
     crew: Option<Crew<T>>,
+    book: Option<ToldBook>,
     kept: Kept,
 }
 
@@ -34,6 +38,7 @@ impl<'r, T: BookTurn + Drop, R: Wait> Desk<'r, T, R> {
             again,
             blind,
             crew: None,
+            book: None,
             kept: Kept::Nothing,
         }
     }
@@ -48,6 +53,14 @@ impl<'r, T: BookTurn + Drop, R: Wait> Desk<'r, T, R> {
         match &self.crew {
             Some(crew) => Ok(crew.processor(p)),
             None => Err(ListFault::NoCluster),
+        }
+    }
+
+    /// The book.
+    pub fn told(&self) -> Result<&Told, ListFault> {
+        match &self.book {
+            Some(book) => Ok(book.told()),
+            None => Err(ListFault::NoBook),
         }
     }
 
@@ -74,6 +87,8 @@ impl<'r, T: BookTurn + Drop, R: Wait> Desk<'r, T, R> {
             Deed::Open(sizes) => Ok(Said::of(self.open(sizes))),
             Deed::Make(p, call) => self.make(p, call),
             Deed::Finish => self.finish(),
+            Deed::OpenBook(sizes) => Ok(Said::of(self.open_book(sizes))),
+            Deed::EndBook => self.end_book(),
             Deed::Begin(processors, addresses) => Ok(Said::of(
                 self.kept.begin(self.alloc, processors, addresses),
             )),
@@ -89,6 +104,49 @@ impl<'r, T: BookTurn + Drop, R: Wait> Desk<'r, T, R> {
         self.crew = None;
         self.crew = Some(Crew::new(self.alloc, sizes)?);
         Ok(())
+    }
+
+    /// Begins a book of these sizes in place of the one before.
+    fn open_book(&mut self, sizes: [usize; 5]) -> Result<(), Refused> {
+        self.book = None;
+        self.book = Some(ToldBook::new(self.alloc, sizes)?);
+        Ok(())
+    }
+
+    /// Ends the book, and keeps its journal.
+    fn end_book(&mut self) -> Result<Said, ListFault> {
+        match self.book.take() {
+            Some(book) => {
+                self.kept = Kept::Answered(book.into_journal());
+                Ok(Said::Done)
+            }
+            None => Err(ListFault::NoBook),
+        }
+    }
+
+    /// Makes a call of the book, and once more where it is refused memory and that is asked for. Answers the message that
+    /// a take brings, and keeps the journal that an audit answers.
+    pub fn tell(
+        &mut self,
+        p: usize,
+        call: Call,
+    ) -> Result<Result<Option<Message>, Refused>, ListFault> {
+        let Some(book) = &mut self.book else {
+            return Err(ListFault::NoBook);
+        };
+        let outcome = match book.call(p, call) {
+            Err(Refused::NoMemory) if self.again => book.call(p, call),
+            outcome => outcome,
+        };
+        Ok(match outcome {
+            Ok(BookAnswer::Done) => Ok(None),
+            Ok(BookAnswer::Came(message)) => Ok(Some(message)),
+            Ok(BookAnswer::Copy(journal)) => {
+                self.kept = Kept::Answered(journal);
+                Ok(None)
+            }
+            Err(refused) => Err(refused),
+        })
     }
 
     /// Makes the call. Where it is refused, it looks whether what is seen of its processor is as it was.

@@ -10,6 +10,8 @@ pub enum ListFault {
     NoCall,
     /// No cluster is open.
     NoCluster,
+    /// No book is open.
+    NoBook,
     /// There is no journal at hand, or none that can be written.
     NoJournal,
     /// The program itself ran out of memory.
@@ -24,6 +26,7 @@ impl ListFault {
         match self {
             ListFault::NoCall => "no such call",
             ListFault::NoCluster => "no cluster is open",
+            ListFault::NoBook => "no book is open",
             ListFault::NoJournal => "no such journal",
             ListFault::NoMemory => "out of memory",
             ListFault::Output => "output failed",

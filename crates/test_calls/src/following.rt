@@ -4,14 +4,15 @@ ghost use Rattle.std.specs.Prelude.{◌≤◌, ◌^◌};
 use crate::answer::{Said, Turns};
 use crate::desk::Desk;
 use crate::fault::ListFault;
-use crate::line::{Deed, Question, Reading};
-use crate::print::{say, say_event, say_events, say_numbers, say_turns, say_whether};
+use crate::line::{BookQuestion, Deed, Question, Reading};
+use crate::print::{say, say_event, say_events, say_message, say_numbers, say_turns, say_whether};
 use book::Refused;
 use cluster::{BookTurn, Processor};
 use journal::Journal;
 use std::io;
 use std::io::Write;
 use std::sync::Wait;
+use test_crews::crews::Call;
 
 /// What a write comes to.
 fn written(outcome: io::Result<()>) -> Result<(), ListFault> {
@@ -93,6 +94,39 @@ fn say_seen<T: BookTurn, W: Write>(
         Question::Waiting => say_whether(out, processor.waiting()),
         Question::Room => say(out, processor.room()),
         Question::Number => say(out, processor.number()),
+    }
+}
+
+/// Makes a call of the book, and says what came of it.
+pub fn tell<T: BookTurn + Drop, R: Wait, W: Write>(
+    desk: &mut Desk<'_, T, R>,
+    out: &mut W,
+    p: usize,
+    call: Call,
+) -> Result<(), ListFault> {
+    match desk.tell(p, call)? {
+        Ok(Some(message)) => written(say_message(out, &message)),
+        Ok(None) => written(say(out, Said::Done)),
+        Err(refused) => written(say(out, Said::Refused(refused))),
+    }
+}
+
+/// Answers what is seen of the book.
+pub fn look<T: BookTurn + Drop, R: Wait, W: Write>(
+    desk: &Desk<'_, T, R>,
+    out: &mut W,
+    p: usize,
+    question: BookQuestion,
+) -> Result<(), ListFault> {
+    let told = desk.told()?;
+    let found = match question {
+        BookQuestion::Due(page) => told.due(p, page).map(|count| count as u64),
+        BookQuestion::First => told.first(p),
+        BookQuestion::Deadlock => return written(say_whether(out, told.is_deadlocked())),
+    };
+    match found {
+        Some(number) => written(say(out, number)),
+        None => written(say(out, Said::Refused(Refused::OutOfRange))),
     }
 }
 

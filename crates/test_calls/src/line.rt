@@ -15,11 +15,15 @@ pub enum Action {
     Repeat(usize, usize, Call),
     /// What is seen of the processor.
     See(usize, Question),
+    /// A call of the book by the processor.
+    Tell(usize, Call),
+    /// What is seen of the book, of the processor.
+    Look(usize, BookQuestion),
     /// What is read of the journal at hand.
     Read(Reading),
 }
 
-/// What changes the cluster or the journal at hand.
+/// What changes the cluster, the book or the journal at hand.
 #[derive(Clone, Copy)]
 pub enum Deed {
     /// A cluster, by how many processors, pages, words a page, locks and flags it has.
@@ -28,6 +32,10 @@ pub enum Deed {
     Make(usize, Call),
     /// The cluster's end.
     Finish,
+    /// A book, by the same sizes.
+    OpenBook([usize; 5]),
+    /// The book's end.
+    EndBook,
     /// A journal, by how many processors and addresses it has.
     Begin(usize, usize),
     /// An event at its end, at this place.
@@ -46,6 +54,17 @@ pub enum Question {
     Waiting,
     Room,
     Number,
+}
+
+/// What is seen of a book.
+#[derive(Clone, Copy)]
+pub enum BookQuestion {
+    /// How many notices of the page a take by the processor would bring.
+    Due(usize),
+    /// The number of its first interval that is kept.
+    First,
+    /// Whether nobody can go on.
+    Deadlock,
 }
 
 /// What is read of a journal.
@@ -153,6 +172,17 @@ fn question_of(phrase: Phrase) -> Option<Question> {
     }
 }
 
+/// The question of a book of this name, with these numbers.
+fn book_question_of(phrase: Phrase) -> Option<BookQuestion> {
+    let [first, ..] = phrase.numbers;
+    match (phrase.name, phrase.count) {
+        (ListName::Due, 1) => Some(BookQuestion::Due(first)),
+        (ListName::First, 0) => Some(BookQuestion::First),
+        (ListName::Deadlock, 0) => Some(BookQuestion::Deadlock),
+        _ => None,
+    }
+}
+
 /// What is read of the journal at hand.
 fn reading_of(phrase: Phrase) -> Option<Reading> {
     let [first, ..] = phrase.numbers;
@@ -169,12 +199,14 @@ fn reading_of(phrase: Phrase) -> Option<Reading> {
     }
 }
 
-/// The deed of this name, with these numbers; a cluster has no flags where none are given.
+/// The deed of this name, with these numbers; a cluster or a book has no flags where none are given.
 fn deed_of(phrase: Phrase) -> Option<Deed> {
     let [first, second, ..] = phrase.numbers;
     match (phrase.name, phrase.count) {
         (ListName::Cluster, 4 | 5) => Some(Deed::Open(phrase.numbers)),
         (ListName::Finish, 0) => Some(Deed::Finish),
+        (ListName::Book, 4 | 5) => Some(Deed::OpenBook(phrase.numbers)),
+        (ListName::End, 0) => Some(Deed::EndBook),
         (ListName::Journal, 2) => Some(Deed::Begin(first, second)),
         (ListName::Cut, 0) => Some(Deed::Cut),
         _ => None,
@@ -225,11 +257,24 @@ fn processor_of(name: &str) -> Option<usize> {
     number(name.strip_prefix("p")?)
 }
 
+/// The processor's number in its name as one of a book.
+fn book_processor_of(name: &str) -> Option<usize> {
+    number(name.strip_prefix("b")?)
+}
+
 /// What the line of a processor asks for: a question, or a call.
 fn of_processor(p: usize, phrase: Phrase) -> Option<Action> {
     match question_of(phrase) {
         Some(question) => Some(Action::See(p, question)),
         None => Some(Action::Do(Deed::Make(p, call_of(phrase)?))),
+    }
+}
+
+/// What the line of a book's processor asks for: a question, or a call.
+fn of_book(p: usize, phrase: Phrase) -> Option<Action> {
+    match book_question_of(phrase) {
+        Some(question) => Some(Action::Look(p, question)),
+        None => Some(Action::Tell(p, call_of(phrase)?)),
     }
 }
 
@@ -258,9 +303,10 @@ fn append(place: &str, processor: &str, phrase: Phrase) -> Option<Action> {
 
 /// What a line asks for whose first word is the name of a processor, or has numbers behind it.
 fn begun_with(name: &str, words: Words) -> Option<Action> {
-    match processor_of(name) {
-        Some(p) => of_processor(p, phrase_of(words[1], &words[2..])?),
-        None => of_name(phrase_of(name, &words[1..])?),
+    match (processor_of(name), book_processor_of(name)) {
+        (Some(p), _) => of_processor(p, phrase_of(words[1], &words[2..])?),
+        (None, Some(p)) => of_book(p, phrase_of(words[1], &words[2..])?),
+        (None, None) => of_name(phrase_of(name, &words[1..])?),
     }
 }
 

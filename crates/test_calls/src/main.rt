@@ -8,15 +8,21 @@
 //!   `p0 QUESTION`          what is seen of it: `page 0`, `valid 0`, `holds 0`, `time`, `waiting`, `room`, `number`
 //!   `repeat N p0 CALL`     the call, N times
 //!   `finish`               ends the cluster
+//!   `book P N W L [G]`     begins a book of such sizes, with the history that tells it
+//!   `b0 CALL`              a call of it by processor 0, as above without `fetch`; a load (of 0) or a store comes with the next
+//!   `b0 QUESTION`          `due 0`: how many notices of page 0 a take would bring; `first`: its first interval that is kept;
+//!                          `deadlock`: whether nobody can go on
+//!   `end`                  ends the book
 //!   `journal P A`          begins a journal of P processors and A addresses
 //!   `event N P KIND ..`    puts an event at its end, at place N, as the journal of `lrc` is printed
 //!   `cut`                  cuts that journal
 //!   `events`, `count`, `at N`, `replay`, `race`, `traffic`, `base`, `gone`
-//!                          what is read of the journal at hand: the one begun last, or answered last by `audit` or `finish`
+//!                          what is read of the journal at hand: the one begun last, or answered last by `audit`, `finish` or `end`
 //!
 //! An answer is `ok`, what is asked for, or the name of the refusal. `repeat` answers how often in turn each came, as
 //! `ok x256, BlockFull x1`; after `events` there is a line for each event, behind four spaces. A refused call leaves what
-//! is seen of its processor as it was; where it doesn't, its answer says so.
+//! is seen of its processor as it was; where it doesn't, its answer says so. A take of a book answers the message: its name, its
+//! timestamp, and for each record the page, its interval, its place in the closing order, and its words.
 //!
 //! `--ticket` takes the ticket lock in place of the array lock, and `--few` one with 4096 entries a processor. With
 //! `--again` a call that is refused memory is made once more, and only the second answer is printed. With `--blind` nobody
@@ -37,11 +43,12 @@ mod look;
 mod names;
 mod options;
 mod print;
+mod told_book;
 mod written;
 
 use crate::desk::Desk;
 use crate::fault::ListFault;
-use crate::following::{perform, read, repeat, see};
+use crate::following::{look, perform, read, repeat, see, tell};
 use crate::line::{Action, Deed, action_of};
 use crate::options::{ListOptions, options_of};
 use book::Book;
@@ -73,6 +80,8 @@ fn follow<T: BookTurn + Drop, R: Wait, W: Write>(
         Some(Action::Do(deed)) => perform(desk, out, deed),
         Some(Action::Repeat(times, p, call)) => repeat(desk, out, times, Deed::Make(p, call)),
         Some(Action::See(p, question)) => see(desk, out, p, question),
+        Some(Action::Tell(p, call)) => tell(desk, out, p, call),
+        Some(Action::Look(p, question)) => look(desk, out, p, question),
         Some(Action::Read(reading)) => read(desk, out, reading),
     }
 }

@@ -1,7 +1,9 @@
-//! Tests of scripts, traces, runs and outcomes: each a caller who knows nothing but contracts.
+//! Scripts that are drawn; and tests of what no run of a built program shows, each by a caller who knows nothing but contracts.
 #![tactic(auto)]
 
 pub mod drawing;
+#[cfg(test)]
+mod intervals;
 #[cfg(test)]
 mod outcomes;
 #[cfg(test)]
@@ -9,4 +11,4 @@ mod running;
 #[cfg(test)]
 mod scripts;
 #[cfg(test)]
-mod traces;
+mod texts;

@@ -1,20 +1,100 @@
-//! A caller of the reader, the printer and the draws of scripts, who knows nothing of them but their contracts.
-//!
-//! **What is only tested** here: the rows of scripts that are read, printed and drawn; the limits of scripts; that no
-//! call allocates without need. Which fault is answered among several on one line, and its text: `tests/texts`.
-//!
-//! Tests of the reader, the printer and the draws. Scripts are written with `/` for the line feed.
+//! Scripts that are printed: drawn ones, and the greatest. What is read of scripts is in `tests/texts` and `tests/sweeping`.
 
-mod drawn;
-mod growths;
-mod limits;
-mod reading;
-
+use crate::drawing::draw::{free, guarded};
+use lrc_script::script::{Instruction, MOST_BYTES, Script, parse};
 use std::alloc::{AllocError, Global};
+use std::process::Abort;
+use std::test::Fail;
+
+/// Drawn scripts, written by another program from the published generator. The last number is 2^63.
+const DRAWN: [(u64, &str, &str); 4] = [
+    (
+        2,
+        "cluster 1 3 2 1/p 0/acquire 0/add 3 3/release 0/acquire 0/add 4 0/release 0/show 0 1 2 3 4 5/",
+        "cluster 1 3 2 1/p 0/store 3 4/store 5 2/show 0 1 2 3 4 5/",
+    ),
+    (
+        6,
+        "cluster 1 1 3 3/p 0/acquire 2/add 2 1/release 2/acquire 2/add 2 3/release 2/acquire 1/add 1 1/release 1/acquire 1/add 1 2/release 1/show 0 1 2/",
+        "cluster 1 1 3 3/p 0/store 2 7/store 1 1/add 1 7/load 2/acquire 2/add 2 3/release 2/show 0 1 2/",
+    ),
+    (
+        8,
+        "cluster 1 1 2 1/p 0/acquire 0/add 1 3/release 0/acquire 0/add 0 0/release 0/acquire 0/add 1 0/release 0/show 0 1/",
+        "cluster 1 1 2 1/p 0/acquire 0/add 1 2/release 0/load 1/store 1 0/store 1 5/show 0 1/",
+    ),
+    (
+        9_223_372_036_854_775_808,
+        "cluster 3 2 3 1/p 0/p 1/acquire 0/add 5 6/release 0/p 2/show 0 1 2 3 4 5/",
+        "cluster 3 2 3 1/p 0/p 1/acquire 0/add 4 3/release 0/add 3 7/store 4 1/acquire 0/add 1 7/release 0/store 4 1/acquire 0/add 5 6/release 0/load 2/p 2/add 0 7/acquire 0/add 5 5/release 0/load 3/store 1 0/store 4 5/show 0 1 2 3 4 5/",
+    ),
+];
+
+/// A free script with barriers.
+const WITH_BARRIERS: &str =
+    "cluster 2 1 2 3/p 0/store 0 2/acquire 1/add 1 7/release 1/store 1 6/store 1 7/barrier/add 0 2/store 1 4/p 1/load 0/store 0 7/store 0 2/store 0 5/add 1 6/add 0 0/acquire 1/add 1 6/release 1/barrier/load 1/store 1 5/show 0 1/";
 
 /// The bytes of a script.
 fn bytes_of(alloc: Global, text: &str) -> Result<Vec<u8>, AllocError> {
     text.bytes()
         .map(|byte| if byte == b'/' { b'\n' } else { byte })
         .collect(alloc)
+}
+
+/// Whether the script's text is this one, which has a slash for each line feed.
+fn has_text(alloc: Global, script: &Script, wanted: &str) -> Result<bool, AllocError> {
+    let text = script.to_string(alloc)?;
+    Ok(text.as_bytes() == bytes_of(alloc, wanted)?.as_slice())
+}
+
+#[test]
+fn the_draws_are_those_of_the_generator(rt: HostRuntime) -> Result<(), Fail> {
+    for (k, guarded_text, free_text) in DRAWN {
+        let drawn = guarded(rt.alloc(), k)?;
+        assert!(rt; has_text(rt.alloc(), &drawn, guarded_text)?, "guarded {k}");
+        let drawn = free(rt.alloc(), k)?;
+        assert!(rt; has_text(rt.alloc(), &drawn, free_text)?, "free {k}");
+    }
+    let drawn = free(rt.alloc(), 10)?;
+    assert!(rt; has_text(rt.alloc(), &drawn, WITH_BARRIERS)?);
+    Ok(())
+}
+
+/// The greatest number. A body that answers that memory ran out past another one is proved; it fails here.
+const LAST: u64 = 18_446_744_073_709_551_615;
+
+#[test]
+fn a_script_is_drawn_from_the_last_number(rt: HostRuntime) -> Result<(), Fail> {
+    for script in [guarded(rt.alloc(), LAST)?, free(rt.alloc(), LAST)?] {
+        let text = script.to_string(rt.alloc())?;
+        assert!(rt; parse(rt.alloc(), text.as_bytes()).ok() == Some(script));
+    }
+    Ok(())
+}
+
+/// The script with the longest text: as many instructions as there may be, each the longest of its kind.
+fn longest(alloc: Global) -> Result<Script, AllocError> {
+    let mut sections = Vec::new(alloc);
+    for _ in 0..16 {
+        sections.push(vec![in alloc; Instruction::Store(4095, 4_294_967_295); 10_000]?)?;
+    }
+    Ok(Script {
+        processors: 16,
+        pages: 64,
+        words: 64,
+        locks: 32,
+        flags: 32,
+        sections,
+        shown: vec![in alloc; 4095; 64]?,
+    })
+}
+
+/// A body that prints no more than a thousand instructions, or a megabyte, is proved; it fails here.
+#[test]
+fn the_longest_script_is_printed(rt: HostRuntime) -> Result<(), Fail> {
+    let script = longest(rt.alloc())?;
+    let text = script.to_string(rt.alloc())?;
+    assert!(rt; text.len() == MOST_BYTES);
+    assert!(rt; parse(rt.alloc(), text.as_bytes()).ok() == Some(script));
+    Ok(())
 }

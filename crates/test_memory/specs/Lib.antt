@@ -1,4 +1,2 @@
-pub mod Copies
-pub mod Prelude
 pub mod Reaching
 pub mod Histories

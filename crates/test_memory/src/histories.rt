@@ -6,13 +6,11 @@
 //! **What is proved**: each call that is made may be made, by the history alone; after it the history goes
 //! on by just the block and the event; after a refusal all is as before.
 //!
-//! **What is only tested**: some rows of the book's calls, and when a call here is refused
+//! **What is only tested** (lists of `tests/calls`): some rows of the book's calls, and when a call here is refused
 //! before the book is asked.
 
 mod history;
 mod records;
-#[cfg(test)]
-mod tests;
 mod told;
 
 pub use self::told::Told;

@@ -97,27 +97,8 @@ const FOREVER: u64 = 1_000_000_000_000;
 /// How often a script is run: under another schedule each time.
 const TIMES: usize = 40;
 
-/// Each way in which a thread may end leaves nobody asleep: a run that slept for ever would not end within the time that a
-/// test has.
-#[test]
-fn nobody_sleeps_for_ever(rt: HostRuntime) -> Result<(), Fail> {
-    let alloc = rt.alloc();
-    // A deadlock of two; a flag that nobody sets; a barrier that one never reaches, since it waits for a lock.
-    let stuck: [&[u8]; 3] = [
-        b"cluster 2 1 1 2\np 0\nacquire 0\nbarrier\nacquire 1\np 1\nacquire 1\nbarrier\nacquire 0\nshow 0\n",
-        b"cluster 4 1 1 0 1\np 0\nawait 0\np 1\nawait 0\np 2\nawait 0\np 3\nawait 0\nshow 0\n",
-        b"cluster 2 1 1 1\np 0\nacquire 0\nbarrier\np 1\nacquire 0\nbarrier\nshow 0\n",
-    ];
-    for _ in 0..TIMES {
-        for text in stuck {
-            fails(&rt, alloc, text, &Open, FOREVER, 0, Cause::Stuck)?;
-        }
-    }
-    Ok(())
-}
-
-/// A processor that the gate stops leaves the others stuck: at the barrier, at a lock that it holds, at a flag that it
-/// would have set.
+/// A processor that the gate stops leaves the others stuck, and none of them asleep: at the barrier, at a lock that it holds, at a
+/// flag that it would have set. A run that slept for ever would not end within the time that a test has.
 #[test]
 fn stopped_and_waited_for(rt: HostRuntime) -> Result<(), Fail> {
     let texts: [&[u8]; 3] = [
