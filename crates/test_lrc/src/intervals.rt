@@ -63,11 +63,15 @@ fn shared<T: Send + Sync + Drop>(value: T) -> T {
     value
 }
 
+/// Whether closed intervals that may be shared have their record, and notices that may be shared are none yet.
+fn are_shared(alloc: Global) -> Result<bool, AllocError> {
+    let closed = shared(one(alloc)?);
+    let sent: Vec<Sent> = shared(Vec::new(alloc));
+    Ok(closed.record_of(&NOTICE).is_some() && sent.is_empty())
+}
+
 #[test]
 fn are_shared_among_threads(rt: HostRuntime) -> Result<(), Fail> {
-    let closed = shared(one(rt.alloc())?);
-    assert!(rt; closed.record_of(&NOTICE).is_some());
-    let sent: Vec<Sent> = shared(Vec::new(rt.alloc()));
-    assert!(rt; sent.is_empty());
+    assert!(rt; are_shared(rt.alloc())?);
     Ok(())
 }

@@ -42,33 +42,39 @@ fn bytes_of(alloc: Global, text: &str) -> Result<Vec<u8>, AllocError> {
 }
 
 /// Whether the script's text is this one, which has a slash for each line feed.
-fn has_text(alloc: Global, script: &Script, wanted: &str) -> Result<bool, AllocError> {
+fn has_text(alloc: Global, script: Script, wanted: &str) -> Result<bool, AllocError> {
     let text = script.to_string(alloc)?;
     Ok(text.as_bytes() == bytes_of(alloc, wanted)?.as_slice())
 }
 
 #[test]
 fn the_draws_are_those_of_the_generator(rt: HostRuntime) -> Result<(), Fail> {
+    let alloc = rt.alloc();
     for (k, guarded_text, free_text) in DRAWN {
-        let drawn = guarded(rt.alloc(), k)?;
-        assert!(rt; has_text(rt.alloc(), &drawn, guarded_text)?, "guarded {k}");
-        let drawn = free(rt.alloc(), k)?;
-        assert!(rt; has_text(rt.alloc(), &drawn, free_text)?, "free {k}");
+        assert!(rt;
+            has_text(alloc, guarded(alloc, k)?, guarded_text)?,
+            "guarded {k}"
+        );
+        assert!(rt; has_text(alloc, free(alloc, k)?, free_text)?, "free {k}");
     }
-    let drawn = free(rt.alloc(), 10)?;
-    assert!(rt; has_text(rt.alloc(), &drawn, WITH_BARRIERS)?);
+    assert!(rt; has_text(alloc, free(alloc, 10)?, WITH_BARRIERS)?);
     Ok(())
 }
 
 /// The greatest number. A body that answers that memory ran out past another one is proved; it fails here.
 const LAST: u64 = 18_446_744_073_709_551_615;
 
+/// Whether the script is read again as it is printed.
+fn is_read_again(alloc: Global, script: Script) -> Result<bool, AllocError> {
+    let text = script.to_string(alloc)?;
+    Ok(parse(alloc, text.as_bytes()).ok() == Some(script))
+}
+
 #[test]
 fn a_script_is_drawn_from_the_last_number(rt: HostRuntime) -> Result<(), Fail> {
-    for script in [guarded(rt.alloc(), LAST)?, free(rt.alloc(), LAST)?] {
-        let text = script.to_string(rt.alloc())?;
-        assert!(rt; parse(rt.alloc(), text.as_bytes()).ok() == Some(script));
-    }
+    let alloc = rt.alloc();
+    assert!(rt; is_read_again(alloc, guarded(alloc, LAST)?)?);
+    assert!(rt; is_read_again(alloc, free(alloc, LAST)?)?);
     Ok(())
 }
 
@@ -92,9 +98,8 @@ fn longest(alloc: Global) -> Result<Script, AllocError> {
 /// A body that prints no more than a thousand instructions, or a megabyte, is proved; it fails here.
 #[test]
 fn the_longest_script_is_printed(rt: HostRuntime) -> Result<(), Fail> {
-    let script = longest(rt.alloc())?;
-    let text = script.to_string(rt.alloc())?;
-    assert!(rt; text.len() == MOST_BYTES);
-    assert!(rt; parse(rt.alloc(), text.as_bytes()).ok() == Some(script));
+    let alloc = rt.alloc();
+    assert!(rt; longest(alloc)?.to_string(alloc)?.len() == MOST_BYTES);
+    assert!(rt; is_read_again(alloc, longest(alloc)?)?);
     Ok(())
 }

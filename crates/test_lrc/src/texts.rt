@@ -1,8 +1,15 @@
 //! The texts of refusals and of faults, also of those that no run of the program ends with.
 use book::Refused;
 use lrc_run::{Cause, RunFault};
+use std::alloc::{AllocError, Global};
 use std::process::Abort;
 use std::test::Fail;
+
+/// Whether this is the refusal's text.
+fn is_text(alloc: Global, refused: Refused, text: &str) -> Result<bool, AllocError> {
+    let told = format!(in alloc; "{refused}")?;
+    Ok(told.as_str() == text)
+}
 
 #[test]
 fn of_refusals(rt: HostRuntime) -> Result<(), Fail> {
@@ -26,8 +33,7 @@ fn of_refusals(rt: HostRuntime) -> Result<(), Fail> {
         (Refused::NoEpisode, "no complete episode"),
         (Refused::BaseFull, "too many events cut off"),
     ] {
-        let told = format!(in rt.alloc(); "{refused}")?;
-        assert!(rt; told.as_str() == text);
+        assert!(rt; is_text(rt.alloc(), refused, text)?);
     }
     Ok(())
 }

@@ -2,7 +2,7 @@
 ghost use Rattle.std.specs.Prelude.{◌<◌, ◌≤◌, ◌^◌};
 
 use book::{Book, Refused};
-use cluster::{BookTurn, Rule, TicketBookLock};
+use cluster::{BookLock, BookTurn, Rule, TicketBookLock};
 use lrc_report::Report;
 use lrc_run::{Cause, Gate, Open, RunFault, Stopped, run, run_with};
 use lrc_script::script::parse;
@@ -29,6 +29,17 @@ fn both<R: Threads + Wait + Sync, G: Gate + Sync>(
     let array = run(rt, alloc, &script, gate, tries);
     let ticket = run_with::<TicketBookLock, R, G>(rt, alloc, &script, gate, tries);
     Ok((array, ticket))
+}
+
+/// Whether the script's run comes to its end, under either lock.
+fn both_end<R: Threads + Wait + Sync, G: Gate + Sync>(
+    rt: &R,
+    alloc: Global,
+    text: &[u8],
+    gate: &G,
+) -> Result<bool, Fail> {
+    let (array, ticket) = both(rt, alloc, text, gate, 1_000_000)?;
+    Ok(array.is_ok() && ticket.is_ok())
 }
 
 /// Runs a script that ends with this fault.
@@ -227,8 +238,7 @@ fn the_gate_is_called_once_an_instruction(rt: HostRuntime) -> Result<(), Fail> {
         calls: AtomicUsize::new(0),
         sum: AtomicUsize::new(0),
     };
-    let (array, ticket) = both(&rt, rt.alloc(), text, &gate, 1_000_000)?;
-    assert!(&rt; array.is_ok() && ticket.is_ok());
+    assert!(&rt; both_end(&rt, rt.alloc(), text, &gate)?);
     assert_eq!(&rt; gate.calls.load(SeqCst), 6);
     assert_eq!(&rt; gate.sum.load(SeqCst), 12);
     Ok(())
@@ -271,22 +281,24 @@ fn nobody_there() -> Meeting {
     }
 }
 
-#[test]
-fn processors_run_at_the_same_time(rt: HostRuntime) -> Result<(), Fail> {
-    // On one thread neither would be let through.
-    let alloc = rt.alloc();
+/// Whether two processors pass a gate at which each waits for the other, under this lock. On one thread neither would be let
+/// through.
+fn get_on<T: BookTurn + Drop + Send + Sync, R: Threads + Wait + Sync>(
+    rt: &R,
+    alloc: Global,
+) -> Result<bool, Fail>
+    requires { T.ENTRIES ≤ 2 ^ 40 }
+{
     let script = parse(
         alloc,
         b"cluster 2 1 1 0\np 0\nload 0\np 1\nload 0\nshow 0\n",
     )?;
-    assert!(&rt; run(&rt, alloc, &script, &nobody_there(), 1_000_000).is_ok());
-    let ticket = run_with::<TicketBookLock, HostRuntime, Meeting>(
-        &rt,
-        alloc,
-        &script,
-        &nobody_there(),
-        1_000_000,
-    );
-    assert!(&rt; ticket.is_ok());
+    Ok(run_with::<T, R, Meeting>(rt, alloc, &script, &nobody_there(), 1_000_000).is_ok())
+}
+
+#[test]
+fn processors_run_at_the_same_time(rt: HostRuntime) -> Result<(), Fail> {
+    assert!(&rt; get_on::<BookLock, _>(&rt, rt.alloc())?);
+    assert!(&rt; get_on::<TicketBookLock, _>(&rt, rt.alloc())?);
     Ok(())
 }
