@@ -3,7 +3,7 @@ use Rattle.std.specs.Prelude.{ℕ, ◌≡◌, ◌↔◌, ◌++◌, ◌⊎◌, Bo
 use Rattle.base.specs.InOrderOnce.{Has, IsOnce}
 use Rattle.journal.specs.declared.event.Event.{Event}
 use Rattle.journal.specs.declared.event.Kind.{Kind}
-use Rattle.journal.specs.declared.event.Kind.TheVariants.{Load, Ask, Set, Await}
+use Rattle.journal.specs.declared.event.Kind.TheVariants.{Ask, Set, Await}
 use Rattle.journal.specs.DidEvent.{did, event}
 use Rattle.journal.specs.WellFormed.{WellFormedNext}
 use Rattle.judge.specs.declared.sources.readable.ReadableSources.{ReadableSources}

@@ -1,8 +1,9 @@
-use Rattle.std.proofs.Common.{slice_index_or, refl, subst}
+use Rattle.std.proofs.Common.{slice_index_or, refl, subst, arith}
 use Rattle.journal.specs.declared.event.Event.{Event}
 use Rattle.journal.specs.declared.event.Kind.TheVariants.{Load}
 use Rattle.journal.specs.DidEvent.{event}
 use Rattle.std.proofs.lemmas.Option.{slice_get-get_or}
+use Rattle.std.proofs.lemmas.Grind.{elements}
 use Rattle.journal.proofs.Order.EventPlacesAndCounts.{event_place_same, event_place_inside}
 use Rattle.causes.specs.Heard.{IsHeard}
 use Rattle.causes.proofs.apart.race_accesses_apart.Goals as goal
@@ -24,3 +25,21 @@ returns c =
       first_locks = c.in_ok-first_locks.ensures;
       second_locks = c.in_ok-second_locks.ensures;
     }
+
+pub offset_bounds-events-first : goal.offset_bounds-events-first
+offset_bounds-events-first c = grind (arith, elements)
+
+pub bounds-events-first : goal.bounds-events-first
+bounds-events-first c = grind (arith, elements)
+
+pub heard-requires-clause-by : goal.heard-requires-clause-by
+heard-requires-clause-by c = grind (arith, elements)
+
+pub heard-requires-clause-second : goal.heard-requires-clause-second
+heard-requires-clause-second c = grind (arith, elements)
+
+pub locks_of_holder_at-requires : goal.locks_of_holder_at-requires
+locks_of_holder_at-requires c = grind (arith, elements)
+
+pub locks_of_holder_at-requires-2 : goal.locks_of_holder_at-requires-2
+locks_of_holder_at-requires-2 c = grind (arith, elements)

@@ -1,6 +1,7 @@
 use Rattle.std.proofs.Common.{◌≡◌, ℕ, ◌+◌, ◌*◌, ◌<◌, ◌≤◌, List, length, slice_index_or, subst, sym, ap, arith}
 use Rattle.std.proofs.Math.Nat.{mul-le-mul_left}
 use Rattle.std.proofs.lemmas.Option.{slice_get-get_or}
+use Rattle.std.proofs.lemmas.Grind.{elements}
 use Rattle.journal.specs.declared.event.Event.{Event}
 use Rattle.journal.specs.declared.event.Kind.{Kind}
 use Rattle.journal.specs.declared.event.Kind.TheVariants.{Fetch, Load, Store}
@@ -96,3 +97,21 @@ returns-in_default c =
     let k = c.args.place in
     origin_step_quiet (judged_sizes_of c.args.gaps.now.sizes) events k (here events k) c.args.words.now
     (there events k c.requires.place) c.in_default.not-Store c.in_default.not-Fetch c.requires.so_far
+
+pub overflow_mul-address : goal.overflow_mul-address
+overflow_mul-address c = grind (arith, elements)
+
+pub overflow_add-address : goal.overflow_add-address
+overflow_add-address c = grind (arith, elements)
+
+pub offset_bounds-words-address : goal.offset_bounds-words-address
+offset_bounds-words-address c = grind (arith, elements)
+
+pub bounds-words-address : goal.bounds-words-address
+bounds-words-address c = grind (arith, elements)
+
+pub brought_fetch_at-fetch-requires-clause-reader : goal.brought_fetch_at-fetch-requires-clause-reader
+brought_fetch_at-fetch-requires-clause-reader c = grind (arith, elements)
+
+pub brought_fetch_at-fetch-requires-clause-page : goal.brought_fetch_at-fetch-requires-clause-page
+brought_fetch_at-fetch-requires-clause-page c = grind (arith, elements)

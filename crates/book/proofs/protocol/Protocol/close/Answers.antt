@@ -1,5 +1,6 @@
 use Rattle.std.proofs.Common.{◌≡◌, ◌<◌, true, length, map, slice_index, slice_set, subst, sym, refl, ap, ◌∙◌, arith, rules}
 use Rattle.std.proofs.lemmas.List.{length-map, map-set}
+use Rattle.std.proofs.lemmas.Grind.{elements}
 use Rattle.std.specs.Option.{option_map}
 use Rattle.journal.specs.Log.{Log}
 use Rattle.vtime.specs.TicksAndJoins.{tick}
@@ -119,3 +120,9 @@ returns c =
       full = search rules;
       only = search rules;
     }
+
+pub append-requires-clause-limit : goal.append-requires-clause-limit
+append-requires-clause-limit c = grind (arith, elements)
+
+pub invariant_of-self-2 : goal.invariant_of-self-2
+invariant_of-self-2 c = grind (arith, elements)

@@ -1,4 +1,5 @@
-use Rattle.std.proofs.Common.{◌≡◌, ◌<◌, ◌↔◌, ℕ, List, Option, map, length, ap, sym, subst}
+use Rattle.std.proofs.Common.{◌≡◌, ◌<◌, ◌↔◌, ℕ, List, Option, map, length, ap, sym, subst, arith}
+use Rattle.std.proofs.lemmas.Grind.{elements}
 use Rattle.std.specs.Option.{option_map}
 use Rattle.base.specs.InOrderOnce.{Has}
 use Rattle.journal.specs.declared.event.Kind.{Kind}
@@ -64,3 +65,15 @@ returns-in-Set c q =
     subst (λ (k : Kind). Has c.all_done_waiting-in-Set.result q ↔ IsNamedByBookWaits c.args.self.now c.args.processor k q)
     (sym c.in-Set.is)
     (named_waiting_set read c.args.processor c.in-Set.flag q c.all_done_waiting-in-Set.result (c.all_done_waiting-in-Set.ensures q))
+
+pub holder-next-requires : goal.holder-next-requires
+holder-next-requires c = grind (arith, elements)
+
+pub one_done_waiting-requires-clause-mail : goal.one_done_waiting-requires-clause-mail
+one_done_waiting-requires-clause-mail c = grind (arith, elements)
+
+pub all_done_waiting-requires-clause-mail : goal.all_done_waiting-requires-clause-mail
+all_done_waiting-requires-clause-mail c = grind (arith, elements)
+
+pub all_done_waiting-requires-in-Set-clause-mail : goal.all_done_waiting-requires-in-Set-clause-mail
+all_done_waiting-requires-in-Set-clause-mail c = grind (arith, elements)

@@ -1,0 +1,1 @@
+"""Checks of a crate by `rattle check`, and what they cost."""
