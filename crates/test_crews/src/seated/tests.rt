@@ -400,7 +400,13 @@ fn sit_in_turn<P: Program, R: Wait>(
 fn fetches<R: Wait>(rt: &R, alloc: Global, pages: usize) -> Result<(), SeatFault> {
     let layout = Layout::open(alloc, 8)?;
     let (cluster, processors) = Cluster::<BookLock>::new(alloc, 2, 8, 1, 0, 1)?;
-    sit_in_turn(rt, &cluster, processors, &layout, &SeatTestFetcher { pages })
+    sit_in_turn(
+        rt,
+        &cluster,
+        processors,
+        &layout,
+        &SeatTestFetcher { pages },
+    )
 }
 
 // This test and the next make as many requests for memory (tests/memory/lists): a fetch makes none.
