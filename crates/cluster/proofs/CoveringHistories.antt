@@ -1,5 +1,5 @@
 -- What holds of a processor by what it has seen holds by every history that goes on without it.
-use Rattle.std.proofs.Common.{ℕ, zero, suc, ◌≡◌, ◌≢◌, ◌<◌, ◌+◌, ◌/◌, ◌↔◌, arith, get_or, length, Option, Some, None, List, [], ◌∷◌, ◌++◌, map, slice_index, ne_eqb, refl, sym, subst, ◌∙◌, append-nil, Bool, true, false, slice_get, take, ap}
+use Rattle.std.proofs.Common.{ℕ, zero, suc, ◌≡◌, ◌≢◌, ◌<◌, ◌+◌, ◌/◌, ◌↔◌, arith, get_or, length, Option, Some, None, List, [], ◌∷◌, ◌++◌, map, slice_index, ne_eqb, refl, sym, subst, ◌∙◌, append-nil, slice_get, take, ap}
 use Rattle.std.proofs.lemmas.List.Elements.{filter-append}
 use Rattle.std.proofs.lemmas.Nat.{div_below}
 use Rattle.std.proofs.lemmas.Option.{none-some, slice_get-get_or}
@@ -41,7 +41,7 @@ use Rattle.cluster.specs.Copies.Local.{Local, blank_local_copy}
 use Rattle.cluster.specs.Copies.Sound.{IsSound}
 use Rattle.cluster.specs.KeptViews.{view_having_seen}
 use Rattle.cluster.specs.Covers.{IsCoverAllowedByLock, IsCovered, HasCoverage, IsCoveredAlone}
-use Rattle.cluster.specs.ProcessorRefusals.{processor_refusal_copy_serves, processor_refusal_has_valid}
+use Rattle.cluster.specs.ProcessorRefusals.{processor_refusal_copy_serves}
 use Rattle.cluster.proofs.MayAccessAndFetch.{may_access_serving}
 
 -- events of others have no part of p

@@ -1,6 +1,5 @@
 -- Turns that are drawn, one after another.
-use Rattle.std.proofs.Common.{ℕ, zero, suc, ◌≡◌, ◌+◌, ◌-◌, ◌*◌, ◌<◌, ◌≤◌, Bool, Some, List, [], ◌∷◌, ◌++◌, inl, inr, length, refl, sym, ap, ap₂, subst, subst₂, take, drop, get_or, slice_get, slice_index_or, add-one, ◌∙◌, append_assoc, append-nil, arith}
-use Rattle.std.specs.Prelude.{All, sum_by}
+use Rattle.std.proofs.Common.{ℕ, zero, suc, ◌≡◌, ◌+◌, ◌*◌, ◌<◌, ◌≤◌, Bool, Some, List, [], ◌∷◌, ◌++◌, inl, inr, length, refl, sym, ap, ap₂, subst, subst₂, take, drop, get_or, slice_get, slice_index_or, ◌∙◌, append_assoc, append-nil, arith}
 use Rattle.std.proofs.lemmas.List.Elements.{All-append, All-cons, All-nil, All-take, All-drop}
 use Rattle.std.proofs.lemmas.List.Sums.{sum_by_push}
 use Rattle.std.proofs.lemmas.Bool.{cases_lt}
@@ -11,12 +10,12 @@ use Rattle.lrc_script.specs.declared.script.Instruction.{Instruction}
 use Rattle.lrc_script.specs.Lawful.{IsLawful}
 use Rattle.lrc_script.specs.Plan.{Plan}
 use Rattle.cluster.specs.Copies.Local.{Local}
-use Rattle.conformance.specs.Draws.{Drawing, drawing, draws_lowered, draws_turns_about, draws_walk, drawing_after, drawing_of, drawn_tries, drawn_turns, next_drawing}
+use Rattle.conformance.specs.Draws.{Drawing, drawing, draws_turns_about, draws_walk, drawing_after, drawing_of, drawn_tries, drawn_turns, next_drawing}
 use Rattle.conformance.specs.DrawnRuns.{HasArrivedAtDrawnEnd, drawing_after_of, drawn_tries_of, drawn_turns_of}
 use Rattle.conformance.specs.declared.progress.TurnProgress.{TurnProgress}
 use Rattle.lrc_run.specs.declared.steps.pace.Pace.{Pace}
 use Rattle.lrc_run.specs.DrawnOrders.{AreDrawnOrderProcessors, pace_drawing}
-use Rattle.lrc_run.specs.DrawnTurns.{HasDrawnNoTurn, HasDrawnTurn, HaveArrivedAtRunSteps, HaveWandered}
+use Rattle.lrc_run.specs.DrawnTurns.{HasDrawnNoTurn, HasDrawnTurn, HaveWandered}
 use Rattle.lrc_run.specs.RunTurns.{AreRunTurnsTaken}
 use Rattle.lrc_run.proofs.TurnWays.{turn_ways_taken-append, turn_way_seen_same}
 

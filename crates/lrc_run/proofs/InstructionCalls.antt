@@ -1,5 +1,5 @@
 -- Calls that do an instruction, or begin it, whatever they answer.
-use Rattle.std.proofs.Common.{ℕ, ◌≡◌, ◌+◌, ◌%◌, ◌^◌, Option, Some, None, Result, Ok, Err, OnOk, List, [], ◌∷◌, false, refl, sym, ap, ◌∙◌, append-nil}
+use Rattle.std.proofs.Common.{ℕ, ◌≡◌, ◌+◌, ◌%◌, ◌^◌, Option, Some, None, Result, Ok, Err, OnOk, [], ◌∷◌, false, refl, sym, ap, ◌∙◌, append-nil}
 use Rattle.std.specs.Result.{result_err}
 use Rattle.journal.specs.declared.event.Kind.{Kind}
 use Rattle.journal.specs.declared.event.Kind.TheVariants.{Load, Store}

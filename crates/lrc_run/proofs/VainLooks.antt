@@ -1,5 +1,5 @@
 -- Looks for what has not come, one after another.
-use Rattle.std.proofs.Common.{ℕ, zero, suc, ◌≡◌, ◌+◌, ◌-◌, ◌<◌, ◌≤◌, Option, Some, None, List, Result, Ok, Err, inl, inr, length, refl, sym, ap, subst, take, ◌∙◌, arith}
+use Rattle.std.proofs.Common.{ℕ, suc, ◌≡◌, ◌+◌, ◌-◌, ◌<◌, ◌≤◌, List, Result, Ok, Err, inl, inr, length, refl, sym, ap, subst, take, arith}
 use Rattle.std.specs.Result.{IfErr, result_err}
 use Rattle.std.proofs.Math.Seq.{take-length}
 use Rattle.std.proofs.lemmas.List.{get_or_past}
@@ -9,13 +9,11 @@ use Rattle.conformance.specs.declared.cause.Cause.TheVariants.{Stuck}
 use Rattle.conformance.specs.ScriptTurns.{script_turn_instruction}
 use Rattle.lrc_script.specs.declared.script.Instruction.{Instruction}
 use Rattle.cluster.specs.Copies.Local.{Local}
-use Rattle.cluster.specs.Entering.{EnteredAndDid}
-use Rattle.cluster.specs.ProcessorCalls.{IsSameAfterProcessorCall}
-use Rattle.cluster.specs.TakingCalls.{IsTakingCall, IsTakingCallDone}
+use Rattle.cluster.specs.TakingCalls.{IsTakingCall}
 use Rattle.book.specs.declared.refused.Refused.{Refused}
 use Rattle.book.specs.declared.refused.Refused.TheVariants.{NotYet}
 use Rattle.cluster.specs.ProcessorRefusals.{processor_refusal_or_spent, processor_refusal_of_take}
-use Rattle.lrc_run.specs.LooksInVain.{AreLooksInVain, HasGivenUpInstruction, HasGivenUpWalk, HasLookedAgain, HasLookedInVain, IsLookInVain, IsToldNoneComes}
+use Rattle.lrc_run.specs.LooksInVain.{AreLooksInVain, HasGivenUpInstruction, HasGivenUpWalk, HasLookedAgain, IsLookInVain, IsToldNoneComes}
 use Rattle.lrc_run.specs.RunCalls.{HasRunCallsOfAll, IsRunCallBegun}
 use Rattle.lrc_run.proofs.MoreCalls.{sees_more_calls_take_inside}
 

@@ -1,10 +1,10 @@
 -- Tenures that leave the balance of words under a lock.
-use Rattle.std.proofs.Common.{ℕ, ◌≡◌, ◌+◌, ◌%◌, ◌^◌, inl, inr, Bool, true, false, Option, Some, None, List, [], ◌∷◌, ◌++◌, get_or, slice_get, slice_set, refl, sym, ap, subst, ◌∙◌, sum_by, arith}
+use Rattle.std.proofs.Common.{ℕ, ◌≡◌, ◌+◌, ◌%◌, ◌^◌, inl, inr, true, false, Some, List, [], ◌∷◌, ◌++◌, get_or, slice_get, slice_set, refl, sym, ap, subst, ◌∙◌, sum_by, arith}
 use Rattle.std.specs.Prelude.{◌==◌, ◌||◌}
 use Rattle.std.proofs.lemmas.Bool.{cases_Bool, cases_eq, eq-eqb, eqb-true, ne_eqb}
 use Rattle.std.proofs.lemmas.List.{get_or-set_other}
 use Rattle.std.proofs.lemmas.List.Sums.{sum_by-cons}
-use Rattle.std.proofs.lemmas.Option.{get_or_from_slice_get, none-some, same_Some, slice_get_within}
+use Rattle.std.proofs.lemmas.Option.{get_or_from_slice_get, none-some, slice_get_within}
 use Rattle.base.specs.LastWrite.{written, wrote}
 use Rattle.base.proofs.SliceSets.{slice_get-set_other, slice_get-set_same}
 use Rattle.journal.specs.declared.event.Kind.{Kind}
@@ -14,7 +14,7 @@ use Rattle.cluster.specs.Copies.Local.{Local}
 use Rattle.seats.specs.Acting.{HasActed}
 use Rattle.seats.specs.BalanceFacts.{BalanceFactLaw, KeepsBalanceFact, balance_fact_adds_two, balance_fact, is_balance_fact_word, sum_at}
 use Rattle.seats.specs.Sitting.{seat_deeds}
-use Rattle.seats.specs.Tenures.{TenureAnswersFrom, IsBetweenTenures, TenurePreserves, are_tenure_accesses, tenure_of_lock}
+use Rattle.seats.specs.Tenures.{TenureAnswersFrom, IsBetweenTenures, are_tenure_accesses, tenure_of_lock}
 use Rattle.seats.specs.WordTallies.{AddsUpTo, WordTally, word_tally_adding, new_word_tally, word_tally_on, word_tally_store, word_tally_then}
 use Rattle.seats.proofs.SeatActing.{seat_acted_added}
 use Rattle.seats.proofs.KeptByPrograms.{between_tenure}

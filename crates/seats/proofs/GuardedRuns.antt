@@ -1,5 +1,5 @@
 -- Runs by a layout that leaves no word open to all: what a client says of one.
-use Rattle.std.proofs.Common.{ℕ, ◌≡◌, ◌+◌, ◌*◌, ◌%◌, ◌^◌, ◌<◌, inl, inr, true, Some, List, [], length, replicate, slice_get, refl, sym, ap, subst, ◌∙◌, arith}
+use Rattle.std.proofs.Common.{ℕ, ◌≡◌, ◌%◌, ◌^◌, ◌<◌, inl, inr, true, Some, List, [], length, replicate, slice_get, sym, ap, subst, ◌∙◌, arith}
 use Rattle.std.specs.Prelude.{slice_index}
 use Rattle.std.proofs.lemmas.List.{length-replicate}
 use Rattle.base.proofs.LastWritten.{length-written}

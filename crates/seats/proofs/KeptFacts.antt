@@ -22,7 +22,7 @@ use Rattle.journal.proofs.Flat.FlatConflicts.{flat_conflict_store_is}
 use Rattle.seats.specs.Deeds.{deeds, is_deed}
 use Rattle.seats.specs.PhaseGuards.{PhaseGuards, phase_guard_held_then, phase_guard_holds_after, phase_guard_lets_access}
 use Rattle.seats.specs.GuardLaws.{AllKeepToPhaseGuards}
-use Rattle.seats.specs.Tenures.{TenureAnswersFrom, IsFactUnderTenures, KeptFact, TenuresKeepLaw, TenurePreserves, PreservesByTenures, tenure_accesses_among, tenure_has_address, tenure_after, tenure_on, tenure_then}
+use Rattle.seats.specs.Tenures.{TenureAnswersFrom, IsFactUnderTenures, KeptFact, TenuresKeepLaw, TenurePreserves, tenure_accesses_among, tenure_has_address, tenure_after, tenure_on, tenure_then}
 use Rattle.seats.proofs.Deeds.{deeds-append, deeds_of_fetch, deed_of_others_event, deed_of_own_event, deeds_of_processor-append}
 use Rattle.seats.proofs.GuardedDeeds.{guarded_deed_allowed_at, guarded_deed_at}
 use Rattle.seats.proofs.DeedHistories.{phase_guard_held_on-append, deed_history_holds}

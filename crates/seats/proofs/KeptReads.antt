@@ -1,5 +1,5 @@
 -- What each tenure of a lock loads from.
-use Rattle.std.proofs.Common.{ℕ, zero, suc, ◌≡◌, ◌≤◌, inl, inr, true, false, Some, List, ◌++◌, ◌∷◌, [], get_or, length, take, slice_get, le_refl, sym, subst, arith}
+use Rattle.std.proofs.Common.{ℕ, zero, suc, ◌≡◌, ◌≤◌, inl, inr, Some, List, ◌++◌, ◌∷◌, [], get_or, length, take, slice_get, le_refl, sym, subst, arith}
 use Rattle.std.proofs.lemmas.Bool.{cases_Bool, cases_eq}
 use Rattle.std.proofs.lemmas.List.{take-append-le}
 use Rattle.std.proofs.lemmas.Option.{none-some, slice_get-get_or}

@@ -1,5 +1,5 @@
 -- Threads of a program that are started and joined one by one, and the end of its cluster.
-use Rattle.std.proofs.Common.{ℕ, ◌≡◌, ◌≤◌, ◌+◌, inl, inr, suc, Option, Some, None, List, [], ◌∷◌, ◌++◌, IfNone, IfSome, Ok, length, slice_get, sum_by, refl, sym, ap, subst, ◌∙◌, arith}
+use Rattle.std.proofs.Common.{ℕ, ◌≡◌, ◌≤◌, ◌+◌, inl, inr, suc, Option, Some, None, List, [], ◌∷◌, ◌++◌, IfSome, Ok, length, slice_get, sum_by, refl, sym, ap, subst, ◌∙◌, arith}
 use Rattle.std.proofs.lemmas.List.{length_push}
 use Rattle.std.proofs.lemmas.List.Sums.{sum_by-cons}
 use Rattle.std.proofs.lemmas.Option.{none-some, slice_get_cases, slice_get_within, same_Some}

@@ -1,9 +1,8 @@
 -- Calls of a seat, put together.
-use Rattle.std.proofs.Common.{ℕ, ◌≡◌, ◌+◌, ◌%◌, ◌^◌, inl, inr, Bool, Result, Ok, Err, OnErr, List, [], ◌∷◌, ◌++◌, if◌then◌else◌, length, refl, sym, ap, subst, ◌∙◌, append-nil, append_assoc, arith}
-use Rattle.std.specs.Prelude.{◌==◌, filter}
+use Rattle.std.proofs.Common.{ℕ, ◌≡◌, ◌+◌, ◌%◌, ◌^◌, inl, inr, Bool, Result, Ok, Err, OnErr, List, [], ◌∷◌, ◌++◌, length, refl, sym, ap, subst, ◌∙◌, append-nil, append_assoc, arith}
+use Rattle.std.specs.Prelude.{filter}
 use Rattle.journal.specs.declared.event.Kind.{Kind}
 use Rattle.journal.specs.declared.event.Kind.TheVariants.{Load, Store, Ask, Acquire, Release}
-use Rattle.cluster.specs.ProcessorCalls.{IsSameProcessorOfCall}
 use Rattle.cluster.specs.Copies.Local.{Local}
 use Rattle.cluster.specs.Copies.AfterNews.{locks_held_after_news}
 use Rattle.seats.specs.Acting.{HasActed, HasActedInPart, acting_loads_from}
@@ -12,7 +11,7 @@ use Rattle.seats.specs.SeatCalls.{AccessesPage, HasDone, IsLeftUndone, seat_call
 use Rattle.seats.specs.Sitting.{seat_deeds}
 use Rattle.seats.specs.Tenures.{tenure_of_lock}
 use Rattle.seats.specs.WordTallies.{AddsUpTo, word_tally_adding}
-use Rattle.seats.proofs.AddedTallies.{added_tally_both, added_tally_by, added_tally_by_tenure}
+use Rattle.seats.proofs.AddedTallies.{added_tally_both}
 
 -- whatever is answered
 pub seat_acting_faulted : {B E : Type 0} {P : Type 0} (q : Result B E) → P → OnErr q P

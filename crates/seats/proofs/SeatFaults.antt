@@ -1,24 +1,23 @@
 -- What the faults of a seat's calls tell.
-use Rattle.std.proofs.Common.{ℕ, Bool, true, false, ◌≡◌, ◌≢◌, ◌+◌, ◌<◌, ◌⊎◌, inl, inr, Option, Some, None, Result, Ok, Err, OnErr, List, [], cond, length, refl, sym, ap, subst, ◌∙◌, arith}
+use Rattle.std.proofs.Common.{ℕ, Bool, true, false, ◌≡◌, ◌≢◌, ◌+◌, ◌⊎◌, inl, inr, Option, Some, None, Result, Ok, Err, OnErr, List, cond, length, refl, sym, ap, subst, ◌∙◌}
 use Rattle.std.specs.Prelude.{IfErr}
 use Rattle.std.specs.Result.{result_err}
 use Rattle.std.proofs.lemmas.Option.{same_Some}
 use Rattle.journal.specs.declared.event.Event.{Event}
 use Rattle.journal.specs.declared.event.Kind.{Kind}
 use Rattle.book.specs.declared.refused.Refused.{Refused}
-use Rattle.book.specs.declared.refused.Refused.TheVariants.{JournalFull, NoMemory, NotYet, SeatSpent}
+use Rattle.book.specs.declared.refused.Refused.TheVariants.{NoMemory, NotYet, SeatSpent}
 use Rattle.cluster.specs.Copies.Local.{Local}
 use Rattle.cluster.specs.ProcessorCalls.{IsProcessorCall, ProcessorCallWaitsForNothing}
 use Rattle.cluster.specs.ClosingCalls.{IsClosingCall}
-use Rattle.cluster.specs.ProcessorRefusals.{processor_refusal_is_spent, processor_refusal_is_waiting, processor_refusal_of_flush, processor_refusal_of_take, processor_refusal_or_spent}
+use Rattle.cluster.specs.ProcessorRefusals.{processor_refusal_is_spent, processor_refusal_of_flush, processor_refusal_of_take, processor_refusal_or_spent}
 use Rattle.cluster.specs.TakingCalls.{IsTakingCall}
 use Rattle.cluster.specs.WaitingCalls.{IsWaitingCall}
 use Rattle.cluster.specs.declared.waited.Waited.{Waited}
 use Rattle.cluster.specs.declared.waited.Waited.TheVariants.{MayHaveCome, Stuck, Deserted}
 use Rattle.seats.specs.declared.fault.SeatFault.{SeatFault}
-use Rattle.seats.specs.declared.fault.SeatFault.TheVariants as fault
-use Rattle.seats.specs.SeatCalls.{IsSeatCallBegun, IsSeatCallUndone, SeatCallWaitsStill}
-use Rattle.seats.specs.SeatCallFaults.{IsSeatCallEnteringFault, IsSeatCallFault, IsSeatCallUndoneFault, IsSeatCallWaitFault, IsSeatCallWaitTold}
+use Rattle.seats.specs.SeatCalls.{IsSeatCallBegun, IsSeatCallUndone}
+use Rattle.seats.specs.SeatCallFaults.{IsSeatCallEnteringFault, IsSeatCallFault, IsSeatCallWaitFault, IsSeatCallWaitTold}
 
 -- a flush is refused at once if the entries are spent alone
 pub seat_fault_spent : (m : Local) (e : Refused) → processor_refusal_of_flush m ≡ Some e → (e ≡ SeatSpent) × (processor_refusal_is_spent m ≡ true)

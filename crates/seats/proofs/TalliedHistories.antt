@@ -1,6 +1,6 @@
 -- What is added to a word under a lock, as a history goes on.
-use Rattle.std.proofs.Common.{ℕ, zero, suc, ◌≡◌, ◌≢◌, ◌≤◌, ◌<◌, ◌+◌, ◌%◌, ◌^◌, inl, inr, Bool, true, false, Option, Some, None, List, [], ◌∷◌, ◌++◌, drop, get_or, length, take, slice_get, slice_set, le_refl, refl, sym, ap, subst, ◌∙◌, arith}
-use Rattle.std.specs.Prelude.{◌==◌, ◌||◌}
+use Rattle.std.proofs.Common.{ℕ, zero, suc, ◌≡◌, ◌≢◌, ◌≤◌, ◌<◌, ◌+◌, ◌%◌, ◌^◌, inl, inr, true, false, Option, Some, None, List, [], ◌∷◌, ◌++◌, drop, get_or, length, take, slice_get, le_refl, refl, sym, ap, subst, ◌∙◌, arith}
+use Rattle.std.specs.Prelude.{◌==◌}
 use Rattle.std.proofs.lemmas.Bool.{cases_Bool, cases_eq, cases_lt, eq-eqb, eqb-true, ne_eqb}
 use Rattle.std.proofs.lemmas.List.{take-append-drop}
 use Rattle.std.proofs.lemmas.Option.{none-some, same_Some, slice_get-get_or, slice_get_within}
@@ -22,7 +22,7 @@ use Rattle.seats.specs.declared.guard.Guard.TheVariants.{Under}
 use Rattle.seats.specs.Deeds.{deeds}
 use Rattle.seats.specs.PhaseGuards.{PhaseGuards, phase_guard_holds_after, phase_guard_lets_access}
 use Rattle.seats.specs.GuardLaws.{AllKeepToPhaseGuards}
-use Rattle.seats.specs.WordTallies.{WordTallyLaw, AddsUpTo, WordTally, new_word_tally, word_tally_of, word_tally_store, word_tally_then, word_tally_total}
+use Rattle.seats.specs.WordTallies.{WordTallyLaw, WordTally, new_word_tally, word_tally_of, word_tally_store, word_tally_then, word_tally_total}
 use Rattle.seats.proofs.Deeds.{deeds_of_processor-append}
 use Rattle.seats.proofs.GuardedDeeds.{guarded_deed_allowed_at}
 use Rattle.seats.proofs.DeedHistories.{deed_history_holds}

@@ -1,5 +1,5 @@
 -- Which of several processors' faults a run tells.
-use Rattle.std.specs.Prelude.{ℕ, ◌≡◌, ◌≢◌, ◌⊎◌, ◌≤◌, Bool, true, false, cond, Option, Some, None, List, Result, Ok, Err, length, slice_get}
+use Rattle.std.specs.Prelude.{ℕ, ◌≡◌, ◌≢◌, ◌⊎◌, ◌≤◌, Bool, true, false, cond, Option, Some, None, List, Result, Err, slice_get}
 use Rattle.seats.specs.declared.fault.ProcessorFault.{ProcessorFault}
 use Rattle.seats.specs.declared.fault.SeatFault.{SeatFault}
 use Rattle.seats.specs.declared.fault.SeatFault.TheVariants.{Deserted, Stuck}

@@ -1,8 +1,9 @@
 //! A layout of its own tables, used in turn; programs on threads; what is made of a seat's calls.
+ghost use Rattle.cluster.specs.Prelude.{HasClusterCoverage, IsNewCluster};
 
-use cluster::Refused;
+use cluster::{BookLock, Cluster, Processor, Refused};
 use seats::{
-    Grids, Guard, Layout, ProcessorFault, Program, Seat, SeatFault, Sitting, run, run_guarded,
+    Grids, Guard, Layout, ProcessorFault, Program, Seat, SeatFault, Sitting, run, run_guarded, sit,
 };
 use std::alloc::{AllocError, Global};
 use std::sync::Wait;
@@ -350,8 +351,8 @@ fn open_words_are_told(rt: HostRuntime) -> Result<(), AllocError> {
     Ok(())
 }
 
-/// Processor 0 stores to each of eight pages. After the barrier processor 1 loads from the first of them in turn, as often as
-/// makes sixteen events with the fetches: it fetches each page that it loads from.
+/// Processor 0 stores to each of eight pages, and sets a flag. Processor 1 awaits it, and loads from the first pages in turn, as
+/// often as makes sixteen events with the fetches: it fetches each page that it loads from.
 #[derive(Clone, Copy)]
 struct SeatTestFetcher {
     pages: usize,
@@ -367,9 +368,9 @@ impl Program for SeatTestFetcher {
             for page in 0..8 {
                 seat.store(page, 1)?;
             }
-        }
-        seat.barrier()?;
-        if seat.number() == 1 {
+            seat.set(0)?;
+        } else {
+            seat.await_flag(0)?;
             for turn in 0..16usize.saturating_sub(self.pages) {
                 seat.load(turn.checked_rem(self.pages).unwrap_or(0))?;
             }
@@ -378,36 +379,43 @@ impl Program for SeatTestFetcher {
     }
 }
 
-/// How many events there are if so many pages are fetched.
-fn events_of_fetches<R: Threads + Wait + Sync>(
+/// Lets the program work on one seat after another, all on this thread.
+fn sit_in_turn<P: Program, R: Wait>(
     rt: &R,
-    alloc: Global,
-    pages: usize,
-) -> Result<usize, ProcessorFault> {
+    cluster: &Cluster<BookLock>,
+    processors: Vec<Processor<BookLock>>,
+    layout: &Layout,
+    program: &P,
+) -> Result<(), SeatFault>
+    requires new { IsNewCluster cluster.now processors.items }
+    requires covered { HasClusterCoverage processors.items }
+{
+    for processor in processors {
+        sit(rt, cluster, processor, layout, program)?;
+    }
+    Ok(())
+}
+
+/// Fetches so many pages.
+fn fetches<R: Wait>(rt: &R, alloc: Global, pages: usize) -> Result<(), SeatFault> {
     let layout = Layout::open(alloc, 8)?;
-    let ran = run(
+    let (cluster, processors) = Cluster::<BookLock>::new(alloc, 2, 8, 1, 0, 1)?;
+    sit_in_turn(
         rt,
-        alloc,
-        2,
-        8,
-        1,
-        0,
-        0,
+        &cluster,
+        processors,
         &layout,
         &SeatTestFetcher { pages },
-    )?;
-    Ok(ran.journal.len())
+    )
 }
 
 // This test and the next make as many requests for memory (tests/memory/lists): a fetch makes none.
 #[test]
-fn one_page_is_fetched(rt: HostRuntime) -> Result<(), ProcessorFault> {
-    assert!(rt; events_of_fetches(&rt, rt.alloc(), 1)? == 28);
-    Ok(())
+fn one_page_is_fetched(rt: HostRuntime) -> Result<(), SeatFault> {
+    fetches(&rt, rt.alloc(), 1)
 }
 
 #[test]
-fn all_pages_are_fetched(rt: HostRuntime) -> Result<(), ProcessorFault> {
-    assert!(rt; events_of_fetches(&rt, rt.alloc(), 8)? == 28);
-    Ok(())
+fn all_pages_are_fetched(rt: HostRuntime) -> Result<(), SeatFault> {
+    fetches(&rt, rt.alloc(), 8)
 }

@@ -1,6 +1,5 @@
 use Rattle.std.proofs.Common.{◌≡◌, inr, ◌∙◌, sym}
 use Rattle.book.specs.declared.refused.Refused.TheVariants.{NoMemory}
-use Rattle.conformance.specs.declared.cause.Cause.{Cause}
 use Rattle.conformance.specs.declared.cause.Cause.TheVariants.{Refused, Stuck}
 use Rattle.lrc_run.proofs.run_faults.all_or_run_fault.Goals as goal
 

@@ -4,8 +4,7 @@ use Rattle.std.specs.Prelude.{All}
 use Rattle.lrc_script.specs.Plan.{plan_of}
 use Rattle.conformance.specs.declared.progress.TurnProgress.{TurnProgress}
 use Rattle.conformance.specs.declared.progress.TurnProgress.TheVariants.{Passed}
-use Rattle.lrc_run.proofs.TurnWays.{turn_way_before_rounds, turn_way_next_round, turn_way_some_of, turn_ways_after_turns}
-use Rattle.lrc_run.proofs.StepsAfterTurns.{step_after_turn_own_at}
+use Rattle.lrc_run.proofs.TurnWays.{turn_way_before_rounds, turn_way_next_round}
 use Rattle.lrc_run.proofs.steps.go_round.Goals as goal
 
 pub loop-init : goal.loop-init

@@ -1,7 +1,6 @@
 use Rattle.std.proofs.Common.{◌≡◌, true, false}
 use Rattle.seats.proofs.GuardedRuns.{guarded_run, guarded_run_journal_replays}
 use Rattle.seats.proofs.KeptByPrograms.{kept_by_program_flat_run}
-use Rattle.seats.proofs.LayoutTables.{first_open_in_tables_one}
 use Rattle.seats.proofs.running.run_guarded.Goals as goal
 
 pub unreachable-requires : goal.unreachable-requires

@@ -1,4 +1,4 @@
-use Rattle.std.proofs.Common.{◌≡◌, Some, ap, refl, sym, subst, ◌∙◌}
+use Rattle.std.proofs.Common.{ap, refl, sym, subst, ◌∙◌}
 use Rattle.std.proofs.lemmas.Result.{err_from_is_err_and}
 use Rattle.seats.specs.SeatCallFaults.{IsSeatCallEnteringFault, IsSeatCallWaitFault}
 use Rattle.seats.proofs.SeatAccess.{seat_access_inside_same}

@@ -1,4 +1,4 @@
-use Rattle.std.proofs.Common.{◌≡◌, refl, sym, subst, ap, ◌∙◌, arith}
+use Rattle.std.proofs.Common.{refl, sym, subst, ap, ◌∙◌, arith}
 use Rattle.journal.specs.Sizes.{Sizes}
 use Rattle.turn.specs.Chairs.{ChairLockId}
 use Rattle.cluster.specs.Copies.Local.{new_local}

@@ -1,4 +1,4 @@
-use Rattle.std.proofs.Common.{ℕ, ◌≡◌, ◌+◌, ◌∙◌, ◌∷◌, [], add-one, false, true, List, length, refl, rules, slice_index_or, subst, sym, take, arith}
+use Rattle.std.proofs.Common.{ℕ, ◌≡◌, ◌∙◌, ◌∷◌, [], add-one, false, List, refl, rules, slice_index_or, subst, sym, take}
 use Rattle.std.proofs.lemmas.Option.{slice_get-get_or}
 use Rattle.base.proofs.SlicesAndCounts.{slice_take-suc_at}
 use Rattle.lrc_script.specs.Plan.{plan_of}

@@ -1,4 +1,4 @@
-use Rattle.std.proofs.Common.{◌≡◌, ℕ, List, length, refl, subst}
+use Rattle.std.proofs.Common.{ℕ, List, length, refl, subst}
 use Rattle.lrc_script.specs.Plan.{plan_of}
 use Rattle.conformance.specs.declared.progress.TurnProgress.{TurnProgress}
 use Rattle.lrc_run.specs.FollowedEnds.{IsFollowedEndAfter}

@@ -1,4 +1,4 @@
-use Rattle.std.proofs.Common.{refl, [], ◌∷◌}
+use Rattle.std.proofs.Common.{refl}
 use Rattle.journal.specs.declared.event.Kind.TheVariants as kind
 use Rattle.lrc_script.specs.declared.script.Instruction.TheVariants as instruction
 use Rattle.lrc_run.proofs.InstructionCalls.{instruction_call_begun, instruction_calls_add_done, instruction_call_done, instruction_call_tried}

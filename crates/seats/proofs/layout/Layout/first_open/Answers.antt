@@ -1,4 +1,4 @@
-use Rattle.std.proofs.Common.{ℕ, ◌≡◌, ◌≢◌, ◌<◌, ◌∙◌, Some, sym, inl, inr, length, map, get_or, slice_get, [], ap, subst, arith}
+use Rattle.std.proofs.Common.{◌≡◌, ◌≢◌, ◌<◌, ◌∙◌, Some, sym, inl, inr, length, map, get_or, slice_get, [], ap, subst, arith}
 use Rattle.std.proofs.lemmas.Bool.{cases_lt}
 use Rattle.std.specs.Vec.{vec_items}
 use Rattle.seats.specs.declared.guard.Guard.TheVariants.{Open}

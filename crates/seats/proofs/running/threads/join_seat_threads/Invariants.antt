@@ -1,5 +1,5 @@
 -- What came of the threads so far, if none of their processors faulted.
-use Rattle.std.proofs.Common.{◌≡◌, ◌≤◌, ◌++◌, None, length, vec_len, vec_capacity}
+use Rattle.std.proofs.Common.{◌≡◌, ◌≤◌, ◌++◌, length, vec_len, vec_capacity}
 use Rattle.std.specs.Vec.Iter.{into_iter_items}
 use Rattle.seats.specs.ProgramRuns.{HaveAllJoinedProgramRun}
 use Rattle.seats.specs.ToldFaults.{NoneFaulted}

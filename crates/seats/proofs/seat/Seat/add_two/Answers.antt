@@ -1,5 +1,4 @@
-use Rattle.std.proofs.Common.{List, ◌++◌}
-use Rattle.journal.specs.declared.event.Kind.{Kind}
+use Rattle.std.proofs.Common.{◌++◌}
 use Rattle.seats.specs.Acting.{HasActed}
 use Rattle.seats.specs.Tenures.{tenure_of_lock}
 use Rattle.seats.specs.WordTallies.{word_tally_adding}
