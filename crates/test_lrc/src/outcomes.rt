@@ -142,8 +142,16 @@ fn sampled_runs(rt: HostRuntime) -> Result<(), Fail> {
             6,
             b"runs 7\nverdicts race-free 0 racy 7 stuck 0\nresult 4 racy words 0 2 schedule -\nresult 3 racy words 0 1 schedule 0,2,1,2,1\n",
         ),
-        (STICKS, 0, b"runs 1\nverdicts race-free 0 racy 0 stuck 1\nresult 1 stuck 0 schedule -\n"),
-        (STICKS, 2, b"runs 3\nverdicts race-free 0 racy 0 stuck 3\nresult 3 stuck 0 schedule -\n"),
+        (
+            STICKS,
+            0,
+            b"runs 1\nverdicts race-free 0 racy 0 stuck 1\nresult 1 stuck 0 schedule -\n",
+        ),
+        (
+            STICKS,
+            2,
+            b"runs 3\nverdicts race-free 0 racy 0 stuck 3\nresult 3 stuck 0 schedule -\n",
+        ),
     ];
     for (script, seeds, text) in rows {
         assert!(&rt; has_text(&rt, rt.alloc(), script, seeds, text)?);
