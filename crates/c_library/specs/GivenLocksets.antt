@@ -1,5 +1,5 @@
 -- What is answered of a history whose words are to be told that need a lock and have none.
-use Rattle.std.specs.Prelude.{ℕ, ◌≡◌, ◌<◌, ◌⊎◌, List, Some, length, map}
+use Rattle.std.specs.Prelude.{ℕ, ◌≡◌, ◌==◌, ◌<◌, ◌⊎◌, cond, List, Some, length, map}
 use Rattle.std.specs.Global.{Vec}
 use Rattle.judge.specs.JudgedSizes.{AreJudgedSizes}
 use Rattle.judge.specs.declared.locksets.lockset_finder.LocksetWords.{LocksetWords}
@@ -23,8 +23,7 @@ use Rattle.c_library.specs.ToldWords.{AreToldWordsWritten}
 
 -- the words that the number names: those whose lock was forgotten somewhere; or those that never have one, too
 abbrev pub given_lockset_words : ℕ → LocksetWords
-given_lockset_words 0 = words.Forgotten
-given_lockset_words _ = words.All
+given_lockset_words which = cond (which == 0) words.Forgotten words.All
 
 -- the rules by which they are looked for
 abbrev pub given_lockset_rules : GivenRules → ℕ → Rules

@@ -11,7 +11,7 @@ pub returns-clause-told : goal.returns-clause-told
 returns-clause-told c =
     let s = given_sizes c.args.sizes in
     let found = c.in_ok-found.found in
-    let taken = c.in_ok-history.ensures in
+    let taken = c.in_ok-history.ensures.taken in
     let is : c.deref.result.now ≡ map given_event_of c.args.events.now = c.deref.ensures.value ∙ taken.is in
     record {
       judged = taken.judged;
@@ -25,10 +25,10 @@ returns-clause-told c =
     }
 
 pub judge_history-requires-clause-sizes : goal.judge_history-requires-clause-sizes
-judge_history-requires-clause-sizes c = (subst AreJudgedSizes (sym c.sizes.ensures) c.in_ok-history.ensures.judged.small).streamed
+judge_history-requires-clause-sizes c = (subst AreJudgedSizes (sym c.sizes.ensures) c.in_ok-history.ensures.taken.judged.small).streamed
 
 pub judge_history-requires-clause-few : goal.judge_history-requires-clause-few
-judge_history-requires-clause-few c = omega (arith, c.in_ok-history.ensures.few, ap length c.deref.ensures.value)
+judge_history-requires-clause-few c = omega (arith, c.in_ok-history.ensures.taken.few, ap length c.deref.ensures.value)
 
 pub rules-requires : goal.rules-requires
-rules-requires c = c.in_ok-history.ensures.judged.rules
+rules-requires c = c.in_ok-history.ensures.taken.judged.rules
