@@ -12,7 +12,7 @@
 //! book before a call, that history with the call's events represents it after ([`laws`]); after a cut the same history
 //! does, and the journal holds what is left of it.
 //!
-//! **What is only tested** (in `test_memory`): the texts of [`Refused`], the rows of the book's calls.
+//! **What is only tested**: the texts of [`Refused`] (in `test_lrc`), the rows of the book's calls (in `tests/calls`).
 #![tactic(auto)]
 
 mod book;

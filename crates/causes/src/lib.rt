@@ -27,7 +27,7 @@
 //! earlier; a flag, and whether it is set; or exactly the processors that have not arrived. `explain` has what
 //! `sources_of_loads`, `race`, `incoming_news` and `final_waits` tell.
 //!
-//! **What is only tested** (crate `test_explanations`): that memory isn't refused needlessly, and that each refusal is answered.
+//! **What is only tested** (in `tests/memory`): that memory isn't refused needlessly, and that each refusal is answered.
 #![tactic(auto)]
 
 mod apart;

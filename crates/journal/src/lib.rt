@@ -9,7 +9,7 @@
 //! Traffic define, and up to its first race an explained journal replays. Lemmas for the crates above lie in proofs/, a
 //! folder a topic. `EventClocks` has the timestamps of a journal that is taken an event at a time (`AreClocks`).
 //!
-//! **What is only tested** (in `test_memory`): that memory isn't refused needlessly, and that a journal of 2^20 events is
+//! **What is only tested** (in `tests/calls`): that memory isn't refused needlessly, and that a journal of 2^20 events is
 //! checked in a test's time.
 #![tactic(auto)]
 

@@ -16,7 +16,7 @@
 //! There is a `History` of some events, or of a journal, exactly if they are within its sizes; so whoever is handed one need
 //! not ask that.
 //!
-//! **What is only tested** (crate `test_memory`): that these definitions say what they are to say, by histories worked
+//! **What is only tested** (in `tests/texts` and `tests/checking`): that these definitions say what they are to say, by traces worked
 //! by hand; and that `first_ill_formed` judges 2^20 events in a test's time.
 #![tactic(auto)]
 

@@ -16,7 +16,7 @@
 //! a journal is, behind its sizes, the text of a trace of its events where nothing was cut off, and is refused as a cut
 //! journal's where something was; a well formed journal is a trace.
 //!
-//! **What is only tested** (in `test_lrc`): which fault is answered among several on one line, the texts of the
+//! **What is only tested** (in `tests/texts`): which fault is answered among several on one line, the texts of the
 //! faults, and that memory isn't wanted needlessly.
 
 mod event_name;

@@ -8,7 +8,7 @@
 //! `render_explained_trace` answers Ok only where it wrote a text that ends with what was found of the trace.
 //! The loads' sources, the ways to them, the race and the records that are told are those of crate `causes`.
 //!
-//! **What is only tested** (in `test_explanations`): the rest of the text, which `lrc_prose` puts together, and that it is one write.
+//! **What is only tested** (in `tests/texts` and `tests/program`): the rest of the text, which `lrc_prose` puts together, and that it is one write.
 #![tactic(auto)]
 
 mod chronicle;

@@ -18,7 +18,7 @@
 //!
 //! **What is only tested**: the lines of outcomes and of who waits, that `step` comes by a run's schedule to what is told
 //! of it, that no schedule shows an outcome that is told as one by the rules alone (module `orders`; cases of
-//! `tests/program`, and `tests/exploring`), and that the text is one write (`test_lrc`).
+//! `tests/program`, and `tests/exploring`), and that the text is one write.
 #![tactic(auto)]
 
 mod allowed_showing_text;

@@ -26,7 +26,7 @@
 //! page has its processor's vector timestamp after it, exactly the words that it writes in copies, and exactly the records by
 //! which copies go stale (specs/Changes).
 //!
-//! **What is only tested** (crate `test_explanations`, and `tests/pictures`, which reads files back): that each arrow, edge and bar is
+//! **What is only tested** (in `tests/pictures`, which reads files back): that each arrow, edge and bar is
 //! there; the file's text; of a page its locks, flags and messages, and that it shows the state after each number of events.
 #![tactic(auto)]
 

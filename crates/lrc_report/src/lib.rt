@@ -5,7 +5,7 @@
 //!
 //! **What is proved.** `render` writes the text of a report and nothing else; after a fault a beginning of it.
 //!
-//! **What is only tested** (in `test_lrc`). That many lines are few writes, and that a fault comes exactly if a write
+//! **What is only tested** (in `tests/program`; of a flush in `test_lrc`). That many lines are few writes, and that a fault comes exactly if a write
 //! fails.
 #![tactic(auto)]
 

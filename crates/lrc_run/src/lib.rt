@@ -16,7 +16,7 @@
 //! Drawn turns are those that the seed draws, each from its own order. A `cut` of a script is a call of its processor. A run
 //! that says Stuck has looked as often as it was asked, or was told that what it waits for can't come.
 //!
-//! **What is only tested** (in `test_lrc`): that no run is refused needlessly, and that its threads get on side by
+//! **What is only tested** (in `tests/program`, `test_lrc`): that no run is refused needlessly, and that its threads get on side by
 //! side; that the gate is asked before each instruction; that nobody sleeps for ever; and when a full block is handed in.
 #![tactic(auto)]
 

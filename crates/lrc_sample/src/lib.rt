@@ -10,7 +10,7 @@
 //! that it tells came to its outcome and none before it did, and a script that never races on one flat memory has no racy
 //! outcome.
 //!
-//! **What is only tested** (in `test_lrc`): that other faults than being stuck end a sample, and that the text is one write.
+//! **What is only tested** (in `tests/program`): that other faults than being stuck end a sample, and that the text is one write.
 #![tactic(auto)]
 
 pub mod detail;

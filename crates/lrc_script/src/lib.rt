@@ -8,7 +8,7 @@
 //! and a fault only if they are no lawful script's, with its line; `Display` writes the text, of at most
 //! `MOST_BYTES` bytes (module `laws`).
 //!
-//! **What is only tested** (in `test_lrc`): which fault is answered among several on one line, the texts of the
+//! **What is only tested** (in `tests/texts`): which fault is answered among several on one line, the texts of the
 //! faults, and that no call allocates without need: at the limits of a script, for long lines and for each number.
 #![tactic(auto)]
 
