@@ -3,8 +3,12 @@ use Rattle.std.proofs.Common.{ℕ, zero, suc, ◌≡◌, ◌≢◌, ◌<◌, ◌
 use Rattle.std.proofs.lemmas.List.{length-replicate}
 use Rattle.std.proofs.lemmas.Bool.{cases_eq, cases_order}
 use Rattle.std.proofs.lemmas.Option.{slice_get-get_or, slice_get_within, same_Some, none-some, some_pair_parts}
-use Rattle.base.specs.LastWrite.{wrote, written, HasNoLastWrite, LastWrite}
+use Rattle.base.specs.LastWrite.{wrote, written, LastWrite}
 use Rattle.base.proofs.SliceSets.{slice_get-set_found, slice_get-set_other, slice_get-replicate_found, slice_sets_same}
+
+-- no item writes at place o
+abbrev pub HasNoLastWrite : {A : Type 0} → (A → Option (ℕ × ℕ)) → List A → ℕ → Type 0
+HasNoLastWrite {A} f xs o = (k : ℕ) (y : A) (u : ℕ) → slice_get xs k ≡ Some y → f y ≢ Some (o, u)
 
 -- the last write of a list without its first item is the last write of the whole
 pub last_written_later : {A : Type 0} (f : A → Option (ℕ × ℕ)) (x : A) (xs : List A) (o v : ℕ) → LastWrite f xs o v

@@ -11,10 +11,6 @@ abbrev pub written : {A : Type 0} → (A → Option (ℕ × ℕ)) → List ℕ �
 written f words [] = words
 written f words (x ∷ xs) = written f (wrote words (f x)) xs
 
--- no item writes at place o
-abbrev pub HasNoLastWrite : {A : Type 0} → (A → Option (ℕ × ℕ)) → List A → ℕ → Type 0
-HasNoLastWrite {A} f xs o = (k : ℕ) (y : A) (u : ℕ) → slice_get xs k ≡ Some y → f y ≢ Some (o, u)
-
 -- the last item that writes at place o writes v there
 pub record LastWrite {A : Type 0} (f : A → Option (ℕ × ℕ)) (xs : List A) (o v : ℕ) : Type 0 where
   pub place : ℕ

@@ -12,7 +12,7 @@ use Rattle.base.proofs.SlicesAndCounts.{slice_push_cases, slice_get-append_left,
 use Rattle.journal.specs.declared.event.Event.{Event}
 use Rattle.journal.specs.declared.event.Kind.{Kind}
 use Rattle.journal.specs.declared.event.Kind.TheVariants.{Fetch, Store}
-use Rattle.journal.specs.Blocks.{IsBlock}
+use Rattle.journal.proofs.OwnBlocks.{IsBlock}
 use Rattle.journal.specs.PageImages.{HasPageImageCount, StoredInGapOfPageImage}
 use Rattle.journal.specs.DidEvent.{event}
 use Rattle.journal.specs.Events.{EventAt, event_interval_at, event_closes, event_takes}

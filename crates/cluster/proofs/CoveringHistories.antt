@@ -20,7 +20,7 @@ use Rattle.journal.specs.CopyOrigins.{AreCopyOrigins}
 use Rattle.journal.specs.DidEvent.{event}
 use Rattle.journal.specs.declared.event.Kind.TheVariants.{Load}
 use Rattle.journal.specs.BroughtCopy.{BroughtCopyHasNoGap}
-use Rattle.journal.specs.Blocks.{IsBlock}
+use Rattle.journal.proofs.OwnBlocks.{IsBlock}
 use Rattle.journal.specs.ValidAndStaleCopy.{IsStaleCopy}
 use Rattle.journal.proofs.Journals.MayGoOn.{may_go_on_plain_block}
 use Rattle.journal.proofs.Journals.WellFormedStays.{well_formed_stays_last_shorter}

@@ -7,7 +7,7 @@ use Rattle.std.proofs.lemmas.Simd.{map-map}
 use Rattle.journal.specs.declared.event.Event.{Event}
 use Rattle.journal.specs.declared.event.Kind.TheVariants.{Fetch}
 use Rattle.journal.specs.Events.{event_closes}
-use Rattle.journal.specs.Blocks.{block_with_page}
+use Rattle.journal.proofs.OwnBlocks.{block_with_page}
 use Rattle.journal.specs.FetchesCountGaps.{BlockFetchesCountGaps}
 use Rattle.journal.specs.DidEvent.{event}
 use Rattle.journal.specs.Dirty.{IsDirty}

@@ -1,3 +1,4 @@
+pub mod OwnBlocks
 pub mod Order
 pub mod Journals
 pub mod Times

@@ -4,7 +4,7 @@ use Rattle.journal.specs.declared.event.Event.{Event}
 use Rattle.journal.specs.declared.event.Kind.{Kind}
 use Rattle.journal.specs.Events.{event_count, event_interval_at, event_closes}
 use Rattle.journal.specs.WellFormed.{Does}
-use Rattle.journal.specs.Pasts.{UpTo, InPast}
+use Rattle.journal.specs.Pasts.{InPast}
 
 -- q closes an interval at place i
 pub record ClosesAt (j : List Event) (q i : ℕ) : Type 0 where
@@ -20,7 +20,3 @@ pub record IsTimeIn (j : List Event) (among : ℕ → Type 0) (t : ℕ → ℕ) 
 -- the timestamp of processor p (t is slice_index of its entries)
 abbrev pub IsTimeOf : List Event → ℕ → (ℕ → ℕ) → Type 0
 IsTimeOf j p t = IsTimeIn j (InPast j p) t
-
--- the timestamp of the event at place k, with the event itself
-abbrev pub IsTimeAt : List Event → ℕ → (ℕ → ℕ) → Type 0
-IsTimeAt j k t = IsTimeIn j (UpTo j k) t

@@ -4,7 +4,8 @@ use Rattle.std.specs.Prelude.{None}
 use Rattle.std.proofs.lemmas.Bool.{cases_eq, cases_lt}
 use Rattle.std.proofs.lemmas.List.{length-replicate}
 use Rattle.std.proofs.lemmas.Option.{slice_get-get_or}
-use Rattle.base.specs.LastWrite.{LastWrite, HasNoLastWrite}
+use Rattle.base.specs.LastWrite.{LastWrite}
+use Rattle.base.proofs.LastWritten.{HasNoLastWrite}
 use Rattle.base.proofs.LastWritten.{last_written_word, last_written_word_found, length-written}
 use Rattle.base.proofs.SlicesAndCounts.{slice_push_cases}
 use Rattle.base.proofs.SliceSets.{slice_get-replicate_found}

@@ -11,7 +11,7 @@ use Rattle.base.specs.Limits.{most_in_block}
 use Rattle.journal.specs.declared.event.Event.{Event}
 use Rattle.journal.specs.declared.event.Kind.{Kind}
 use Rattle.journal.specs.declared.event.Kind.TheVariants.{Fetch}
-use Rattle.journal.specs.Blocks.{IsBlock}
+use Rattle.journal.proofs.OwnBlocks.{IsBlock}
 use Rattle.journal.specs.BroughtCopy.{BroughtCopyHasNoGap}
 use Rattle.journal.specs.DidEvent.{event}
 use Rattle.journal.specs.Events.{EventAt, event_address, events_of, event_takes}

@@ -7,7 +7,8 @@ use Rattle.journal.specs.declared.event.Kind.TheVariants.{Load, Store, Fetch, As
 use Rattle.journal.specs.DidEvent.{event, did}
 use Rattle.journal.specs.Sizes.{Sizes}
 use Rattle.journal.specs.Events.{EventAt, event_closes, event_takes}
-use Rattle.journal.specs.Blocks.{block_write, IsBlock}
+use Rattle.journal.specs.Blocks.{block_write}
+use Rattle.journal.proofs.OwnBlocks.{IsBlock}
 use Rattle.journal.specs.CopyOrigins.{TouchesCopy}
 use Rattle.journal.specs.ValidAndStaleCopy.{IsValidCopy, IsStaleCopy}
 use Rattle.journal.specs.IntervalContents.{open_interval_contents}

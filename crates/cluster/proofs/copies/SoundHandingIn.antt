@@ -9,7 +9,7 @@ use Rattle.journal.specs.Events.{EventAt}
 use Rattle.journal.specs.WellFormed.{Does, WellFormed, Holds}
 use Rattle.journal.specs.AwaitedNext.{AwaitsNothingNext}
 use Rattle.journal.specs.Pasts.{InPast}
-use Rattle.journal.specs.Blocks.{IsBlock}
+use Rattle.journal.proofs.OwnBlocks.{IsBlock}
 use Rattle.journal.proofs.Journals.MayGoOn.{MayGoOnPlainAt, may_go_on_plain_block}
 use Rattle.journal.proofs.Journals.HoldsOfOthers.{holds_over_others, holds_before_others}
 use Rattle.journal.proofs.Times.BlockTime.{block_time}

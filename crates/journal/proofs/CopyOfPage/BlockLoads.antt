@@ -10,7 +10,9 @@ use Rattle.journal.specs.Events.{EventAt}
 use Rattle.journal.specs.WellFormed.{Does}
 use Rattle.journal.specs.ExplainedAnswers.{IsAnswer, Explained}
 use Rattle.journal.specs.PageImages.{Lawful}
-use Rattle.journal.specs.Blocks.{block_write, block_done, IsBlock, BlockAnswers, block_with_page}
+use Rattle.journal.specs.Blocks.{block_write, block_done, BlockAnswers}
+use Rattle.journal.proofs.OwnBlocks.{block_with_page}
+use Rattle.journal.proofs.OwnBlocks.{IsBlock}
 use Rattle.base.specs.LastWrite.{wrote}
 use Rattle.base.proofs.SlicesAndCounts.{slice_push_cases, slice_push_induction}
 use Rattle.base.proofs.LastWritten.{written-append}

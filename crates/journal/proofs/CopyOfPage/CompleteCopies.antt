@@ -11,7 +11,7 @@ use Rattle.journal.specs.Pasts.{InPast}
 use Rattle.journal.specs.WellFormed.{Does}
 use Rattle.journal.specs.PageImages.{StoresToPageImage, page_image_write, FetchesPageImage, IsOwnPlaceOfPageImage, InGap, Lawful}
 use Rattle.journal.specs.BroughtCopy.{BroughtToCopy, IsBroughtCopy, BroughtCopyHasNoGap, IsBroughtCopyComplete}
-use Rattle.journal.specs.Blocks.{IsBlock}
+use Rattle.journal.proofs.OwnBlocks.{IsBlock}
 use Rattle.base.specs.InOrderOnce.{Has, InOrder, IsOnce}
 use Rattle.base.specs.AppliedRecords.{records_applied, AreRecordsOf}
 use Rattle.base.proofs.SlicesAndCounts.{slice_append_cases}

@@ -12,7 +12,8 @@ use Rattle.journal.specs.WellFormed.{Does}
 use Rattle.journal.specs.ExplainedAnswers.{IsAnswer, Explained}
 use Rattle.journal.specs.PageImages.{page_image_write, IsImage, Lawful}
 use Rattle.base.specs.InOrderOnce.{Has}
-use Rattle.base.specs.LastWrite.{LastWrite, HasNoLastWrite}
+use Rattle.base.specs.LastWrite.{LastWrite}
+use Rattle.base.proofs.LastWritten.{HasNoLastWrite}
 use Rattle.base.proofs.SlicesAndCounts.{slice_push_cases}
 use Rattle.base.proofs.SliceSets.{slice_get-replicate_found}
 use Rattle.base.proofs.LastWritten.{last_written_word}

@@ -12,7 +12,9 @@ use Rattle.journal.specs.Pasts.{InPast}
 use Rattle.journal.specs.Times.{IsTimeOf}
 use Rattle.journal.specs.PageImages.{InGap, StoresToPageImage, Lawful, HasPageImageCount, GapCounts}
 use Rattle.journal.specs.BroughtCopy.{IsBroughtCopy, BroughtCopyHasNoGap, IsBroughtCopyComplete}
-use Rattle.journal.specs.Blocks.{block_write, block_done, IsBlock, BlockAnswers, block_with_page}
+use Rattle.journal.specs.Blocks.{block_write, block_done, BlockAnswers}
+use Rattle.journal.proofs.OwnBlocks.{block_with_page}
+use Rattle.journal.proofs.OwnBlocks.{IsBlock}
 use Rattle.journal.specs.FetchesCountGaps.{BlockFetchesCountGaps}
 use Rattle.journal.specs.MissingIntervals.{MissingInterval, MissingIntervalsInOrder, AreMissingIntervalsOfNotices}
 use Rattle.journal.specs.CopyOrigins.{TouchesCopy, AreCopyOrigins}

@@ -16,7 +16,8 @@ use Rattle.journal.specs.Base.{Base, no_base}
 use Rattle.journal.specs.HappensBeforeFromBase.{HappensBeforeFromBase}
 use Rattle.journal.specs.ExplainedAnswersFromBase.{LatestExplainedAnswerFromBase, IsAnswerFromBase, ExplainedFromBase}
 use Rattle.journal.specs.RacesFromBase.{RaceFromBase, IsFirstRaceFromBase, RaceFreeFromBase}
-use Rattle.base.specs.LastWrite.{LastWrite, HasNoLastWrite}
+use Rattle.base.specs.LastWrite.{LastWrite}
+use Rattle.base.proofs.LastWritten.{HasNoLastWrite}
 use Rattle.base.proofs.SlicesAndCounts.{slice_get-take, slice_get-from_take, slice_get-take_within}
 use Rattle.base.proofs.LastWritten.{last_written_word, length-written}
 use Rattle.journal.proofs.CopyOfPage.PageStores.{page_store_does_kind, page_store_same}

@@ -14,7 +14,8 @@ use Rattle.journal.specs.ReplayMemory.{replay_memory_write, memory_after}
 use Rattle.journal.specs.Base.{Base}
 use Rattle.journal.specs.ExplainedAnswersFromBase.{IsAnswerFromBase, ExplainedFromBase}
 use Rattle.journal.specs.EpisodeBases.{IsEpisodeBaseOf}
-use Rattle.base.specs.LastWrite.{written, LastWrite, HasNoLastWrite}
+use Rattle.base.specs.LastWrite.{written, LastWrite}
+use Rattle.base.proofs.LastWritten.{HasNoLastWrite}
 use Rattle.base.proofs.SlicesAndCounts.{slice_append_cases}
 use Rattle.base.proofs.SliceSets.{slice_get-replicate_found}
 use Rattle.base.proofs.LastWritten.{last_written_word, last_written_word_found, last_written_exists, length-written}

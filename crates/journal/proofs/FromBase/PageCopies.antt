@@ -8,7 +8,8 @@ use Rattle.std.proofs.lemmas.Option.{slice_get_within, slice_get-get_or, slice_g
 use Rattle.journal.specs.declared.event.Event.{Event}
 use Rattle.journal.specs.declared.event.Kind.TheVariants.{Store}
 use Rattle.base.specs.InOrderOnce.{Has, InOrder}
-use Rattle.base.specs.LastWrite.{LastWrite, HasNoLastWrite}
+use Rattle.base.specs.LastWrite.{LastWrite}
+use Rattle.base.proofs.LastWritten.{HasNoLastWrite}
 use Rattle.journal.specs.DidEvent.{event}
 use Rattle.journal.specs.Sizes.{Sizes, addresses}
 use Rattle.journal.specs.Events.{EventAt}

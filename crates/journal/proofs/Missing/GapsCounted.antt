@@ -10,7 +10,7 @@ use Rattle.journal.specs.Sizes.{Sizes}
 use Rattle.journal.specs.Events.{EventAt}
 use Rattle.journal.specs.WellFormed.{Does}
 use Rattle.journal.specs.PageImages.{InGap, HasPageImageCount, StoredInGapOfPageImage, GapCounts}
-use Rattle.journal.specs.Blocks.{IsBlock}
+use Rattle.journal.proofs.OwnBlocks.{IsBlock}
 use Rattle.journal.specs.FetchesCountGaps.{FetchesCountGaps, BlockFetchesCountGaps}
 use Rattle.base.proofs.SlicesAndCounts.{slice_push_cases, slice_push_induction}
 use Rattle.journal.proofs.Order.EventPlacesAndCounts.{event_place_inside, event_place_longer, event_place_shorter, event_place_at_end}

@@ -10,7 +10,7 @@ use Rattle.journal.specs.Events.{EventAt, event_closes, event_takes, event_inter
 use Rattle.journal.specs.WellFormed.{Does}
 use Rattle.journal.specs.PageImages.{InGap, StoredInGapOfPageImage}
 use Rattle.journal.specs.BroughtCopy.{BroughtCopyHasNoGap}
-use Rattle.journal.specs.Blocks.{IsBlock}
+use Rattle.journal.proofs.OwnBlocks.{IsBlock}
 use Rattle.journal.specs.IntervalContents.{IntervalContentHas, IsIntervalContent}
 use Rattle.journal.specs.MissingIntervals.{MissingInterval, AreMissingIntervals, AreMissingIntervalsOfNotices}
 use Rattle.base.specs.InOrderOnce.{Has}

@@ -11,14 +11,16 @@ use Rattle.journal.specs.Sizes.{Sizes}
 use Rattle.journal.specs.Events.{EventAt}
 use Rattle.journal.specs.WellFormed.{Does}
 use Rattle.journal.specs.PageImages.{FetchesPageImage, InGap}
-use Rattle.journal.specs.Blocks.{block_write, block_done, IsBlock}
+use Rattle.journal.specs.Blocks.{block_write, block_done}
+use Rattle.journal.proofs.OwnBlocks.{IsBlock}
 use Rattle.journal.specs.MissingIntervals.{MissingInterval, AreMissingIntervals, MissingIntervalsInOrder}
 use Rattle.journal.specs.OriginWrites.{OriginWritesWord}
 use Rattle.journal.specs.CopyAnswers.{IsCopyAnswer}
 use Rattle.journal.specs.NewestInGap.{IsNewestInGap}
 use Rattle.journal.specs.CopyOrigins.{TouchesCopy, IsCopyOriginInGap, IsLastCopyOriginInGap, AreCopyOrigins, IsOnlyCopyOriginFetch, AreOpenCopyOrigins}
 use Rattle.journal.specs.CopyOrigins.AreOpenCopyOrigins.{unfetched, fetched}
-use Rattle.base.specs.LastWrite.{LastWrite, HasNoLastWrite}
+use Rattle.base.specs.LastWrite.{LastWrite}
+use Rattle.base.proofs.LastWritten.{HasNoLastWrite}
 use Rattle.base.specs.AppliedRecords.{records_applied}
 use Rattle.base.proofs.LastWritten.{last_written_word}
 use Rattle.base.proofs.SliceSets.{slice_get-replicate_found}

@@ -3,7 +3,7 @@ use Rattle.std.proofs.Common.{◌≡◌, ℕ, List, [], ◌∷◌, ◌++◌, len
 use Rattle.journal.specs.declared.event.Event.{Event}
 use Rattle.journal.specs.Events.{EventAt, event_closes}
 use Rattle.journal.specs.Times.{IsTimeOf}
-use Rattle.journal.specs.Blocks.{IsBlock}
+use Rattle.journal.proofs.OwnBlocks.{IsBlock}
 use Rattle.base.proofs.SlicesAndCounts.{slice_push_induction}
 use Rattle.journal.proofs.Order.EventPlacesAndCounts.{event_place_longer, event_place_at_end}
 use Rattle.journal.proofs.Order.BlockPasts.{block_pasts_front, block_pasts_last}

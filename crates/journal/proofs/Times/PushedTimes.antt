@@ -9,13 +9,17 @@ use Rattle.journal.specs.Events.{EventAt, event_count, event_interval_at, event_
 use Rattle.journal.specs.HappensBeforeEdges.{HappensBefore}
 use Rattle.journal.specs.WellFormed.{Does}
 use Rattle.journal.specs.Pasts.{UpTo, InPast}
-use Rattle.journal.specs.Times.{ClosesAt, IsTimeIn, IsTimeOf, IsTimeAt}
+use Rattle.journal.specs.Times.{ClosesAt, IsTimeIn, IsTimeOf}
 use Rattle.journal.specs.Brings.{Brings}
 use Rattle.base.proofs.SlicesAndCounts.{slice_push_cases}
 use Rattle.journal.proofs.Order.EventPlacesAndCounts.{event_place_at_end, event_place_does, event_count-append, event_count-front, event_count-mono, event_count-past, event_count-inside, event_place_numbered}
 use Rattle.journal.proofs.Order.IntoPast.{into_past_back, into_past_push, into_past_reaches_push, into_past_own, into_past_within, into_past_others, into_past_brings_none}
 use Rattle.journal.proofs.Times.LeavingCloses.{LeavesByClosing, leaving_closes_past, leaving_closes_back_own}
 use Rattle.journal.proofs.Times.TimesOfPlaces.{time_of_places_longer, time_of_places_equal, time_of_places_none, time_of_places_one_event}
+
+-- the timestamp of the event at place k, with the event itself
+abbrev pub IsTimeAt : List Event → ℕ → (ℕ → ℕ) → Type 0
+IsTimeAt j k t = IsTimeIn j (UpTo j k) t
 
 -- a processor's own entry counts its closing events
 pub pushed_time_own_entry : (j : List Event) (p : ℕ) (t : ℕ → ℕ) → IsTimeOf j p t → t p ≡ event_count event_closes j p
