@@ -17,9 +17,9 @@
 #include <time.h>
 #include <unistd.h>
 
-/* After how many accesses the turn passes at the latest, how many of 1024 points lower a priority, how long one waits for a
- * thread that does nothing, and the status of a program that hangs. */
-enum { MOST_ACCESSES = 256, LOWERED = 32, PATIENCE = 200000000, HANGS = 3 };
+/* After how many accesses the turn passes at the latest, how many of 1024 points lower a priority, at one of how many points a
+ * wait's time is over, how long one waits for a thread that does nothing, and the status of a program that hangs. */
+enum { MOST_ACCESSES = 256, LOWERED = 32, TIMELY = 256, PATIENCE = 200000000, HANGS = 3 };
 
 bool is_scheduled;
 
@@ -115,15 +115,25 @@ static _Noreturn void hang(void)
     __builtin_unreachable();
 }
 
-/* Lets the next thread run. The guard is held. If nobody can, a wait whose time counts is over. */
+/* A thread whose wait is over by its time: at drawn points, and if nobody else can go on. */
+static struct thread *too_late(bool is_due)
+{
+    struct thread *thread = is_due || draw(TIMELY) == 0 ? drawn_of(has_time) : NULL;
+
+    if (thread) {
+        thread->turn.awaits = NULL;
+        thread->turn.is_too_late = true;
+    }
+    return thread;
+}
+
+/* Lets the next thread run. The guard is held. */
 static void choose(void)
 {
     struct thread *next = drawn_of(can_run);
 
-    if (!next && (next = drawn_of(has_time))) {
-        next->turn.awaits = NULL;
-        next->turn.is_too_late = true;
-    }
+    if (too_late(!next))
+        next = drawn_of(can_run);
     if (!next && !drawn_of(is_away)) {
         leave_guard();
         hang();

@@ -23,8 +23,16 @@ static inline void run(void *(*one)(void *), void *(*other)(void *))
     pthread_join(threads[1], NULL);
 }
 
-/* Lets the other thread go on first, with no order that a trace shows. */
-static inline void later(void)
+/* Gates, by which one thread waits for another one without an order that a trace shows. */
+static _Atomic int gates[2];
+
+static inline void open_gate(int gate)
 {
-    usleep(20000);
+    atomic_store_explicit(&gates[gate], 1, memory_order_relaxed);
+}
+
+static inline void pass_gate(int gate)
+{
+    while (!atomic_load_explicit(&gates[gate], memory_order_relaxed))
+        sched_yield();
 }

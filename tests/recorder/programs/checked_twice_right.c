@@ -26,7 +26,6 @@ static void *one(void *given)
 
 static void *other(void *given)
 {
-    later();
     make();
     seen[1] = word;
     return given;

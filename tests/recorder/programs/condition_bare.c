@@ -17,7 +17,7 @@ static void *one(void *given)
 static void *other(void *given)
 {
     struct timespec until;
-    later();
+
     pthread_mutex_lock(&mutex);
     clock_gettime(CLOCK_REALTIME, &until);
     if (!ready)

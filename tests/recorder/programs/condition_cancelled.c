@@ -16,6 +16,7 @@ static void *waits(void *given)
 {
     pthread_mutex_lock(&mutex);
     word++;
+    open_gate(0);
     pthread_cleanup_push(frees, NULL);
     for (;;)
         pthread_cond_wait(&changed, &mutex);
@@ -28,7 +29,7 @@ int main(void)
     pthread_t thread;
 
     pthread_create(&thread, NULL, waits, NULL);
-    later();
+    pass_gate(0);
     pthread_cancel(thread);
     pthread_join(thread, NULL);
     pthread_mutex_lock(&mutex);

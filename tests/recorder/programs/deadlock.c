@@ -6,7 +6,8 @@ static pthread_mutex_t mutex = PTHREAD_MUTEX_INITIALIZER, second = PTHREAD_MUTEX
 static void *one(void *given)
 {
     pthread_mutex_lock(&mutex);
-    later();
+    open_gate(0);
+    pass_gate(1);
     pthread_mutex_lock(&second);
     return given;
 }
@@ -14,14 +15,15 @@ static void *one(void *given)
 static void *other(void *given)
 {
     pthread_mutex_lock(&second);
-    later();
+    open_gate(1);
+    pass_gate(0);
     pthread_mutex_lock(&mutex);
     return given;
 }
 
 int main(void)
 {
-    alarm(1);
+    alarm(3);
     run(one, other);
     return 0;
 }

@@ -6,6 +6,7 @@ int word;
 static void *one(void *given)
 {
     word++;
+    open_gate(0);
     return given;
 }
 
@@ -15,7 +16,7 @@ int main(void)
 
     pthread_create(&thread, NULL, one, NULL);
     pthread_detach(thread);
-    later();
+    pass_gate(0);
     word++;
     return 0;
 }

@@ -6,15 +6,12 @@ int word;
 static void *one(void *given)
 {
     word++;
-    later();
     abort();
     return given;
 }
 
 static void *other(void *given)
 {
-    later();
-    later();
     return given;
 }
 

@@ -7,15 +7,17 @@ static void *one(void *given)
     int *block = malloc(64);
     block[0] = 1;
     free(block);
+    open_gate(0);
     return given;
 }
 
 static void *other(void *given)
 {
-    later();
+    pass_gate(0);
     int *block = malloc(64);
     block[0] = 2;
     free(block);
+    open_gate(0);
     return given;
 }
 

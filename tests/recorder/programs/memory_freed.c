@@ -5,7 +5,7 @@ int *block, seen;
 
 static void *one(void *given)
 {
-    later();
+    pass_gate(0);
     free(block);
     return given;
 }
@@ -13,6 +13,7 @@ static void *one(void *given)
 static void *other(void *given)
 {
     seen = block[0];
+    open_gate(0);
     return given;
 }
 

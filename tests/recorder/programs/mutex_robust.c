@@ -8,12 +8,13 @@ static void *one(void *given)
 {
     pthread_mutex_lock(&lock);
     word++;
+    open_gate(0);
     return given;
 }
 
 static void *other(void *given)
 {
-    later();
+    pass_gate(0);
     if (pthread_mutex_lock(&lock) != EOWNERDEAD)
         abort();
     pthread_mutex_consistent(&lock);

@@ -8,7 +8,8 @@ static void *one(void *given)
 {
     pthread_mutex_lock(&mutex);
     word++;
-    usleep(100000);
+    open_gate(0);
+    pass_gate(1);
     pthread_mutex_unlock(&mutex);
     return given;
 }
@@ -16,10 +17,11 @@ static void *one(void *given)
 static void *other(void *given)
 {
     struct timespec until;
-    later();
+    pass_gate(0);
     clock_gettime(CLOCK_REALTIME, &until);
     if (pthread_mutex_timedlock(&mutex, &until) != ETIMEDOUT)
         abort();
+    open_gate(1);
     return given;
 }
 

@@ -8,7 +8,8 @@ static void *one(void *given)
 {
     pthread_rwlock_rdlock(&lock);
     word++;
-    later();
+    open_gate(0);
+    pass_gate(1);
     pthread_rwlock_unlock(&lock);
     return given;
 }
@@ -17,7 +18,8 @@ static void *other(void *given)
 {
     pthread_rwlock_rdlock(&lock);
     word++;
-    later();
+    open_gate(1);
+    pass_gate(0);
     pthread_rwlock_unlock(&lock);
     return given;
 }

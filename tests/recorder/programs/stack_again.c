@@ -8,6 +8,7 @@ static void *one(void *given)
     for (int at = 0; at < 64; at++)
         words[at] = at;
     memset((void *)words, 0, sizeof words);
+    atomic_fetch_add_explicit(&gates[0], 1, memory_order_relaxed);
     return given;
 }
 
@@ -20,7 +21,8 @@ int main(void)
     pthread_attr_setdetachstate(&attributes, PTHREAD_CREATE_DETACHED);
     for (int at = 0; at < 4; at++) {
         pthread_create(&thread, &attributes, one, NULL);
-        later();
+        while (atomic_load_explicit(&gates[0], memory_order_relaxed) <= at)
+            sched_yield();
     }
     return 0;
 }
