@@ -15,7 +15,7 @@ ghost use Rattle.book.specs.Prelude.{HasClosedBeforeBookWaits, IsBlockOfAllowedC
 use crate::done_waiting::all_wait_in_vain;
 use crate::empty::{empty_history, empty_locks, empty_timestamps};
 use crate::journal_room::{append_in_journal_room, make_journal_room};
-use crate::mail::{grant_mail_to, mail_has_come, post_all_mail, receive_mail};
+use crate::mail::{grant_mail_to, mail_has_come, post_all_mail, post_grant_mail, receive_mail};
 use crate::protocol::{Protocol, leave, protocol_flag_with_set};
 use crate::refused::Refused;
 use crate::trims::trim;
@@ -248,9 +248,7 @@ impl Book {
         )?;
         parts.close(processor, Closing::Release(lock), block, interval)?;
         parts.locks.release(lock, processor, time);
-        if let Some((next, message)) = grant {
-            parts.transit.post(next, message);
-        }
+        post_grant_mail(&mut parts.transit, grant);
         Ok(())
     }
 

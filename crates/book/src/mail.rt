@@ -1,6 +1,6 @@
 //! Messages that are made before the interval is closed with which they come.
-ghost use Rattle.std.specs.Prelude.{◌≡◌, ◌≢◌, ℕ, ◌<◌, ◌≤◌, IfOk, IfSome, IsSome, List, OnOk, OnErr, None, Some, true};
-ghost use Rattle.std.specs.Prelude.{length, map, replicate, slice_index, slice_set};
+ghost use Rattle.std.specs.Prelude.{◌≡◌, ◌≢◌, ℕ, ◌<◌, ◌≤◌, IfOk, IfSome, IsSome, MatchOption, List, OnOk, OnErr, None, Some, true};
+ghost use Rattle.std.specs.Prelude.{length, map, replicate, slice_get, slice_index, slice_set};
 ghost use Rattle.std.specs.Option.{option_map};
 ghost use Rattle.journal.specs.Prelude.{closing_awaits_kind};
 ghost use Rattle.interval.specs.Prelude.{SentIntervalPagesRise, HasKeptClosingsBetween, kept_closings_pushed};
@@ -84,6 +84,16 @@ pub(crate) fn post_all_mail(transit: &mut Transit, messages: Vec<Message>)
     let mut messages = messages;
     while let Some(message) = messages.pop() {
         transit.post(messages.len(), message);
+    }
+}
+
+/// Sends the grant, if there is one, to whom it is for, who has no message.
+pub(crate) fn post_grant_mail(transit: &mut Transit, grant: Option<(usize, Message)>)
+    requires { IfSome grant (λ g. slice_get transit.old g.0 ≡ Some None) }
+    ensures { MatchOption grant (transit.new ≡ transit.old) (λ g. transit.new ≡ slice_set transit.old g.0 (Some (letter g.1))) }
+{
+    if let Some((next, message)) = grant {
+        transit.post(next, message);
     }
 }
 

@@ -35,10 +35,21 @@ fn add_sketch_notes(
 ) -> Result<(), AllocError> {
     let mut held = HeldNow::new(alloc, known.sizes.processors)?;
     let mut stale = StaleCopies::new(alloc);
+    add_sketch_notes_by(notes, alloc, known, &mut held, &mut stale)
+}
+
+/// The same, by what is held and which copies are stale, both as the history begins.
+fn add_sketch_notes_by(
+    notes: &mut Vec<Vec<u8>>,
+    alloc: Global,
+    known: &HistoryNotes<'_>,
+    held: &mut HeldNow,
+    stale: &mut StaleCopies,
+) -> Result<(), AllocError> {
     for (place, event) in known.events.iter().enumerate() {
         if !known.numbers.is_cut(place) {
             let mut text = ProseText::new(alloc);
-            known.put_note(&mut text, &held, &stale, place, *event);
+            known.put_note(&mut text, held, stale, place, *event);
             notes.push(text.into_line()?)?;
         }
         held.note(place, *event)?;
@@ -147,25 +158,48 @@ fn sketch_holders_of(
     Ok(holders)
 }
 
+/// Adds what is told of the events of the history, of which this is found. The only error is running out of memory.
+fn add_sketch_findings(
+    sketch: &mut Sketch,
+    alloc: Global,
+    history: &ToldHistory<'_>,
+    found: &Findings,
+) -> Result<(), AllocError> {
+    let known = HistoryNotes::new(*history, found);
+    add_sketch_notes(&mut sketch.notes, alloc, &known)?;
+    let numbers = known.numbers;
+    let count = known.events.len();
+    sketch.reads = sketch_reads_of(alloc, found, numbers, count)?;
+    sketch.stale = sketch_stale_of(alloc, found, numbers, count)?;
+    Ok(())
+}
+
+/// Adds what is told of the events of the history, and of its pages, if these are told. The only error is running out of memory.
+fn add_sketch_history(
+    sketch: &mut Sketch,
+    alloc: Global,
+    history: &ToldHistory<'_>,
+    pages: bool,
+) -> Result<(), AllocError> {
+    let found = findings_of(alloc, history.history, pages, &[])?;
+    add_sketch_findings(sketch, alloc, history, &found)
+}
+
 /// What is told of the events of the history, and of its pages, if these are told. The only error is running out of memory.
 fn sketch_history(
     alloc: Global,
     history: &ToldHistory<'_>,
     pages: bool,
 ) -> Result<Sketch, AllocError> {
-    let found = findings_of(alloc, history.history, pages, &[])?;
-    let mut notes = Vec::new(alloc);
-    let known = HistoryNotes::new(*history, &found);
-    add_sketch_notes(&mut notes, alloc, &known)?;
-    let numbers = known.numbers;
-    let count = known.events.len();
-    Ok(Sketch {
-        notes,
-        reads: sketch_reads_of(alloc, &found, numbers, count)?,
-        stale: sketch_stale_of(alloc, &found, numbers, count)?,
+    let mut sketch = Sketch {
+        notes: Vec::new(alloc),
+        reads: Vec::new(alloc),
+        stale: Vec::new(alloc),
         waits: Vec::new(alloc),
         holders: Vec::new(alloc),
-    })
+    };
+    add_sketch_history(&mut sketch, alloc, history, pages)?;
+    Ok(sketch)
 }
 
 /// Adds who waits at the history's end, for what and for whom. The only error is running out of memory.

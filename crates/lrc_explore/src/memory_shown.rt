@@ -306,6 +306,27 @@ impl MemorySearch {
         }
         Ok(())
     }
+
+    /// Looks at so many orders of the script, or at fewer if it is long, or until so many outcomes were met.
+    fn look<T: ScriptRunner, R: Wait>(
+        &mut self,
+        runs: &T,
+        rt: &R,
+        alloc: Global,
+        script: &Script,
+        detail: Detail,
+        most: usize,
+        enough: usize,
+    ) -> Result<(), AllocError>
+        requires lawful { IsLawful (plan_of script.now) }
+        requires uncut { detail ≢ told.Words → HasNoCutInstruction (plan_of script.now) }
+        ensures { OnOk result (IsMemoryShown (λ s turns end. T.followed s Ticket turns end) (plan_of script.now) detail self.old.shown
+            → IsMemoryShown (λ s turns end. T.followed s Ticket turns end) (plan_of script.now) detail self.new.shown) }
+    {
+        let uses = ScriptUses::of(alloc, script)?;
+        let most = memory_orders_at_most(script, most);
+        self.look_at_all(runs, rt, alloc, script, &uses, detail, most, enough)
+    }
 }
 
 /// Whether more is told than the words at the end, which a report has. The rest is read in the journal.
@@ -345,13 +366,11 @@ pub fn what_memory_shows<T: ScriptRunner, R: Wait>(
     requires { IsLawful (plan_of script.now) }
     ensures { IfOk result (IsMemoryShown (λ s turns end. T.followed s Ticket turns end) (plan_of script.now) detail) }
 {
-    let mut search = MemorySearch::new(alloc)?;
     if tells_more_than_words(detail) && has_cut_script(script) {
         return Ok(MemoryShown::none(alloc));
     }
-    let uses = ScriptUses::of(alloc, script)?;
-    let most = memory_orders_at_most(script, most);
-    search.look_at_all(runs, rt, alloc, script, &uses, detail, most, enough)?;
+    let mut search = MemorySearch::new(alloc)?;
+    search.look(runs, rt, alloc, script, detail, most, enough)?;
     let MemorySearch { shown, .. } = search;
     Ok(shown)
 }

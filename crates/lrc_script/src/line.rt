@@ -1,6 +1,7 @@
 //! One line of a script: a keyword, and numbers with one space before each.
 ghost use Rattle.std.specs.Prelude.{◌≡◌, ℕ, ◌<◌, List, ◌∷◌, [], length, IfSome, IfNone, MatchOption};
 ghost use Rattle.std.specs.List.{list_all};
+ghost use Rattle.std.specs.Str.{bytes_eq};
 ghost use Rattle.lrc_script.specs.Prelude.{HasNoLineFeed, LineReadGives, IsLineReadOff, parts_of_read_line, parts_behind_in_read_line, line_read_word_has_bytes, line_read_keyword, script_line_space};
 ghost use Rattle.lrc_script.specs.Prelude.{line_read_digit_sum, line_read_number, line_read_few, line_read_numbers_after};
 ghost use Rattle.lrc_script.specs.Prelude.{LineReadBeginsWithNumber, LineReadBeginsWithNoNumber, line_read_may_begin_number};
@@ -27,34 +28,41 @@ pub enum LineKeyword {
     Show,
 }
 
+/// Whether the word is written so.
+fn is_keyword(word: &[u8], keyword: &str) -> bool
+    ensures { result ≡ bytes_eq word.now keyword.now }
+{
+    word == keyword.as_bytes()
+}
+
 impl LineKeyword {
     /// The keyword that is written so.
     pub fn of(word: &[u8]) -> Option<LineKeyword>
         ensures { result ≡ line_read_keyword word.now }
     {
-        if word == b"cluster".as_slice() {
+        if is_keyword(word, "cluster") {
             Some(LineKeyword::Cluster)
-        } else if word == b"p".as_slice() {
+        } else if is_keyword(word, "p") {
             Some(LineKeyword::Section)
-        } else if word == b"load".as_slice() {
+        } else if is_keyword(word, "load") {
             Some(LineKeyword::Load)
-        } else if word == b"store".as_slice() {
+        } else if is_keyword(word, "store") {
             Some(LineKeyword::Store)
-        } else if word == b"add".as_slice() {
+        } else if is_keyword(word, "add") {
             Some(LineKeyword::Add)
-        } else if word == b"acquire".as_slice() {
+        } else if is_keyword(word, "acquire") {
             Some(LineKeyword::Acquire)
-        } else if word == b"release".as_slice() {
+        } else if is_keyword(word, "release") {
             Some(LineKeyword::Release)
-        } else if word == b"barrier".as_slice() {
+        } else if is_keyword(word, "barrier") {
             Some(LineKeyword::Barrier)
-        } else if word == b"set".as_slice() {
+        } else if is_keyword(word, "set") {
             Some(LineKeyword::Set)
-        } else if word == b"await".as_slice() {
+        } else if is_keyword(word, "await") {
             Some(LineKeyword::Await)
-        } else if word == b"cut".as_slice() {
+        } else if is_keyword(word, "cut") {
             Some(LineKeyword::Cut)
-        } else if word == b"show".as_slice() {
+        } else if is_keyword(word, "show") {
             Some(LineKeyword::Show)
         } else {
             None

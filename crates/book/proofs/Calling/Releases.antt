@@ -1,5 +1,5 @@
 -- What a release rests on, and what it makes, read off the book.
-use Rattle.std.proofs.Common.{◌≡◌, ◌≢◌, ℕ, ◌<◌, inl, inr, List, [], ◌∷◌, length, Option, Some, None, IfSome, slice_get, slice_set, slice_index_or, subst, sym, refl, ap, ◌∙◌, arith}
+use Rattle.std.proofs.Common.{◌≡◌, ◌≢◌, ℕ, ◌<◌, inl, inr, List, [], ◌∷◌, length, Option, Some, None, IfSome, MatchOption, slice_get, slice_set, slice_index_or, subst, sym, refl, ap, ◌∙◌, arith}
 use Rattle.std.proofs.lemmas.Option.{slice_get-get_or, same_Some, none-some}
 use Rattle.std.proofs.lemmas.List.{get_or-set_other}
 use Rattle.std.specs.Option.{option_map}
@@ -14,11 +14,12 @@ use Rattle.vtime.specs.TicksAndJoins.{tick}
 use Rattle.interval.specs.SentIntervals.{ClosedInterval}
 use Rattle.interval.specs.KeptClosings.{KeptClosings, kept_closings_pushed}
 use Rattle.lockq.specs.LockQueues.{Locks, lock_queue_unheld, lock_queue_at, with_lock_queue, lock_queue_line, lock_queue_released}
-use Rattle.transit.specs.Letters.{Letter}
+use Rattle.transit.specs.Letters.{Letter, letter}
+use Rattle.transit.specs.declared.message.Message.{Message}
 use Rattle.book.specs.BookLockLines.{HasBookLockLine}
 use Rattle.book.specs.BookMail.{ComesByBookMail, IsBookMail}
 use Rattle.book.specs.BookState.{BookState, book_state_time_of}
-use Rattle.book.specs.Transitions.{transition_addressed_grant, transition_grant_to, transition_handed_in, transition_open_interval, transition_closed_by, transition_mail_passed, transition_released}
+use Rattle.book.specs.Transitions.{transition_addressed, transition_addressed_grant, transition_grant_to, transition_handed_in, transition_open_interval, transition_closed_by, transition_mail_passed, transition_released}
 use Rattle.book.specs.AllowedCalls.{AllowsReleaseCall, AllowsNoticesOfCall}
 use Rattle.book.specs.RepresentedHistory.{Represents}
 use Rattle.book.proofs.Parts.Each.{each_is_at}
@@ -158,6 +159,34 @@ grant_before_release old p l records t =
     option_map (transition_addressed_grant (kept_closings_pushed old.closed (transition_open_interval old p records)) old.times t)
     (slice_get (lock_queue_at old.locks l).queue 0)
 
+-- a grant is for the first of the queue
+released_to_whom : (c : KeptClosings) (times : List (List ℕ)) (t queue : List ℕ) (r : ℕ) (m : Letter)
+    → Some (r, m) ≡ option_map (transition_addressed_grant c times t) (slice_get queue 0) → slice_get queue 0 ≡ Some r
+released_to_whom c times t [] r m made = absurd (none-some (r, m) (sym made))
+released_to_whom c times t (q ∷ queue) r m made =
+    ap (λ (x : ℕ × Letter). Some x.0) (sym (same_Some (r, m) (transition_addressed_grant c times t q) made))
+
+-- a grant g, made of what a release reads before its interval is closed: the interval, who is next, the timestamps
+pub record IsReleaseGrantRead (b : BookState) (p l : ℕ) (records : List PageChanges) (t : List ℕ) (g : Option (ℕ × Letter))
+    : Type 0 where
+  pub interval : ClosedInterval
+  pub times : List (List ℕ)
+  pub next : Option ℕ
+  pub opened : interval ≡ transition_open_interval b p records
+  pub all : times ≡ b.times
+  pub first : next ≡ slice_get (lock_queue_at b.locks l).queue 0
+  pub made : g ≡ option_map (transition_addressed_grant (kept_closings_pushed b.closed interval) times t) next
+
+-- the grant as it was made, read off the book before the call
+pub release_grant_read : {b old : BookState} {p l : ℕ} {records : List PageChanges} {t : List ℕ} {g : Option (ℕ × Letter)}
+    → IsReleaseGrantRead b p l records t g → b ≡ old → g ≡ grant_before_release old p l records t
+release_grant_read {b} {old} {p} {l} {records} {t} {g} read same =
+    let opened = read.opened in
+    let all = read.all in
+    let first = read.first in
+    let made = read.made in
+    cc
+
 -- p releases the lock at this time
 module _ {old b : BookState} {p l : ℕ} {block : List Event} {records : List PageChanges} {t : List ℕ}
     (leaving : IsReleaseLeaving old b p l block records t) where
@@ -184,53 +213,32 @@ module _ {old b : BookState} {p l : ℕ} {block : List Event} {records : List Pa
             ((releasing old p l block leaving.may).next q at).apart,
       )
 
-  -- a release whose grant is posted
-  pub released_granted : (locks : Locks) (transit : List (Option Letter)) (r : ℕ) (m : Letter)
-      → locks ≡ with_lock_queue b.locks l (lock_queue_released (lock_queue_at b.locks l) t) → transit ≡ slice_set b.transit r (Some m)
-      → Some (r, m) ≡ grant_before_release old p l records t
+  -- a release whose grant is posted, if there is one
+  pub released_posted : (locks : Locks) (transit : List (Option Letter)) (grant : Option (ℕ × Message))
+      → locks ≡ with_lock_queue b.locks l (lock_queue_released (lock_queue_at b.locks l) t)
+      → MatchOption grant (transit ≡ b.transit) (λ g. transit ≡ slice_set b.transit g.0 (Some (letter g.1)))
+      → option_map transition_addressed grant ≡ grant_before_release old p l records t
       → record b { locks = locks; transit = transit } ≡ transition_released (transition_handed_in old block) p l records
-  released_granted locks transit r m lock_queue_line post made =
-      let grant = released_grant_made (Some (r, m)) made in
-      released_is locks transit lock_queue_line
-      (post ∙ released_passes_some b (lock_queue_at b.locks l).queue t old.times r m grant.1 grant.0)
-
-  -- a release that nobody waits for
-  pub released_alone : (locks : Locks) → locks ≡ with_lock_queue b.locks l (lock_queue_released (lock_queue_at b.locks l) t)
-      → None ≡ grant_before_release old p l records t
-      → record b { locks = locks } ≡ transition_released (transition_handed_in old block) p l records
-  released_alone locks lock_queue_line made =
+  released_posted locks transit None lock_queue_line post made =
       let grant = released_grant_made None made in
-      released_is locks b.transit lock_queue_line (released_passes_none b (lock_queue_at b.locks l).queue t old.times grant.0)
+      released_is locks transit lock_queue_line
+      (post ∙ released_passes_none b (lock_queue_at b.locks l).queue t old.times grant.0)
+  released_posted locks transit (Some (r, m)) lock_queue_line post made =
+      let grant = released_grant_made (Some (r, letter m)) made in
+      released_is locks transit lock_queue_line
+      (post ∙ released_passes_some b (lock_queue_at b.locks l).queue t old.times r (letter m) grant.1 grant.0)
+
+  -- who is granted the lock has no message
+  pub released_finds_no_mail : (grant : Option (ℕ × Message)) → option_map transition_addressed grant ≡ grant_before_release old p l records t
+      → IfSome grant (λ g. slice_get b.transit g.0 ≡ Some None)
+  released_finds_no_mail None made = tt
+  released_finds_no_mail (Some (r, m)) made =
+      ap (λ (x : BookState). slice_get x.transit r) leaving.closed
+      ∙ ((releasing old p l block leaving.may).next r
+      (released_to_whom (kept_closings_pushed old.closed (transition_open_interval old p records)) old.times t
+      (lock_queue_at old.locks l).queue r (letter m) made)).none
 
 pub releasing_sends_next : (b : BookState) (p l : ℕ) (o : Option ℕ) → IsReleasing b p l → o ≡ slice_get (lock_queue_at b.locks l).queue 0
     → IfSome o (λ r. AllowsNoticesOfCall b.closed b.times r)
 releasing_sends_next b p l None rel is = tt
 releasing_sends_next b p l (Some r) rel is = (rel.next r (sym is)).sent
-
--- a grant is for the first of the queue
-pub released_to_whom : (c : KeptClosings) (times : List (List ℕ)) (t queue : List ℕ) (r : ℕ) (m : Letter)
-    → Some (r, m) ≡ option_map (transition_addressed_grant c times t) (slice_get queue 0) → slice_get queue 0 ≡ Some r
-released_to_whom c times t [] r m made = absurd (none-some (r, m) (sym made))
-released_to_whom c times t (q ∷ queue) r m made =
-    ap (λ (x : ℕ × Letter). Some x.0) (sym (same_Some (r, m) (transition_addressed_grant c times t q) made))
-
--- a grant g, made of what a release reads before its interval is closed: the interval, who is next, the timestamps
-pub record IsReleaseGrantRead (b : BookState) (p l : ℕ) (records : List PageChanges) (t : List ℕ) (g : Option (ℕ × Letter))
-    : Type 0 where
-  pub interval : ClosedInterval
-  pub times : List (List ℕ)
-  pub next : Option ℕ
-  pub opened : interval ≡ transition_open_interval b p records
-  pub all : times ≡ b.times
-  pub first : next ≡ slice_get (lock_queue_at b.locks l).queue 0
-  pub made : g ≡ option_map (transition_addressed_grant (kept_closings_pushed b.closed interval) times t) next
-
--- the grant as it was made, read off the book before the call
-pub release_grant_read : {b old : BookState} {p l : ℕ} {records : List PageChanges} {t : List ℕ} {g : Option (ℕ × Letter)}
-    → IsReleaseGrantRead b p l records t g → b ≡ old → g ≡ grant_before_release old p l records t
-release_grant_read {b} {old} {p} {l} {records} {t} {g} read same =
-    let opened = read.opened in
-    let all = read.all in
-    let first = read.first in
-    let made = read.made in
-    cc

@@ -3,7 +3,6 @@ use Rattle.std.proofs.Common.{◌≡◌, ℕ, zero, suc, ◌+◌, ◌<◌, ◌�
 use Rattle.std.proofs.lemmas.Bool.{cases_eq, true≢false}
 use Rattle.std.proofs.lemmas.Option.{none-some, same_Some, slice_get-get_or, slice_get-map}
 use Rattle.std.specs.Option.{option_map}
-use Rattle.std.specs.List.{position_from}
 use Rattle.base.specs.Limits.{most_processors}
 use Rattle.base.specs.InOrderOnce.{Has}
 use Rattle.base.proofs.JoinedLists.{joined_list_has-nil, joined_list_has-cons}

@@ -17,7 +17,7 @@ use Rattle.journal.proofs.Order.EventPlacesAndCounts.{event_place_inside, event_
 use Rattle.journal.proofs.Times.KeptTimes.{kept_time_of_kind, kept_time_other_arrivals}
 use Rattle.journal.proofs.Journals.WellFormedStays.{well_formed_stays_last_cases, well_formed_stays_holds_cases, well_formed_stays_holds_now}
 use Rattle.transit.specs.Letters.{Letter, LetterKind}
-use Rattle.transit.specs.Letters.LetterKind.{grant, departure, signal}
+use Rattle.transit.specs.Letters.LetterKind.{grant, departure}
 use Rattle.journal.specs.DidEvent.{event, did}
 use Rattle.book.specs.BookStamps.{IsBookStamp}
 use Rattle.book.specs.BookMail.{BookMailCarries, BookMailLets, ComesByBookMail, IsBookMail}

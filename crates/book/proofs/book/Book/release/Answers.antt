@@ -1,22 +1,18 @@
-use Rattle.std.proofs.Common.{◌≡◌, ℕ, ◌+◌, map, length, List, Option, IfSome, slice_get, slice_index, ap, ◌∙◌, sym, subst, arith, rules}
+use Rattle.std.proofs.Common.{◌≡◌, ℕ, ◌+◌, map, length, List, IfSome, slice_index, ap, ◌∙◌, sym, subst, arith, rules}
 use Rattle.std.proofs.lemmas.List.{length-set}
 use Rattle.std.specs.Arc.{arc_value}
 use Rattle.std.specs.Option.{option_map}
 use Rattle.journal.specs.declared.event.Kind.TheVariants.{Release}
 use Rattle.lockq.specs.LockQueues.{lock_queue_at}
-use Rattle.transit.specs.Letters.{Letter, letter}
-use Rattle.transit.specs.declared.message.Message.{Message}
 use Rattle.vtime.specs.TicksAndJoins.{tick}
-use Rattle.interval.specs.KeptClosings.{kept_closings_pushed}
 use Rattle.book.specs.BookState.{BookState, book_state_time_of}
-use Rattle.book.specs.Transitions.{transition_addressed, transition_handed_in, transition_open_interval, transition_closed_by}
+use Rattle.book.specs.Transitions.{transition_addressed, transition_handed_in, transition_closed_by}
 use Rattle.book.specs.AllowedCalls.{AllowsNoticesOfCall}
 use Rattle.book.specs.BookInvariant.{book_invariant_state}
-use Rattle.book.specs.declared.book.Book.TheInside.{Inside}
 use Rattle.book.proofs.Parts.HeldHistory.{held_history_happened_fits}
 use Rattle.book.proofs.Calling.IdleCalls.{idle_call_stands, idle_call_still_open, idle_call_open_with_room, IsClosedByIdleCallWithRoom, idle_call_closed_with_room}
-use Rattle.book.proofs.Calling.Releases.{IsReleasing, IsReleaseLeaving, IsReleaseGrantRead, releases, releasing, releasing_sends_next, grant_before_release, release_grant_read, released_to_whom, released_granted, released_alone}
-use Rattle.book.proofs.book.Book.release.Goals.{After-parts, After-closing_time-time, After-parts-2, In_ok-grant, in-Some, in_default}
+use Rattle.book.proofs.Calling.Releases.{IsReleasing, IsReleaseLeaving, IsReleaseGrantRead, releases, releasing, releasing_sends_next, grant_before_release, release_grant_read, released_finds_no_mail, released_posted}
+use Rattle.book.proofs.book.Book.release.Goals.{After-parts, After-closing_time-time, After-parts-2, In_ok-grant}
 use Rattle.book.proofs.book.Book.release.Goals as goal
 
 -- the parts hold the book as it is found
@@ -100,10 +96,6 @@ release-requires-clause-long c =
     (same (goal.at.release-requires-clause-long c).After-parts)
     ∙ sym (ap (λ (b : BookState). b.locks.processors) (closed (goal.at.release-requires-clause-long c).After-parts-2))
 
--- a grant and who is to have it, if there is one
-abbrev addressed_if : Option (ℕ × Message) → Option (ℕ × Letter)
-addressed_if g = option_map transition_addressed g
-
 -- the grant and who is to have it, read off the book before the call
 made : (c : In_ok-grant) → option_map transition_addressed c.in_ok-grant.grant
     ≡ grant_before_release c.args.self.now c.args.processor c.args.lock (map arc_value c.args.records.items) c.closing_time-time.result
@@ -120,36 +112,33 @@ made c =
     } in
     release_grant_read read (c.parts.view_is ∙ c.deref_mut-parts.ensures.value ∙ c.self.view_is)
 
-pub post-requires : goal.post-requires
-post-requires c =
-    let at = goal.at.post-requires c in
-    let rel = releasing c.args.self.now c.args.processor c.args.lock c.args.block.now c.requires.call in
-    ap (λ (b : BookState). slice_get b.transit c.in-Some.next) (closed at.After-parts-2)
-    ∙ (rel.next c.in-Some.next
-    (released_to_whom
-    (kept_closings_pushed c.args.self.now.closed (transition_open_interval c.args.self.now c.args.processor (map arc_value c.args.records.items)))
-    c.args.self.now.times c.closing_time-time.result (lock_queue_at c.args.self.now.locks c.args.lock).queue
-    c.in-Some.next (letter c.in-Some.message) (sym (ap addressed_if c.in-Some.is) ∙ made at.In_ok-grant))).none
+-- what the release leaves
+leaving : (c : In_ok-grant) (b : BookState)
+    → b ≡ transition_closed_by (transition_handed_in c.args.self.now c.args.block.now) c.args.processor (Release c.args.lock)
+    (map arc_value c.args.records.items)
+    → IsReleaseLeaving c.args.self.now b c.args.processor c.args.lock c.args.block.now (map arc_value c.args.records.items)
+    c.closing_time-time.result
+leaving c b closed = record {
+  may = c.requires.call;
+  closed = closed;
+  time = c.closing_time-time.ensures
+      ∙ ap (λ (b : BookState). tick (book_state_time_of b c.args.processor) c.args.processor)
+      (c.parts.view_is ∙ c.deref_mut-parts.ensures.value ∙ c.self.view_is);
+}
+
+pub post_grant_mail-requires : goal.post_grant_mail-requires
+post_grant_mail-requires c =
+    let at = goal.at.post_grant_mail-requires c in
+    released_finds_no_mail (leaving at.In_ok-grant (book_invariant_state c.parts-2.inside) (closed at.After-parts-2))
+    c.in_ok-grant.grant (made at.In_ok-grant)
 
 pub returns : goal.returns
 returns c =
     let at = goal.at.returns c in
-    let leaving : IsReleaseLeaving c.args.self.now (book_invariant_state c.parts-2.inside) c.args.processor c.args.lock c.args.block.now
-    (map arc_value c.args.records.items) c.closing_time-time.result = record {
-      may = c.requires.call;
-      closed = closed at.After-parts-2;
-      time = c.closing_time-time.ensures
-          ∙ ap (λ (b : BookState). tick (book_state_time_of b c.args.processor) c.args.processor) (same at.After-parts);
-    } in
     record {
-      ok = elim c.match-grant-4.branch [
-        | in-Some x ↦ ap (λ (i : Inside). i.parts.value) x.self-inside-is
-            ∙ released_granted leaving c.release.new.self x.post.new.self x.in-Some.next (letter x.in-Some.message)
-            c.release.ensures.locks x.post.ensures (sym (ap addressed_if x.in-Some.is) ∙ made at.In_ok-grant)
-        | in_default x ↦ ap (λ (i : Inside). i.parts.value) x.self-inside-is
-            ∙ released_alone leaving c.release.new.self c.release.ensures.locks
-            (sym (ap addressed_if x.in_default.is) ∙ made at.In_ok-grant)
-      ];
+      ok = released_posted (leaving at.In_ok-grant (book_invariant_state c.parts-2.inside) (closed at.After-parts-2))
+          c.release.new.self c.post_grant_mail.new.transit c.in_ok-grant.grant c.release.ensures.locks c.post_grant_mail.ensures
+          (made at.In_ok-grant);
       err = search rules;
       full = search rules;
       only = search rules;

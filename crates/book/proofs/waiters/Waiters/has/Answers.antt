@@ -1,8 +1,7 @@
-use Rattle.std.proofs.Common.{◌≡◌, ℕ, ◌<◌, ◌↔◌, IsTrue, List, Bool, Option, Some, None, true, false, nat_lt, slice_get, slice_index_or, subst, sym, ◌∙◌, arith}
+use Rattle.std.proofs.Common.{◌≡◌, ℕ, ◌↔◌, IsTrue, List, Bool, Some, true, false, nat_lt, slice_get, slice_index_or, subst, sym, ◌∙◌, arith}
 use Rattle.std.proofs.lemmas.Bool.{ltb-true}
 use Rattle.std.proofs.lemmas.Option.{slice_get-get_or, slice_get_past, get_or_from_slice_get, none-some}
 use Rattle.base.specs.InOrderOnce.{Has}
-use Rattle.book.specs.Waiters.{waiters_from}
 use Rattle.book.proofs.Calling.WaitingPlaces.{waiting_place_marked}
 use Rattle.book.proofs.waiters.Waiters.has.Goals as goal
 
