@@ -6,6 +6,7 @@ mod LayoutTables
 mod SeatAccess
 mod SeatClosings
 mod SeatFaults
+mod ReadyAccess
 mod StillSitting
 mod ProgramThreads
 mod ToldFaults
@@ -17,6 +18,7 @@ pub mod AddedTallies
 pub mod TalliedHistories
 pub mod KeptReads
 pub mod SeatActing
+mod ActingFaults
 pub mod GuardedRuns
 pub mod BalancedTenures
 pub mod BalancedRuns

@@ -133,7 +133,7 @@ seat_acted_added {m} {n} {l} {a} {k} {x} ks acted more was =
     subst (AddsUpTo l a (k + x)) (sym acted.deeds_are) (added_tally_both (seat_deeds m) ks was more)
 
 -- one word more
-seat_acting_loads_push : (a : ℕ) (vs : List ℕ) (v : ℕ) → acting_loads_from a (vs ++ v ∷ []) ≡ acting_loads_from a vs ++ Load (length vs + a) v ∷ []
+pub seat_acting_loads_push : (a : ℕ) (vs : List ℕ) (v : ℕ) → acting_loads_from a (vs ++ v ∷ []) ≡ acting_loads_from a vs ++ Load (length vs + a) v ∷ []
 seat_acting_loads_push a [] v = ap (λ b. Load b v ∷ []) (let e : a ≡ 0 + a = omega arith in e)
 seat_acting_loads_push a (w ∷ vs) v =
     ap (λ ks. Load a w ∷ ks) (seat_acting_loads_push (a + 1) vs v

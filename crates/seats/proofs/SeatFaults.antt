@@ -49,7 +49,7 @@ seat_fault_entering {many = many} m n e call none late = elim (call.err e none r
 ]
 
 -- a call that waits for nothing never comes too early
-seat_fault_never_early : {first : Option Refused} {many : ℕ} {done : Local → Local → Type 0} {added : List Event} (m n : Local) (e : Refused)
+pub seat_fault_never_early : {first : Option Refused} {many : ℕ} {done : Local → Local → Type 0} {added : List Event} (m n : Local) (e : Refused)
     → IsProcessorCall first many ProcessorCallWaitsForNothing done added m n (Some e) → first ≡ None → e ≢ NotYet
 seat_fault_never_early m n e call none early = elim (call.err e none refl) [
   | inl inside ↦ inside.not_yet.0 early

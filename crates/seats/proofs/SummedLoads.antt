@@ -1,5 +1,5 @@
 -- Words that are loaded one after another, and added up.
-use Rattle.std.proofs.Common.{ℕ, ◌≡◌, ◌+◌, ◌%◌, ◌^◌, ◌<◌, List, [], ◌∷◌, ◌++◌, length, take, refl, sym, ap, subst, ◌∙◌, append-nil, arith}
+use Rattle.std.proofs.Common.{ℕ, ◌≡◌, ◌+◌, ◌%◌, ◌^◌, ◌<◌, List, [], ◌∷◌, ◌++◌, get_or, length, take, refl, sym, ap, subst, ◌∙◌, append-nil, arith}
 use Rattle.std.proofs.lemmas.List.{length-take-le, length_push}
 use Rattle.std.proofs.lemmas.List.Sums.{sum_by_push}
 use Rattle.journal.specs.declared.event.Kind.{Kind}
@@ -29,17 +29,19 @@ summed_push {l} {n = n} {s = s} {before = before} a v was load = record {
 }
 
 -- words of these addresses, of which the first are those that were loaded
-record IsSummedBeginning (addresses words : List ℕ) : Type 0 where
+pub record IsSummedBeginning (addresses words : List ℕ) : Type 0 where
   pub all : List ℕ
   pub long : length all ≡ length addresses
   pub next : Kind
   pub later : List Kind
   pub loads : loads_at addresses all ≡ loads_at (take (length words) addresses) words ++ next ∷ later
+  pub value : ℕ
+  pub next_is : next ≡ Load (get_or addresses (length words) 0) value
 
-summed_beginning : (addresses words : List ℕ) → length words < length addresses → IsSummedBeginning addresses words
+pub summed_beginning : (addresses words : List ℕ) → length words < length addresses → IsSummedBeginning addresses words
 summed_beginning [] words less = absurd (omega (arith, less))
 summed_beginning (a ∷ others) [] less =
-    record { all = 0 ∷ others; long = refl; next = Load a 0; later = loads_at others others; loads = refl }
+    record { all = 0 ∷ others; long = refl; next = Load a 0; later = loads_at others others; loads = refl; value = 0; next_is = refl }
 summed_beginning (a ∷ others) (v ∷ words) less =
     let rest = summed_beginning others words (omega (arith, less)) in
     record {
@@ -48,6 +50,8 @@ summed_beginning (a ∷ others) (v ∷ words) less =
       next = rest.next;
       later = rest.later;
       loads = ap (λ ks. Load a v ∷ ks) rest.loads;
+      value = rest.value;
+      next_is = rest.next_is;
     }
 
 -- a word wasn't loaded

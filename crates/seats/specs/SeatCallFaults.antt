@@ -1,19 +1,23 @@
 -- What a fault of a seat's call tells.
-use Rattle.std.specs.Prelude.{ℕ, ◌≡◌, ◌⊎◌, ◌+◌, ◌<◌, true, Some, Result, Ok, Err, length}
+use Rattle.std.specs.Prelude.{ℕ, ◌≡◌, ◌⊎◌, ◌+◌, ◌<◌, Bool, true, false, Some, None, List, ◌∷◌, ◌++◌, Result, Ok, Err, length}
 use Rattle.journal.specs.declared.event.Kind.{Kind}
+use Rattle.journal.specs.declared.event.Kind.TheVariants.{Load, Store}
 use Rattle.journal.specs.Deadlocks.{IsDeadlock}
 use Rattle.base.specs.Limits.{most_events}
 use Rattle.book.specs.declared.refused.Refused.{Refused}
 use Rattle.book.specs.declared.refused.Refused.TheVariants.{JournalFull, NoMemory, SeatSpent}
 use Rattle.cluster.specs.Copies.Local.{Local}
-use Rattle.cluster.specs.ProcessorRefusals.{processor_refusal_is_spent, processor_refusal_of_closing, processor_refusal_or_spent}
+use Rattle.cluster.specs.ProcessorRefusals.{processor_refusal_block_full, processor_refusal_is_spent, processor_refusal_of_closing, processor_refusal_or_spent}
 use Rattle.cluster.specs.TakingCalls.{IsTakingCallLate}
 use Rattle.cluster.specs.declared.waited.Waited.{Waited}
 use Rattle.cluster.specs.declared.waited.Waited.TheVariants.{MayHaveCome}
 use Rattle.cluster.specs.declared.waited.Waited.TheVariants as waited
 use Rattle.seats.specs.declared.fault.SeatFault.{SeatFault}
 use Rattle.seats.specs.declared.fault.SeatFault.TheVariants as fault
-use Rattle.seats.specs.SeatCalls.{IsSeatCallBegun, IsSeatCallUndone}
+use Rattle.seats.specs.Acting.{HasActed}
+use Rattle.seats.specs.KeptLayout.{kept_layout_lets_access}
+use Rattle.seats.specs.SeatCalls.{IsSeatCallBegun, IsSeatCallUndone, seat_call_refusal_at_once}
+use Rattle.seats.specs.Sitting.{SittingSeat}
 
 -- why a call that would leave so many events couldn't be made in the book: by what the processor has seen then the journal
 -- has no room for them; it has entered as often as it may; or no memory was to be had
@@ -48,3 +52,37 @@ IsSeatCallWaitTold (Err e) f = f ≡ fault.Refused e
 abbrev pub IsSeatCallFault : Local → Local → Kind → SeatFault → Type 0
 IsSeatCallFault old new k f =
     (IsSeatCallUndone old new × IsSeatCallUndoneFault old k new f) ⊎ (IsSeatCallBegun old new k × IsSeatCallWaitFault new f)
+
+-- the open block is full, and couldn't be handed in
+abbrev pub IsSeatCallFlushFault : Local → Refused → Type 0
+IsSeatCallFlushFault m e = (processor_refusal_block_full m ≡ true) × IsSeatCallEnteringFault (length m.block) m e
+
+-- why an access of this address was refused: it is refused at once, and nothing was done; or a full block couldn't be handed in
+abbrev pub IsSeatCallAccessRefusal : Local → ℕ → Local → Refused → Type 0
+IsSeatCallAccessRefusal old a new e =
+    ((seat_call_refusal_at_once old a ≡ Some e) × (new ≡ old)) ⊎ ((seat_call_refusal_at_once old a ≡ None) × IsSeatCallFlushFault new e)
+
+-- a fault of an access of this address: the layout doesn't let it, and nothing was done; or the layout does, and it was refused
+abbrev pub IsSeatCallAccessFault : SittingSeat → Local → Local → ℕ → Bool → SeatFault → Type 0
+IsSeatCallAccessFault id old new a stores (fault.NotAllowed x) =
+    (x ≡ a) × (kept_layout_lets_access id old a stores ≡ false) × (new ≡ old)
+IsSeatCallAccessFault id old new a stores (fault.Refused e) =
+    (kept_layout_lets_access id old a stores ≡ true) × IsSeatCallAccessRefusal old a new e
+IsSeatCallAccessFault id old new a stores f = ⊥
+
+-- a fault of the call that is to add this event
+abbrev pub IsSeatCallStepFault : SittingSeat → Local → Local → Kind → SeatFault → Type 0
+IsSeatCallStepFault id old new (Load a v) f = IsSeatCallAccessFault id old new a false f
+IsSeatCallStepFault id old new (Store a v) f = IsSeatCallAccessFault id old new a true f
+IsSeatCallStepFault id old new k f = IsSeatCallFault old new k f
+
+-- it has done a beginning of this, and then the call for something after that beginning came to this fault
+pub record HasSeatCallFaultIn (id : SittingSeat) (old new : Local) (kinds : List Kind) (f : SeatFault) : Type 0 where
+  pub done : List Kind
+  pub between : List Kind
+  pub next : Kind
+  pub later : List Kind
+  pub all : kinds ≡ done ++ (between ++ next ∷ later)
+  pub before : Local
+  pub acted : HasActed old before done
+  pub fault : IsSeatCallStepFault id before new next f

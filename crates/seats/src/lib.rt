@@ -10,8 +10,8 @@
 //! alone: which locks it has acquired and released, and how often it has departed.
 //!
 //! **What is proved.** Each call of a seat adds just what it says to its processor's calls, besides a fetch of the page
-//! that it accesses; what a fault leaves; the faults that come at once. No clause says which others come, nor when `Stuck`
-//! and `Deserted` do: they are what the cluster answers.
+//! that it accesses; what a fault leaves; the faults that come at once, and what each other one tells. No clause says when
+//! that comes: it is what the cluster answers.
 //!
 //! A seat keeps to a [`Layout`]: an access that it doesn't allow is barred. What [`run`] answers is the whole history of its
 //! cluster, in which each processor kept to the layout and did what the program says of it; nothing in it races if no word of

@@ -4,7 +4,7 @@ ghost use Rattle.book.specs.declared.refused.Refused.{Refused as ARefusal};
 ghost use Rattle.journal.specs.declared.event.Kind.TheVariants as kind;
 ghost use Rattle.cluster.specs.Prelude.{processor_refusal_of_arrival, processor_refusal_of_ask, processor_refusal_of_flag, processor_refusal_of_release};
 ghost use Rattle.seats.specs.Prelude.{AccessesPage, HasDone, IsLeftUndone, IsSitting, kept_layout_lets_access, new_sitting_processor, seat_call_refusal_at_once, seat_deeds};
-ghost use Rattle.seats.specs.Prelude.{IsSeatCallFault, processor_refusal_of_access, processor_refusal_or_spent};
+ghost use Rattle.seats.specs.Prelude.{IsSeatCallAccessFault, IsSeatCallFault, processor_refusal_of_access, processor_refusal_or_spent};
 ghost use Rattle.seats.specs.PhaseGuards.{KeepsToPhaseGuards};
 ghost use Rattle.seats.specs.Tables.{guards_of};
 ghost use Rattle.seats.specs.declared.fault.SeatFault.TheVariants as fault;
@@ -22,8 +22,8 @@ use std::marker::Model;
 /// A processor on its thread. Its calls do what a program over shared words means by them: they fetch a stale copy, hand in
 /// a full block, and wait for what they ask for.
 ///
-/// What a fault leaves, each call says. It says of some faults that they come at once; of all others none says when they
-/// come, since that is the cluster's to answer.
+/// Each call says what a fault leaves, which faults come at once, and what any other one tells. Whether that comes, no call
+/// says, since it is the cluster's to answer.
 #[derive(Drop)]
 pub struct Seat<'a, S: Sitting> {
     rt: &'a S,
@@ -119,7 +119,10 @@ impl<'a, S: Sitting> Seat<'a, S> {
     /// The first of these that applies, with nothing done: [`NotAllowed`](SeatFault::NotAllowed) exactly if the layout doesn't
     /// let it; refused as [`Waiting`](cluster::Refused::Waiting) if an earlier call left it waiting,
     /// [`OutOfRange`](cluster::Refused::OutOfRange) past the last address. After any other fault that fetch alone was made, if
-    /// any. It succeeds if the copy is valid and the block has room; else what others did decides.
+    /// any, and the block is full and couldn't be handed in: the journal has no room for it
+    /// ([`JournalFull`](cluster::Refused::JournalFull)), the processor has entered the book as often as it may
+    /// ([`SeatSpent`](cluster::Refused::SeatSpent)), or no memory was to be had ([`NoMemory`](cluster::Refused::NoMemory)). It
+    /// succeeds if the copy is valid and the block has room.
     pub fn load(&mut self, address: usize) -> Result<u32, SeatFault>
         ensures ok { IfOk result (λ v. AccessesPage self.old self.new (address / self.old.sizes.words)
             (kind.Load address v ∷ [])) }
@@ -130,6 +133,7 @@ impl<'a, S: Sitting> Seat<'a, S> {
             → seat_call_refusal_at_once self.old address ≡ Some e → (result ≡ Err (fault.Refused e)) × (self.new ≡ self.old) }
         ensures fits { kept_layout_lets_access S.at self.old address false ≡ true → processor_refusal_of_access self.old address ≡ None
             → IsOk result }
+        ensures fault { IfErr result (IsSeatCallAccessFault S.at self.old self.new address false) }
     {
         if !self.may_access(address, false) {
             return Err(SeatFault::NotAllowed(address));
@@ -158,6 +162,7 @@ impl<'a, S: Sitting> Seat<'a, S> {
             → seat_call_refusal_at_once self.old address ≡ Some e → (result ≡ Err (fault.Refused e)) × (self.new ≡ self.old) }
         ensures fits { kept_layout_lets_access S.at self.old address true ≡ true → processor_refusal_of_access self.old address ≡ None
             → IsOk result }
+        ensures fault { IfErr result (IsSeatCallAccessFault S.at self.old self.new address true) }
     {
         if !self.may_access(address, true) {
             return Err(SeatFault::NotAllowed(address));

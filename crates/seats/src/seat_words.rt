@@ -1,9 +1,10 @@
 //! What is made of a seat's calls: words that are added to, many words, and words as values of other types.
-ghost use Rattle.std.specs.Prelude.{◌≡◌, ◌+◌, ◌-◌, ◌/◌, ◌∷◌, ◌++◌, ◌==◌, [], ℕ, List, Err, IfOk, IsOk, None, OnErr, OnOk, Some, true, false, if◌then◌else◌, length, vec_len};
+ghost use Rattle.std.specs.Prelude.{◌≡◌, ◌⊎◌, ◌+◌, ◌-◌, ◌/◌, ◌∷◌, ◌++◌, ◌==◌, [], ℕ, List, Err, IfErr, IfOk, IsOk, None, OnErr, OnOk, Some, true, false, if◌then◌else◌, length, vec_len};
 ghost use Rattle.book.specs.declared.refused.Refused.{Refused as ARefusal};
+ghost use Rattle.book.specs.declared.refused.Refused.TheVariants.{NoMemory};
 ghost use Rattle.journal.specs.declared.event.Kind.TheVariants as kind;
 ghost use Rattle.cluster.specs.Prelude.{processor_refusal_of_ask};
-ghost use Rattle.seats.specs.Prelude.{AccessesPage, AddsUpTo, HasActed, HasActedInPart, HasFoundKept, HasSummed, HasWeighed, IsBetweenTenures, KeepsBalanceFact};
+ghost use Rattle.seats.specs.Prelude.{AccessesPage, AddsUpTo, HasActed, HasActedInPart, HasFoundKept, HasSeatCallFaultIn, HasSummed, HasWeighed, IsBetweenTenures, IsSeatCallAccessFault, KeepsBalanceFact};
 ghost use Rattle.seats.specs.Prelude.{word_tally_adding, balance_fact_adds_two, balance_fact, loads_at, acting_loads_from, kept_layout_lets_access, seat_call_refusal_at_once, seat_deeds, tenure_of_lock, processor_refusal_of_access, processor_refusal_or_spent};
 ghost use Rattle.seats.specs.declared.fault.SeatFault.TheVariants as fault;
 
@@ -22,6 +23,7 @@ impl<'a, S: Sitting> Seat<'a, S> {
     pub fn increase(&mut self, address: usize, number: u32) -> Result<u32, SeatFault>
         ensures ok { IfOk result (λ v. HasActed self.old self.new (word_tally_adding address v number)) }
         ensures err { OnErr result ((v : ℕ) × HasActedInPart self.old self.new (word_tally_adding address v number)) }
+        ensures fault { IfErr result (λ f. (v : ℕ) × HasSeatCallFaultIn S.at self.old self.new (word_tally_adding address v number) f) }
         ensures awaits { self.new.awaits ≡ self.old.awaits }
         ensures barred { kept_layout_lets_access S.at self.old address true ≡ false
             → (result ≡ Err (fault.NotAllowed address)) × (self.new ≡ self.old) }
@@ -45,6 +47,8 @@ impl<'a, S: Sitting> Seat<'a, S> {
     pub fn add(&mut self, lock: usize, address: usize, number: u32) -> Result<u32, SeatFault>
         ensures ok { IfOk result (λ v. HasActed self.old self.new (tenure_of_lock lock (word_tally_adding address v number))) }
         ensures err { OnErr result ((v : ℕ) × HasActedInPart self.old self.new (tenure_of_lock lock (word_tally_adding address v number))) }
+        ensures fault { IfErr result (λ f. (v : ℕ)
+            × HasSeatCallFaultIn S.at self.old self.new (tenure_of_lock lock (word_tally_adding address v number)) f) }
         ensures idle { OnOk result (self.new.awaits ≡ None) }
         ensures sum { OnOk result ((l a n : ℕ) → AddsUpTo l a n (seat_deeds self.old)
             → AddsUpTo l a (n + (if address == a then number else 0)) (seat_deeds self.new)) }
@@ -72,6 +76,8 @@ impl<'a, S: Sitting> Seat<'a, S> {
             (tenure_of_lock lock (word_tally_adding first.0 v first.1 ++ word_tally_adding second.0 w second.1))) }
         ensures err { OnErr result ((v w : ℕ) × HasActedInPart self.old self.new
             (tenure_of_lock lock (word_tally_adding first.0 v first.1 ++ word_tally_adding second.0 w second.1))) }
+        ensures fault { IfErr result (λ f. (v w : ℕ) × HasSeatCallFaultIn S.at self.old self.new
+            (tenure_of_lock lock (word_tally_adding first.0 v first.1 ++ word_tally_adding second.0 w second.1)) f) }
         ensures idle { OnOk result (self.new.awaits ≡ None) }
         ensures sum { OnOk result ((l a n : ℕ) → AddsUpTo l a n (seat_deeds self.old)
             → AddsUpTo l a (n + balance_fact_adds_two first.0 first.1 second.0 second.1 a) (seat_deeds self.new)) }
@@ -97,6 +103,8 @@ impl<'a, S: Sitting> Seat<'a, S> {
         ensures ok { IfOk result (λ words. HasActed self.old self.new (acting_loads_from from words.items)) }
         ensures all { IfOk result (λ words. vec_len words ≡ to - from) }
         ensures err { OnErr result ((words : List ℕ) × HasActed self.old self.new (acting_loads_from from words)) }
+        ensures fault { IfErr result (λ f. ((f ≡ fault.Refused NoMemory) × (self.new ≡ self.old))
+            ⊎ ((words : List ℕ) × HasSeatCallFaultIn S.at self.old self.new (acting_loads_from from words) f)) }
         ensures awaits { self.new.awaits ≡ self.old.awaits }
     {
         let mut words = Vec::with_capacity(alloc, to.saturating_sub(from))?;
@@ -114,6 +122,8 @@ impl<'a, S: Sitting> Seat<'a, S> {
         ensures ok { IfOk result (λ n. HasSummed self.old self.new addresses.now n) }
         ensures err { OnErr result ((words : List ℕ) × (length words ≡ length addresses.now)
             × HasActedInPart self.old self.new (loads_at addresses.now words)) }
+        ensures fault { IfErr result (λ f. (words : List ℕ) × (length words ≡ length addresses.now)
+            × HasSeatCallFaultIn S.at self.old self.new (loads_at addresses.now words) f) }
         ensures awaits { self.new.awaits ≡ self.old.awaits }
     {
         let mut sum = 0u32;
@@ -139,6 +149,8 @@ impl<'a, S: Sitting> Seat<'a, S> {
         ensures ok { IfOk result (λ even. HasWeighed lock left.now right.now self.old self.new even) }
         ensures err { OnErr result ((lefts rights : List ℕ) × (length lefts ≡ length left.now) × (length rights ≡ length right.now)
             × HasActedInPart self.old self.new (tenure_of_lock lock (loads_at left.now lefts ++ loads_at right.now rights))) }
+        ensures fault { IfErr result (λ f. (lefts rights : List ℕ) × (length lefts ≡ length left.now) × (length rights ≡ length right.now)
+            × HasSeatCallFaultIn S.at self.old self.new (tenure_of_lock lock (loads_at left.now lefts ++ loads_at right.now rights)) f) }
         ensures idle { OnOk result (self.new.awaits ≡ None) }
         ensures sum { OnOk result ((l a n : ℕ) → AddsUpTo l a n (seat_deeds self.old) → AddsUpTo l a n (seat_deeds self.new)) }
         ensures balance { IfOk result (λ even. IsBetweenTenures (balance_fact lock left.now right.now) (seat_deeds self.old)
@@ -164,6 +176,7 @@ impl<'a, S: Sitting> Seat<'a, S> {
             → seat_call_refusal_at_once self.old address ≡ Some e → (result ≡ Err (fault.Refused e)) × (self.new ≡ self.old) }
         ensures fits { kept_layout_lets_access S.at self.old address false ≡ true → processor_refusal_of_access self.old address ≡ None
             → IsOk result }
+        ensures fault { IfErr result (IsSeatCallAccessFault S.at self.old self.new address false) }
     {
         match self.load(address) {
             Ok(word) => Ok(T::of_word(word)),
@@ -182,6 +195,7 @@ impl<'a, S: Sitting> Seat<'a, S> {
             → seat_call_refusal_at_once self.old address ≡ Some e → (result ≡ Err (fault.Refused e)) × (self.new ≡ self.old) }
         ensures fits { kept_layout_lets_access S.at self.old address true ≡ true → processor_refusal_of_access self.old address ≡ None
             → IsOk result }
+        ensures fault { IfErr result (IsSeatCallAccessFault S.at self.old self.new address true) }
     {
         self.store(address, value.to_word())
     }

@@ -1,9 +1,12 @@
 //! Loads and stores that fetch a stale copy, and hand in a full block.
-ghost use Rattle.std.specs.Prelude.{◌≡◌, ◌/◌, IsOk, None, OnErr, Some};
+ghost use Rattle.std.specs.Prelude.{◌≡◌, ◌/◌, ℕ, [], true, IfErr, IsOk, None, OnErr, OnOk, Some};
 ghost use Rattle.std.specs.Result.{result_err};
 ghost use Rattle.book.specs.declared.refused.Refused.{Refused as ARefusal};
 ghost use Rattle.cluster.specs.Prelude.{HasCoverage, processor_refusal_of_access};
-ghost use Rattle.seats.specs.Prelude.{SeatCallAccessesBy, SeatCallAccessesInside, SeatCallFetchesBy, seat_call_refusal_at_once};
+ghost use Rattle.cluster.specs.ProcessorRefusals.{processor_refusal_has_valid};
+ghost use Rattle.seats.specs.Prelude.{SeatCallAccessesBy, SeatCallAccessesInside, SeatCallFetchesBy, SeatCallsInside, seat_call_refusal_at_once};
+ghost use Rattle.seats.specs.Prelude.{IsSeatCallAccessRefusal, IsSeatCallFlushFault};
+ghost use Rattle.seats.specs.ReadyAccess.{HasAccessRoom, IsAccessFetchDue, IsAccessReadyBy, IsAccessUnready};
 
 use cluster::{BookLock, Cluster, Processor, Refused};
 use std::sync::Wait;
@@ -19,7 +22,7 @@ pub enum WordAccess {
 
 /// Makes the access: of a copy that is fetched if it is stale, and in a block that is handed in if it is full.
 /// [`Waiting`](Refused::Waiting) if the processor waits, [`OutOfRange`](Refused::OutOfRange) past the last address, both
-/// with nothing done; else refused only as the flush is.
+/// with nothing done; else refused only as the flush of a full block is.
 pub(crate) fn access_word<R: Wait>(
     rt: &R,
     cluster: &Cluster<BookLock>,
@@ -33,37 +36,38 @@ pub(crate) fn access_word<R: Wait>(
     ensures outside { (e : ARefusal) → seat_call_refusal_at_once processor.old address ≡ Some e
         → (result_err result ≡ Some e) × (processor.new ≡ processor.old) }
     ensures fits { processor_refusal_of_access processor.old address ≡ None → IsOk result }
+    ensures fault { IfErr result (IsSeatCallAccessRefusal processor.old address processor.new) }
 {
     if processor.waiting() {
         return Err(Refused::Waiting);
     }
     match access_word_once(processor, address, access) {
-        Err(Refused::Invalid(page)) => {
-            fetch(rt, cluster, processor, page)?;
-            access_word_with_room(rt, cluster, processor, address, access)
+        Ok(word) => Ok(word),
+        Err(refused) => {
+            make_ready(rt, cluster, processor, refused)?;
+            access_word_once(processor, address, access)
         }
-        Err(Refused::BlockFull) => access_word_with_room(rt, cluster, processor, address, access),
-        answer => answer,
     }
 }
 
-/// Makes the access, after a flush if the block is full.
-fn access_word_with_room<R: Wait>(
+/// Makes what an access was refused for: a valid copy, and room in the block. Else it is refused as the access was.
+fn make_ready<R: Wait>(
     rt: &R,
     cluster: &Cluster<BookLock>,
     processor: &mut Processor<BookLock>,
-    address: usize,
-    access: WordAccess,
-) -> Result<u32, Refused>
+    refused: Refused,
+) -> Result<(), Refused>
     requires own { processor.old.lock ≡ cluster.now.lock }
-    ensures { SeatCallAccessesInside processor.old processor.new access address result }
+    requires covers { HasCoverage processor.old }
+    ensures { (a : ℕ) → IsAccessUnready processor.old a refused → IsAccessReadyBy processor.old processor.new a result }
 {
-    match access_word_once(processor, address, access) {
-        Err(Refused::BlockFull) => {
-            cluster.flush(rt, processor)?;
-            access_word_once(processor, address, access)
+    match refused {
+        Refused::Invalid(page) => {
+            fetch(rt, cluster, processor, page)?;
+            make_room(rt, cluster, processor)
         }
-        answer => answer,
+        Refused::BlockFull => make_room(rt, cluster, processor),
+        other => Err(other),
     }
 }
 
@@ -94,13 +98,30 @@ fn fetch<R: Wait>(
     page: usize,
 ) -> Result<(), Refused>
     requires own { processor.old.lock ≡ cluster.now.lock }
-    ensures { SeatCallFetchesBy processor.old processor.new page result }
+    requires covers { HasCoverage processor.old }
+    ensures done { SeatCallFetchesBy processor.old processor.new page result }
+    ensures valid { OnOk result (processor_refusal_has_valid processor.new page ≡ true) }
+    ensures fault { IsAccessFetchDue processor.old page → IfErr result (IsSeatCallFlushFault processor.new) }
 {
-    match processor.fetch(page) {
-        Err(Refused::BlockFull) => {
-            cluster.flush(rt, processor)?;
-            processor.fetch(page)
-        }
-        answer => answer,
+    make_room(rt, cluster, processor)?;
+    processor.fetch(page)
+}
+
+/// Hands the block in, if it is full.
+fn make_room<R: Wait>(
+    rt: &R,
+    cluster: &Cluster<BookLock>,
+    processor: &mut Processor<BookLock>,
+) -> Result<(), Refused>
+    requires own { processor.old.lock ≡ cluster.now.lock }
+    requires covers { HasCoverage processor.old }
+    ensures ok { OnOk result (HasAccessRoom processor.old processor.new) }
+    ensures err { OnErr result (SeatCallsInside processor.old processor.new []) }
+    ensures fault { IfErr result (IsSeatCallFlushFault processor.new) }
+{
+    if processor.room() == 0 {
+        cluster.flush(rt, processor)
+    } else {
+        Ok(())
     }
 }

@@ -1,7 +1,12 @@
-use Rattle.std.proofs.Common.{◌++◌}
+use Rattle.std.proofs.Common.{◌++◌, ℕ, subst, sym}
+use Rattle.journal.specs.declared.event.Kind.TheVariants.{Ask}
 use Rattle.seats.specs.Acting.{HasActed}
 use Rattle.seats.specs.Tenures.{tenure_of_lock}
 use Rattle.seats.specs.WordTallies.{word_tally_adding}
+use Rattle.std.proofs.lemmas.Result.{err_from_is_err_and}
+use Rattle.seats.specs.SeatCallFaults.{HasSeatCallFaultIn}
+use Rattle.seats.proofs.ActingFaults.{acting_fault_first, acting_fault_front, acting_fault_held, acting_fault_then, acting_fault_unreleased}
+use Rattle.seats.proofs.SeatFaults.{seat_fault_told}
 use Rattle.seats.proofs.seat.Seat.add_two.Given.{Over}
 use Rattle.seats.proofs.SeatActing.{seat_acted_tenure, seat_acted_then, seat_acting_faulted, seat_acted_in_part_asked, seat_acted_in_part_front, seat_acted_in_part_held, seat_acted_in_part_then, seat_acted_in_part_unreleased}
 use Rattle.seats.proofs.BalancedTenures.{balanced_tenure_adds_two_in_all, balanced_tenure_of_two}
@@ -79,3 +84,42 @@ pub returns-clause-outside : goal.returns-clause-outside
 returns-clause-outside g c e due =
     let refused = (c.in_ok-lock.ensures.outside e due).0 in
     absurd (cc)
+
+pub returns-in_err-lock-clause-fault : goal.returns-in_err-lock-clause-fault
+returns-in_err-lock-clause-fault g c =
+    let told = err_from_is_err_and c.from_residual.result c.from_residual.ensures.1 in
+    seat_fault_told _ c.from_residual.result told.0 told.1 (subst (λ f. (v w : ℕ) × HasSeatCallFaultIn g.S.Sitting.at c.args.self.now c.lock.new.self (tenure_of_lock c.args.lock (word_tally_adding c.args.first.0 v c.args.first.1 ++ word_tally_adding c.args.second.0 w c.args.second.1)) f) (sym told.2)
+    (0, 0, acting_fault_first (Ask c.args.lock) _ c.in_err-lock.ensures.fault))
+
+pub returns-in_err-increase-clause-fault : goal.returns-in_err-increase-clause-fault
+returns-in_err-increase-clause-fault g c =
+    let told = err_from_is_err_and c.from_residual-in_err-increase.result c.from_residual-in_err-increase.ensures.1 in
+    seat_fault_told _ c.from_residual-in_err-increase.result told.0 told.1 (subst (λ f. (v w : ℕ) × HasSeatCallFaultIn g.S.Sitting.at c.args.self.now c.increase.new.self (tenure_of_lock c.args.lock (word_tally_adding c.args.first.0 v c.args.first.1 ++ word_tally_adding c.args.second.0 w c.args.second.1)) f) (sym told.2) (
+      c.in_err-increase.ensures.fault.0,
+      0,
+      acting_fault_held c.args.lock _ c.in_ok-lock.ensures.ok
+          (acting_fault_front (word_tally_adding c.args.second.0 0 c.args.second.1) c.in_err-increase.ensures.fault.1),
+    ))
+
+pub returns-in_err-increase-2-clause-fault : goal.returns-in_err-increase-2-clause-fault
+returns-in_err-increase-2-clause-fault g c =
+    let told = err_from_is_err_and c.from_residual-in_err-increase-2.result c.from_residual-in_err-increase-2.ensures.1 in
+    seat_fault_told _ c.from_residual-in_err-increase-2.result told.0 told.1 (subst (λ f. (v w : ℕ) × HasSeatCallFaultIn g.S.Sitting.at c.args.self.now c.increase-2.new.self (tenure_of_lock c.args.lock (word_tally_adding c.args.first.0 v c.args.first.1 ++ word_tally_adding c.args.second.0 w c.args.second.1)) f) (sym told.2) (
+      c.in_ok-increase.field-0,
+      c.in_err-increase-2.ensures.fault.0,
+      acting_fault_held c.args.lock _ c.in_ok-lock.ensures.ok
+          (acting_fault_then (word_tally_adding c.args.first.0 c.in_ok-increase.field-0 c.args.first.1) c.in_ok-increase.ensures.ok
+          c.in_err-increase-2.ensures.fault.1),
+    ))
+
+pub returns-in_err-unlock-clause-fault : goal.returns-in_err-unlock-clause-fault
+returns-in_err-unlock-clause-fault g c =
+    let told = err_from_is_err_and c.from_residual-in_err-unlock.result c.from_residual-in_err-unlock.ensures.1 in
+    seat_fault_told _ c.from_residual-in_err-unlock.result told.0 told.1 (subst (λ f. (v w : ℕ) × HasSeatCallFaultIn g.S.Sitting.at c.args.self.now c.unlock.new.self (tenure_of_lock c.args.lock (word_tally_adding c.args.first.0 v c.args.first.1 ++ word_tally_adding c.args.second.0 w c.args.second.1)) f) (sym told.2) (
+      c.in_ok-increase.field-0,
+      c.in_ok-increase-2.field-0,
+      acting_fault_unreleased c.args.lock _ c.in_ok-lock.ensures.ok
+          (seat_acted_then (word_tally_adding c.args.first.0 c.in_ok-increase.field-0 c.args.first.1)
+          (word_tally_adding c.args.second.0 c.in_ok-increase-2.field-0 c.args.second.1) c.in_ok-increase.ensures.ok c.in_ok-increase-2.ensures.ok)
+          c.in_err-unlock.ensures.fault,
+    ))

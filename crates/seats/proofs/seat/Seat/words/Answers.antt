@@ -1,6 +1,13 @@
-use Rattle.std.proofs.Common.{[], length, ap, ◌∙◌, arith}
+use Rattle.std.proofs.Common.{[], length, ap, ◌∙◌, arith, ℕ, ◌≡◌, ◌⊎◌, List, inl, inr, refl, subst, sym}
 use Rattle.std.proofs.lemmas.List.{length_push}
 use Rattle.seats.proofs.SeatActing.{seat_acted_nothing, seat_acting_faulted, seat_acted_loads_more, seat_acted_loads_none}
+use Rattle.std.proofs.lemmas.Result.{err_from_is_err_and}
+use Rattle.seats.specs.SeatCallFaults.{HasSeatCallFaultIn}
+use Rattle.book.specs.declared.refused.Refused.TheVariants.{NoMemory}
+use Rattle.seats.specs.declared.fault.SeatFault.TheVariants.{Refused}
+use Rattle.seats.specs.Acting.{acting_loads_from}
+use Rattle.seats.proofs.ActingFaults.{acting_fault_loads}
+use Rattle.seats.proofs.SeatFaults.{seat_fault_told}
 use Rattle.seats.proofs.seat.Seat.words.Goals as goal
 
 pub returns-in_err-words-clause-err : goal.returns-in_err-words-clause-err
@@ -29,3 +36,16 @@ loop-address-preserved g c =
       room = let room = inv.room in let same = pushed.capacity in omega arith;
       awaits = c.in_ok-word.ensures.ok.inside.awaits_is ∙ inv.awaits;
     }
+
+pub returns-in_err-words-clause-fault : goal.returns-in_err-words-clause-fault
+returns-in_err-words-clause-fault g c =
+    let told = err_from_is_err_and c.from_residual.result c.from_residual.ensures.1 in
+    seat_fault_told _ c.from_residual.result told.0 told.1 (inl (told.2, refl))
+
+pub returns-in_err-word-clause-fault : goal.returns-in_err-word-clause-fault
+returns-in_err-word-clause-fault g c =
+    let told = err_from_is_err_and c.from_residual-in_err-word.result c.from_residual-in_err-word.ensures.1 in
+    seat_fault_told _ c.from_residual-in_err-word.result told.0 told.1 (subst (λ f. ((f ≡ Refused NoMemory) × (c.load.new.self ≡ c.args.self.now)) ⊎ ((words : List ℕ) × HasSeatCallFaultIn g.S.Sitting.at c.args.self.now c.load.new.self (acting_loads_from c.args.from words) f)) (sym told.2)
+    (inr (acting_fault_loads c.args.from c.loop-address.address c.loop-address.words.items
+    (let was = c.loop-address.words.ok.0 in let long = c.loop-address.invariant.long in omega arith)
+    c.loop-address.invariant.acted c.in_err-word.ensures.fault)))
