@@ -292,14 +292,18 @@ count("an access that was let go of is an object, too", f'"guarded":[{{"place":{
 
 # Of word 4099 two processors' accesses hold no lock in common, the second one long behind the first; before that one comes an access
 # with another lock and another label, and behind it one with its own lock and label by another processor. Word 4100 races, long behind
-# its first access; word 4101 is told though its first access is followed by others of its sort.
+# its first access; word 4101 is told though its first access is followed by others of its sort. Two accesses of word 4102 hold lock 1, and others of their
+# sort follow them; that somebody forgot the lock shows long behind them.
 FAR = [*section(1, 1, "store 4099 1  other.c:1"), *section(0, 1), *section(0, 0, "store 4099 1  first.c:2"), *section(0, 0, "store 4099 2  first.c:3"),
        *section(0, 1, "store 4099 3  other.c:4"), "5 store 4100 1  race.c:5", *section(0, 0), *section(1, 0),
        "0 store 4101 1  early.c:6", *section(0, 0), *section(1, 0), "1 store 4101 2  early.c:7", *section(1, 0), *section(0, 0),
-       "0 store 4101 3  early.c:8", *section(0, 0), *section(1, 0), "1 store 4101 4  early.c:9", "1 store 4101 5  early.c:10"]
+       "0 store 4101 3  early.c:8", *section(0, 0), *section(1, 0), "1 store 4101 4  early.c:9", "1 store 4101 5  early.c:10",
+       *section(0, 1, "store 4102 1"), *section(1, 1, "store 4102 2  both.c:11"), *section(0, 1, "load 4102 2  both.c:12"),
+       *section(1, 1, "store 4102 3  both.c:13"), *section(0, 1, "load 4102 3  both.c:14")]
 FIRST_FAR = FAR.index("0 store 4099 2  first.c:3")
 RACE_FAR = FAR.index("5 store 4100 1  race.c:5")
 TOLD_FAR = FAR.index("1 store 4101 2  early.c:7"), FAR.index("0 store 4101 3  early.c:8")
+BOTH_FAR = [FAR.index(it) for it in ("1 store 4102 2  both.c:11", "0 load 4102 2  both.c:12", "1 store 4102 3  both.c:13")]
 AFTER = [*section(1, 1), *section(0, 1), *section(1, 1, "load 4099 3  last.c:11")]
 MOVED_FAR = [b"event %d %s" % (int(line.split(b" ", 2)[1]) + len(FAR), line.split(b" ", 2)[2]) for line in LINES[1:]]
 BEHIND = EVENTS + len(FAR)
@@ -308,6 +312,10 @@ status, said, wrong = long_judged([*FARTHER, *numbered(AFTER, BEHIND)], "--locks
 count("an access long ago is told with its label", status == 0 and f" {FIRST_FAR} (first.c:3) by p0 and event " in said and "(last.c:11) by p1" in said, status, said[:900], wrong)
 count("an access is told with its label though others followed", f"handed over 4101: event {TOLD_FAR[0]} (early.c:7) by p1 and event {TOLD_FAR[1]} (early.c:8) by p0 " in said,
       status, said[:900], wrong)
+status, said, wrong = long_judged([*FARTHER, *numbered(["0 store 4102 4  bare.c:15"], BEHIND)], "--locksets", "forgotten")
+count("accesses that hold a lock in common are told with their labels though others followed and the word is told long behind them",
+      f"unprotected 4102: event {BOTH_FAR[2]} (both.c:13) by p1 and event {BEHIND} (bare.c:15) by p0 hold no lock in common; "
+      f"events {BOTH_FAR[0]} (both.c:11) and {BOTH_FAR[1]} (both.c:12) hold lock 1\n" in said, status, said[:900], wrong)
 for words in ((), ("--locksets", "all")):
     status, said, wrong = long_judged([*FARTHER, *numbered(["6 store 4100 2  end"], BEHIND)], *words)
     count(f"the first access of a race is told though it came long ago, {words}",

@@ -1,11 +1,8 @@
 -- The events of other processors with an edge to an event.
-use Rattle.std.proofs.Common.{◌≡◌, ◌≢◌, ℕ, ◌+◌, ◌<◌, ◌≤◌, ◌==◌, ◌&&◌, Bool, true, false, cond, inl, inr, List, [], ◌∷◌, ◌++◌, Some, length, take, slice_index, slice_set, subst, sym, refl, ap, ◌∙◌, arith}
+use Rattle.std.proofs.Common.{◌≡◌, ◌≢◌, ℕ, ◌+◌, ◌<◌, ◌≤◌, ◌==◌, ◌&&◌, Bool, true, false, cond, inl, inr, List, length, take, slice_index, slice_set, subst, sym, refl, ap, ◌∙◌, arith}
 use Rattle.std.proofs.lemmas.Bool.{cases_eq, eq-eqb, ne_eqb}
 use Rattle.std.proofs.lemmas.List.{length-set, length-take-le, get_or-set_same, get_or-set_other}
 use Rattle.std.proofs.lemmas.List.Sums.{count_by-le-length}
-use Rattle.std.proofs.lemmas.Option.{none-some, slice_get_within}
-use Rattle.base.specs.InOrderOnce.{Has, InOrder}
-use Rattle.base.proofs.SlicesAndCounts.{slice_push_cases, slice_get-append_left, slice_get-last}
 use Rattle.journal.specs.declared.event.Event.{Event}
 use Rattle.journal.specs.declared.event.Kind.{Kind}
 use Rattle.journal.specs.declared.event.Kind.TheVariants.{Acquire, Release, Depart, Set, Await}
@@ -13,7 +10,7 @@ use Rattle.journal.specs.Events.{EventAt, event_count, event_arrives, event_depa
 use Rattle.journal.specs.HappensBeforeEdges.{LetsThrough, Link, same, lets, meets}
 use Rattle.journal.proofs.Order.EventPlacesAndCounts.{event_place_same}
 use Rattle.journal.proofs.Passes.NextRaces.{next_race_count}
-use Rattle.causes.specs.Edges.{AreEdges, EdgeFromOther, EdgeLetsOn}
+use Rattle.causes.specs.Edges.{EdgeFromOther, EdgeLetsOn}
 
 edge_leads_lets_through : (a b : Kind) (n m : ℕ) → LetsThrough a b → EdgeLetsOn a n b m
 edge_leads_lets_through (Release l) (Acquire k) n m is = ap (λ x. Release x) is
@@ -63,71 +60,6 @@ edge_leads_led j i k e f at to x =
     let into = event_place_same j k x.edge.to f x.edge.to_at to in
     subst (λ (y : Event). LeadsTo j i k y f) from (subst (λ (y : Event). LeadsTo j i k x.edge.from y) into
     (x.apart, edge_leads_link_on j i k x.edge.from x.edge.to x.apart x.edge.link))
-
--- these are the places below n with such an edge to place k, rising
-pub record AreLeadingEdgesBelow (j : List Event) (k n : ℕ) (places : List ℕ) : Type 0 where
-  pub all : (i : ℕ) → i < n → EdgeFromOther j i k → Has places i
-  pub each : (i : ℕ) → Has places i → (i < n) × EdgeFromOther j i k
-  pub order : InOrder (λ i m. i < m) places
-
--- at first there are none
-pub edge_leads_start : (j : List Event) (k : ℕ) → AreLeadingEdgesBelow j k 0 []
-edge_leads_start j k = record {
-  all = λ i lt x. absurd (omega arith);
-  each = λ i at. absurd (none-some i at.1);
-  order = λ m n i l lt at to. absurd (none-some i at);
-}
-
--- a place more that has no edge
-pub edge_leads_others : (j : List Event) (k n : ℕ) (places : List ℕ) → ¬ EdgeFromOther j n k → AreLeadingEdgesBelow j k n places
-    → AreLeadingEdgesBelow j k (n + 1) places
-edge_leads_others j k n places away old = record {
-  all = λ i lt x. elim (cases_eq i n) [
-    | inl is ↦ absurd (away (subst (λ m. EdgeFromOther j m k) is x))
-    | inr isnt ↦ old.all i (omega arith) x
-  ];
-  each = λ i at. (let x = old.each i at in let lt = x.0 in (omega arith, x.1));
-  order = old.order;
-}
-
--- and one that has
-pub edge_leads_next : (j : List Event) (k n : ℕ) (places : List ℕ) → EdgeFromOther j n k → AreLeadingEdgesBelow j k n places
-    → AreLeadingEdgesBelow j k (n + 1) (places ++ n ∷ [])
-edge_leads_next j k n places now old = record { all = all; each = each; order = order }
-  where
-    older : (i : ℕ) → Has places i → Has (places ++ n ∷ []) i
-    older i at = (at.0, slice_get-append_left places (n ∷ []) at.0 (slice_get_within places at.0 i at.1) ∙ at.1)
-
-    all : (i : ℕ) → i < n + 1 → EdgeFromOther j i k → Has (places ++ n ∷ []) i
-    all i lt x = elim (cases_eq i n) [
-      | inl is ↦ (length places, slice_get-last places n ∙ ap (λ m. Some m) (sym is))
-      | inr isnt ↦ older i (old.all i (omega arith) x)
-    ]
-
-    each : (i : ℕ) → Has (places ++ n ∷ []) i → (i < n + 1) × EdgeFromOther j i k
-    each i at = elim (slice_push_cases places n at.0 i at.1) [
-      | inl was ↦ (let x = old.each i (at.0, was.1) in let lt = x.0 in (omega arith, x.1))
-      | inr new ↦ (omega (arith, new.1), subst (λ m. EdgeFromOther j m k) new.1 now)
-    ]
-
-    order : InOrder (λ i m. i < m) (places ++ n ∷ [])
-    order m l i h lt at to = elim (slice_push_cases places n l h to) [
-      | inl was ↦ elim (slice_push_cases places n m i at) [
-        | inl first ↦ old.order m l i h lt first.1 was.1
-        | inr new ↦ absurd (omega (arith, was.0, new.0, lt))
-      ]
-      | inr new ↦ elim (slice_push_cases places n m i at) [
-        | inl first ↦ (let x = (old.each i (m, first.1)).0 in omega (arith, new.1))
-        | inr later ↦ absurd (omega (arith, later.0, new.0, lt))
-      ]
-    ]
-
--- an edge leads forward
-pub edge_leads_all : (j : List Event) (k n : ℕ) (places : List ℕ) → k ≡ n → AreLeadingEdgesBelow j k n places → AreEdges j k places
-edge_leads_all j k n places is old = record {
-  has = λ i. ((λ at. (old.each i at).1), λ x. (let lt = x.edge.before in old.all i (omega arith) x));
-  order = old.order;
-}
 
 -- no count of a journal's front is past its place
 pub edge_leads_count_within : (is : Kind → Bool) (j : List Event) (i p : ℕ) → i ≤ length j → event_count is (take i j) p ≤ i

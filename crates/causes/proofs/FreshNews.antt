@@ -264,10 +264,6 @@ fresh_news_below_none j x q n old late i = (
   ],
 )
 
--- where a processor hears of nothing of q's, there is no news of q's
-pub fresh_news_none : {j : List Event} {x : Step} {q i : ℕ} → slice_index x.before q ≡ slice_index x.after q → ¬ IsNewsOfStep j x q i
-fresh_news_none same new = let late = new.late in let known = new.known in omega arith
-
 -- a place more that isn't among them
 fresh_news_once_next : (xs : List ℕ) (y : ℕ) → IsOnce xs → ¬ Has xs y → IsOnce (xs ++ y ∷ [])
 fresh_news_once_next xs y once away m n a b lt at to is = elim (slice_push_cases xs y n b to) [

@@ -1,15 +1,13 @@
 -- What one processor has heard of another's events.
-use Rattle.std.proofs.Common.{◌≡◌, ◌≢◌, ℕ, ◌+◌, ◌<◌, ◌≤◌, inl, inr, List, length, Option, Some, MatchOption, false, subst, refl, arith}
+use Rattle.std.proofs.Common.{◌≡◌, ℕ, ◌+◌, ◌<◌, ◌≤◌, inl, inr, List, Option, Some, MatchOption, subst, arith}
 use Rattle.std.specs.Prelude.{None}
 use Rattle.std.proofs.lemmas.Bool.{cases_eq}
 use Rattle.journal.specs.declared.event.Event.{Event}
 use Rattle.journal.specs.declared.event.Kind.{Kind}
-use Rattle.journal.specs.declared.event.Kind.TheVariants.{Load, Store}
-use Rattle.journal.specs.Events.{EventAt, event_address, event_takes}
+use Rattle.journal.specs.Events.{EventAt}
 use Rattle.journal.specs.HappensBeforeEdges.{HappensBefore}
-use Rattle.journal.specs.Races.{Race}
 use Rattle.journal.specs.WellFormed.{Does}
-use Rattle.journal.proofs.Order.EventPlacesAndCounts.{event_place_same, event_place_inside, event_place_does}
+use Rattle.journal.proofs.Order.EventPlacesAndCounts.{event_place_does}
 use Rattle.journal.proofs.Order.HappensBefore.{happens_before_goes_forward}
 use Rattle.causes.specs.Heard.{IsHeard}
 
@@ -60,30 +58,3 @@ last_heard_all j q k n (Some i) le old = record {
   before = old.before;
   last = λ m a does h. (let lt = happens_before_goes_forward j h in old.last m a (omega arith) does h);
 }
-
--- the events of a race: they are of two processors, and the second one takes nothing
-pub record AreLastHeardApart (j : List Event) (i k : ℕ) (e : Event) : Type 0 where
-  pub within : i < length j
-  pub second : Event
-  pub at : EventAt j k second
-  pub quiet : event_takes second.kind ≡ false
-  pub apart : e.processor ≢ second.processor
-
-last_heard_access_quiet : (k : Kind) (a : ℕ) → event_address k ≡ Some a → event_takes k ≡ false
-last_heard_access_quiet (Load a v) b is = refl
-last_heard_access_quiet (Store a v) b is = refl
-last_heard_access_quiet _ b is = absurd cc
-
-pub last_heard_are_apart : (j : List Event) (i k : ℕ) (e : Event) → Race j i k → (i < length j → EventAt j i e) → AreLastHeardApart j i k e
-last_heard_are_apart j i k e race at = record {
-  within = within;
-  second = race.second;
-  at = race.second_at;
-  quiet = last_heard_access_quiet race.second.kind race.conflict.address race.conflict.second;
-  apart =
-      subst (λ (x : Event). x.processor ≢ race.second.processor) (event_place_same j i race.first e race.first_at (at within))
-      race.apart;
-}
-  where
-    within : i < length j
-    within = event_place_inside j i race.first race.first_at

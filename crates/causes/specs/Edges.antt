@@ -1,6 +1,5 @@
 -- The events of other processors with an edge to an event.
-use Rattle.std.specs.Prelude.{ℕ, ◌≡◌, ◌≢◌, ◌<◌, ◌↔◌, List}
-use Rattle.base.specs.InOrderOnce.{Has, InOrder}
+use Rattle.std.specs.Prelude.{ℕ, ◌≡◌, ◌≢◌, List}
 use Rattle.journal.specs.declared.event.Event.{Event}
 use Rattle.journal.specs.declared.event.Kind.{Kind}
 use Rattle.journal.specs.declared.event.Kind.TheVariants.{Acquire, Release, Arrive, Depart, Set, Await}
@@ -10,11 +9,6 @@ use Rattle.journal.specs.HappensBeforeEdges.{Edge}
 pub record EdgeFromOther (j : List Event) (i k : ℕ) : Type 0 where
   pub edge : Edge j i k
   pub apart : edge.from.processor ≢ edge.to.processor
-
--- these are the places with such an edge to place k, rising
-pub record AreEdges (j : List Event) (k : ℕ) (places : List ℕ) : Type 0 where
-  pub has : (i : ℕ) → Has places i ↔ EdgeFromOther j i k
-  pub order : InOrder (λ i m. i < m) places
 
 -- an event of the first kind, before which its processor arrived so often, lets on one of the second, before which its
 -- processor departed so often

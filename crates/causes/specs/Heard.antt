@@ -2,11 +2,8 @@
 use Rattle.std.specs.Prelude.{ℕ, ◌≤◌, List, Option, MatchOption}
 use Rattle.journal.specs.declared.event.Event.{Event}
 use Rattle.journal.specs.declared.event.Kind.{Kind}
-use Rattle.journal.specs.Events.{EventAt}
 use Rattle.journal.specs.HappensBeforeEdges.{HappensBefore}
-use Rattle.journal.specs.Races.{IsFirstRace}
 use Rattle.journal.specs.WellFormed.{Does}
-use Rattle.causes.specs.declared.racing.FirstRace.{FirstRace}
 
 -- no event of q happens before place k
 abbrev pub HeardNothing : List Event → ℕ → ℕ → Type 0
@@ -22,8 +19,3 @@ pub record IsHeardAt (j : List Event) (q k i : ℕ) : Type 0 where
 -- the last event of q that happens before place k, where there is one
 abbrev pub IsHeard : List Event → ℕ → ℕ → Option ℕ → Type 0
 IsHeard j q k o = MatchOption o (HeardNothing j q k) (IsHeardAt j q k)
-
--- the first race, and the last event of the first one's processor that happens before the second one
-pub record IsHeardAtRace (j : List Event) (r : FirstRace) : Type 0 where
-  pub race : IsFirstRace j r.first r.second
-  pub heard : (e : Event) → EventAt j r.first e → IsHeard j e.processor r.second r.heard

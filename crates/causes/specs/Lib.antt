@@ -12,7 +12,6 @@ pub mod Apart
 pub mod NumberedStores
 pub mod Origins
 pub mod FetchedOrigins
-pub mod Explanation
 pub mod Part
 pub mod Notices
 pub mod ClosedRecords

@@ -1,10 +1,8 @@
 -- The words that contracts name, passed on from one place. Declares nothing.
 pub use Rattle.causes.specs.Source.{AreSources, IsSource, IsSourceAt}
-pub use Rattle.causes.specs.Heard.{IsHeardAtRace, IsHeard}
-pub use Rattle.causes.specs.Explanation.{IsExplanation}
+pub use Rattle.causes.specs.Heard.{IsHeard}
 pub use Rattle.causes.specs.Part.{IsInPart}
-pub use Rattle.causes.specs.Edges.{AreEdges, EdgeLetsOn}
-pub use Rattle.causes.specs.Edges.{EdgeFromOther}
+pub use Rattle.causes.specs.Edges.{EdgeFromOther, EdgeLetsOn}
 pub use Rattle.causes.specs.Index.{AreIndexedClosings, AreIndexedClosingsOf, AreIndexedTurns, IsIndex}
 pub use Rattle.causes.specs.News.{AreIncomingNews, AreNewsRising, IsNewsOfStep, IsNews, NewsCutsAround}
 pub use Rattle.causes.specs.HandOvers.{AreAllHandOvers, AreHandOvers, AreHandOversFrom}

@@ -81,11 +81,11 @@ pub(crate) fn hand_overs_by(
     all_hand_overs(alloc, reach, history.events(), &rows)
 }
 
-/// Of each event of the history: of its news, as `incoming` finds them, the last ones, falling. None of them happens before
+/// Of each event of the history: of its news, as `incoming_news` finds them, the last ones, falling. None of them happens before
 /// another, and each of the others happens before one. So they are at most one of each other processor, and of an acquire the
 /// last release alone. The only error is running out of memory.
 ///
-/// It takes time as `incoming` does, and for each of the news that of the processors times the logarithm of the events.
+/// It takes time as `incoming_news` does, and for each of the news that of the processors times the logarithm of the events.
 pub fn hand_overs(alloc: Global, history: &History<'_>) -> Result<Vec<Vec<usize>>, AllocError>
     ensures { IfOk result (λ v. AreAllHandOvers history.now.events v.items) }
 {

@@ -11,21 +11,20 @@
 //! protocol's state at an event is, `IsFinalWait` of specs/FinalWaits what each thing
 //! that a processor waits for means; all in journal's words of happens-before, latest stores, races, gaps of copies and who
 //! holds a lock. A history is a `judge::History`; it need not be one that a cluster can make. What copies have and lack is told of
-//! one with at most 16 processors (`origins`, `dues`, `event_states`, `written_words`, `explain`), all else of any.
+//! one with at most 16 processors (`origins`, `dues`, `event_states`, `written_words`), all else of any.
 //!
 //! **What is proved.** `sources_of_loads` names for each load a latest store of its past whose value it answers; or that its past
-//! has no store and it answers 0; or that it may not answer what it does. `race` is the first race, with the last event
-//! of the first access's processor that happens before the second access. `edges` has, of one event, exactly the events of
-//! other processors with an edge to it; `incoming_news` has, of each event, exactly those of them that its processor had not
-//! heard of, `hand_overs` the last of these. `origins` has, of each load, the store from which its copy's word comes, and by
-//! which event. `way` has, of two events, a way along edges from the one to the other, exactly where the one is the other or
-//! happens before it; `Ways` finds many. `dues` has, of each event that takes, exactly the records that its processor's
+//! has no store and it answers 0; or that it may not answer what it does. `race_apart` has, of a race, the last event
+//! of the first access's processor that happens before the second access, and the locks held at both. `incoming_news` has, of
+//! each event, exactly the events of other processors with an edge to it that its processor had not heard of, `hand_overs` the
+//! last of these. `origins` has, of each load, the store from which its copy's word comes, and by
+//! which event. `Ways::way` has, of two events, a way along edges from the one to the other, exactly where the one is the other
+//! or happens before it. `dues` has, of each event that takes, exactly the records that its processor's
 //! copies lack after it and did not lack before, and of each fetch those that its copy of the page lacked, by page and
 //! writer. `event_states` has, of each event that is asked for, its processor's timestamp after it, the interval that it lies in, that
 //! one's records if it closes it, exactly the write notices that it brings, and exactly the pages of which its processor's copy
 //! is stale after it, and dirty. `final_waits` has, of each processor, what it waits for at the end: a lock, who holds it and whose asks of it are
-//! earlier; a flag, and whether it is set; or exactly the processors that have not arrived. `explain` has what
-//! `sources_of_loads`, `race`, `incoming_news` and `final_waits` tell.
+//! earlier; a flag, and whether it is set; or exactly the processors that have not arrived.
 //!
 //! **What is only tested** (in `tests/memory`): that memory isn't refused needlessly, and that each refusal is answered.
 #![tactic(auto)]
@@ -35,7 +34,6 @@ mod brought;
 mod closed_records;
 mod edge;
 mod event_dues;
-mod explaining;
 mod hand_over_lists;
 mod heard;
 mod index;
@@ -44,7 +42,6 @@ mod news;
 mod notices;
 mod origin;
 mod part;
-mod racing;
 mod reaching;
 mod source;
 mod span;
@@ -59,18 +56,15 @@ mod written;
 
 pub use apart::{RaceApart, race_accesses_apart, race_apart};
 pub use closed_records::PageRecord;
-pub use edge::edges;
 pub use event_dues::{Due, dues};
-pub use explaining::{Explanation, explain};
 pub use hand_over_lists::hand_overs;
 pub use lock_holders::locks_of_holder;
 pub use news::incoming_news;
 pub use notices::WriteNotice;
 pub use origin::{WordOrigin, origins};
 pub use part::Part;
-pub use racing::{FirstRace, race};
 pub use source::{Source, sources_of_loads};
 pub use states_of_events::{EventState, event_states};
 pub use waits_at_end::{Wait, final_waits};
-pub use ways::{Ways, way};
+pub use ways::Ways;
 pub use written::{WrittenWord, written_words};

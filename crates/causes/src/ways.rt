@@ -1,5 +1,5 @@
 //! Ways from one event to another, along edges.
-ghost use Rattle.std.specs.Prelude.{◌≡◌, ◌↔◌, ℕ, ◌<◌, ◌≤◌, IsSome, IsTrue, IfOk, IfSome, MatchOption, length};
+ghost use Rattle.std.specs.Prelude.{◌≡◌, ◌↔◌, ℕ, ◌<◌, IsSome, IsTrue, IfOk, IfSome, MatchOption, length};
 ghost use Rattle.journal.specs.Pasts.{UpTo};
 ghost use Rattle.journal.specs.Prelude.{Edge};
 ghost use Rattle.judge.specs.Prelude.{most_judged_processors};
@@ -129,23 +129,4 @@ impl Ways {
         let places = self.lead(alloc, events, from, to)?;
         Ok(Some(places))
     }
-}
-
-/// The places of a way from the event at `from` to the one at `to` of the history, as `Ways::way` finds it: of which each has an
-/// edge to the next. None where `from` is not `to` and doesn't happen before it. The only error is running out of memory.
-///
-/// It takes time and memory in the order of the number of events times that of processors.
-pub fn way(
-    alloc: Global,
-    history: &History<'_>,
-    from: usize,
-    to: usize,
-) -> Result<Option<Vec<usize>>, AllocError>
-    requires from { from < length history.now.events }
-    requires to { to < length history.now.events }
-    ensures found { IfOk result (λ o. IsSome o ↔ UpTo history.now.events to from) }
-    ensures way { IfOk result (λ o. IfSome o (λ v. IsPathWay history.now.events from to v.items)) }
-{
-    let ways = Ways::new(alloc, history)?;
-    ways.way(alloc, history.events(), from, to)
 }

@@ -42,18 +42,6 @@ stored_next_no_store s j e n q none x = (
   ],
 )
 
--- a store to an address that was stored to in this interval
-pub stored_next_stored : (s : Sizes) (j : List Event) (q a w : ℕ) → FetchGapStoreAt j a q (event_count event_closes j q)
-    → IsStoredSame s j (event q (Store a w)) (a / s.words) q
-stored_next_stored s j q a w was x =
-    let one = gap_event_word_next s j q a w in (
-      one.same (a / s.words) q x,
-      λ h. elim (one.others (a / s.words) q x h) [
-        | inl old ↦ old
-        | inr new ↦ subst (FetchGapStoreOfWord s j (a / s.words) q) (sym new.2) (was, refl)
-      ],
-    )
-
 stored_next_page_same : (s : Sizes) (j : List Event) (e : Event) (n q : ℕ) → IsStoredSame s j e n q → (k : ℕ)
     → FetchGapStoreInPage s j n q k ↔ FetchGapStoreInPage s (j ++ e ∷ []) n q k
 stored_next_page_same s j e n q same k = (

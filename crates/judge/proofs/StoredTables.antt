@@ -2,7 +2,6 @@
 use Rattle.std.proofs.Common.{ℕ, ◌≡◌, ◌≢◌, ◌+◌, ◌-◌, ◌/◌, ◌==◌, ◌<◌, ◌≤◌, ◌↔◌, ◌&&◌, inl, inr, cond, Bool, true, false, List, [], ◌∷◌, ◌++◌, length, vec_len, slice_index, refl, sym, ap, ◌∙◌, subst, arith}
 use Rattle.std.specs.Global.{Vec}
 use Rattle.std.proofs.lemmas.Bool.{cases_eq}
-use Rattle.std.proofs.lemmas.List.Sums.{count_by-le-length}
 use Rattle.journal.specs.declared.event.Event.{Event}
 use Rattle.journal.specs.declared.event.Kind.TheVariants.{Store}
 use Rattle.journal.specs.DidEvent.{did, event}
@@ -25,10 +24,6 @@ use Rattle.judge.proofs.NearestRaceSteps.{nearest_race_row_one}
 use Rattle.judge.proofs.StoredNext.{IsStoredSame, StoredRowAdds, stored_next_mark_same, stored_next_no_store, stored_next_same, stored_next_store}
 
 -- ---- what closes
-
--- no more is closed than there are events
-pub stored_tables_closed_few : (j : List Event) (q : ℕ) → event_count event_closes j q ≤ length j
-stored_tables_closed_few j q = count_by-le-length (λ (e : Event). (e.processor == q) && event_closes e.kind) j
 
 and_true : (a b : Bool) → b ≡ true → ◌≡◌ {A = ℕ} (cond (a && b) 1 0) (cond a 1 0)
 and_true true b is = ap (λ x. cond x 1 0) is

@@ -2,12 +2,12 @@
 pub use Rattle.judge.specs.JudgedSizes.{AreJudgedSizes, AreJudgedSizesSmall, AreStreamedSizes, judged_sizes_most_addresses, judged_sizes_of, most_judged_events, most_judged_processors}
 pub use Rattle.judge.specs.SparseTables.{IsSparse, IsSparseFor, IsSparseRowFrom, IsSparseRowOf, IsSparseRowWith, IsSparseWith, most_sparse_values, sparse_at, sparse_chunk_rows, sparse_mark, sparse_room, sparse_row}
 pub use Rattle.judge.specs.LaxWellFormed.{LaxAskLaw, LaxLaw, LaxMayFollow, WellFormedOrLax, lax_ask_of}
-pub use Rattle.judge.specs.Why.{IsFirstWhyIllFormed, WhyIsInTurn, IsWhyVerdict, WhyMayTake, WhyWaitsFor, WhyLaw}
+pub use Rattle.judge.specs.Why.{WhyIsInTurn, IsWhyVerdict, WhyMayTake, WhyWaitsFor, WhyLaw}
 pub use Rattle.judge.specs.FrontTells.{FrontTellsFirstAsk, FrontTellsNobodyAsks, FrontTellsHistory, front_tells_holder_after, front_tells_flag_set_after}
 pub use Rattle.judge.specs.HistoryRanges.{HistoryRangeLaw}
 pub use Rattle.judge.specs.GapTally.{GapTallyAdds, IsGapTallyFor, is_gap_tally_between, gap_tally_mark, gap_tally_numbers, gap_tally_place_of}
 pub use Rattle.judge.specs.FetchGaps.{AreFetchGapsOf, AreFetchGapsLong, FetchGapBroughtUpTo, FetchGapStoreInPage, TellsFetchGaps, fetch_gap_time}
-pub use Rattle.judge.specs.Miscounted.{IsNotMiscounted, IsFirstMiscounted, IsEventInSizes, Miscounts}
+pub use Rattle.judge.specs.Miscounted.{IsNotMiscounted, IsEventInSizes, Miscounts}
 pub use Rattle.judge.specs.Models.{ExplainedUnderModel, IsFlatModelWord, IsModelAnswer, ModelAnswersStayLaw, ModelConcurrentStore, ModelsAgreeLaw}
 pub use Rattle.judge.specs.CutEntries.{CutEntriesJoinedAt, CutEntriesMarkedAt}
 pub use Rattle.judge.specs.NumberedCuts.{numbered_cut_at}

@@ -7,17 +7,15 @@
 //! `IsWhy` of specs/Why says of each reason what it means. What fetches count is `FetchesCountGaps` of journal's
 //! specs/FetchesCountGaps. A `History` is a `SizedHistory` of specs/SizedHistory: sizes, and events whose numbers are within them.
 //!
-//! **What is proved.** `first_ill_formed` answers None exactly where the history is well formed, else the first event
-//! that may not follow what stands before it, with the first reason that applies, in the order of `Why`. The history
-//! may be anyone's: nothing is asked of the numbers in its events. Of a well formed history, lax or not,
-//! `first_miscounted` answers None exactly where each fetch counts its gap, else the first one that does not, with the
-//! counts of its gap. `DueCounts` and `miscount` tell it of any history, an event at a time. `Gaps` tells what each processor's
-//! copies of pages lack, also an event at a time.
+//! **What is proved.** A `Frontier` is told a history an event at a time, and answers of any event whether it may come next,
+//! else the first reason that applies, in the order of `Why`. Nothing is asked of the numbers in that event. `DueCounts` and
+//! `miscount` tell of a fetch that comes next whether it counts its gap, else the counts of its gap. `Gaps` tells what each
+//! processor's copies of pages lack, also an event at a time.
 //! There is a `History` of some events, or of a journal, exactly if they are within its sizes; so whoever is handed one need
 //! not ask that.
 //!
-//! **What is only tested** (in `tests/texts` and `tests/checking`): that these definitions say what they are to say, by traces worked
-//! by hand; and that `first_ill_formed` judges 2^20 events in a test's time.
+//! **What is only tested** (in `tests/texts` and `tests/checking`): that these definitions say what they are to say, by traces
+//! worked by hand; and that long traces are judged in a test's time.
 #![tactic(auto)]
 
 mod asked_places;
@@ -57,12 +55,12 @@ pub use flat_memory::{FlatMemory, FlatStore};
 pub use frontier::Frontier;
 pub use gaps::Gaps;
 pub use history::History;
-pub use ill_formed::{IllFormed, first_ill_formed};
+pub use ill_formed::IllFormed;
 pub use kept_stores::KeptStores;
 pub use laws::{
     history_range_law, lax_ask_law, lax_law, models_agree_law, owed_stays_law, why_law,
 };
-pub use miscounted::{Miscounted, first_miscounted, miscount};
+pub use miscounted::{Miscounted, miscount};
 pub use models::MemoryModel;
 pub use nearest_races::NearestRaces;
 pub use owed::Owed;

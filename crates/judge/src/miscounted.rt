@@ -1,14 +1,10 @@
-//! The first fetch of a history that counts what it should not.
-ghost use Rattle.std.specs.Prelude.{◌≡◌, ◌↔◌, ◌<◌, ◌≤◌, ◌^◌, IfOk, IfSome, IsTrue, List, MatchOption, length, true};
+//! A fetch that counts what it should not.
+ghost use Rattle.std.specs.Prelude.{◌≡◌, ◌↔◌, IfSome, IsTrue, List, MatchOption};
 ghost use Rattle.journal.specs.declared.event.Event.{Event};
-ghost use Rattle.journal.specs.FetchesCountGaps.{FetchesCountGaps};
-ghost use Rattle.judge.specs.Prelude.{AreStreamedSizes, IsEventInSizes, IsFirstMiscounted, IsNotMiscounted, Miscounts};
-ghost use Rattle.judge.specs.Prelude.{TellsDueCounts, WellFormedOrLax, judged_sizes_of, most_judged_events};
+ghost use Rattle.judge.specs.Prelude.{IsEventInSizes, IsNotMiscounted, Miscounts, TellsDueCounts, judged_sizes_of};
 
 use crate::due_counts::{DueAmounts, DueCounts};
-use crate::sizes::Sizes;
 use journal::{Event, Kind};
-use std::alloc::{AllocError, Global};
 
 /// A fetch whose counts are not those of its gap, and the counts that are.
 #[derive(Clone, Copy, Debug, PartialEq, Eq)]
@@ -62,31 +58,4 @@ pub fn miscount(counts: &DueCounts, event: Event, place: usize) -> Option<Miscou
         }
         _ => None,
     }
-}
-
-/// The first fetch of a well formed history whose counts are not those of its gap, and what they should be; None where
-/// each fetch counts its gap. The gap are the stores of others to the page that the fetch brings.
-///
-/// The only error is running out of memory. It takes time in the order of the events times the processors, and for each fetch
-/// that of the processors times the logarithm of the events.
-pub fn first_miscounted(
-    alloc: Global,
-    sizes: Sizes,
-    events: &[Event],
-) -> Result<Option<Miscounted>, AllocError>
-    requires sizes { AreStreamedSizes (judged_sizes_of sizes) }
-    requires few { length events.now ≤ most_judged_events }
-    requires well { WellFormedOrLax true (judged_sizes_of sizes) events.now }
-    ensures { IfOk result (λ o. MatchOption o (FetchesCountGaps (judged_sizes_of sizes) events.now)
-        (IsFirstMiscounted (judged_sizes_of sizes) events.now)) }
-{
-    let mut counts = DueCounts::new(alloc, sizes)?;
-    for place in 0..events.len() {
-        let event = events[place];
-        if let Some(wrong) = miscount(&counts, event, place) {
-            return Ok(Some(wrong));
-        }
-        counts.note(event)?;
-    }
-    Ok(None)
 }

@@ -5,7 +5,7 @@
 //! happens-before-1 of Adve and Hill. The histories need not be ones that a cluster can make.
 //!
 //! **What is proved.** `ReadableSources` takes a history an event at a time, and tells of any load that may come next exactly
-//! the places of the stores that it may answer. `latest` does this of a whole history.
+//! the places of the stores that it may answer. `latest_rows` does this of a whole history.
 //!
 //! **What is only tested**: that memory isn't refused needlessly, and that each refusal is answered.
 
@@ -14,9 +14,7 @@ mod known;
 mod readable;
 mod rows_of_latest;
 mod stored_intervals;
-mod unexplained;
 
 pub use self::answer_laws::{answer_stays_law, answers_law};
 pub use self::readable::ReadableSources;
 pub use self::rows_of_latest::latest_rows;
-pub use self::unexplained::first_unexplained;

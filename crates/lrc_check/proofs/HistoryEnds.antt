@@ -106,11 +106,6 @@ history_end_within r s j es x h = record {
     whole_is (verdict.Lie y) ended = tt
     whole_is verdict.Racy ended = tt
 
--- no load before the first race is left out
-pub history_end_none_unjudged : (m : MemoryModel) (j : List Event) → unjudged_in_check_verdict m None j ≡ 0
-history_end_none_unjudged model.RaceFree j = refl
-history_end_none_unjudged _ j = refl
-
 -- a load
 abbrev history_end_is_load : Event → Bool
 history_end_is_load e = is_load_in_check_verdict e.kind

@@ -76,15 +76,6 @@ pub stream_fits : {x : TraceStream} {front : List Event} {seen : ℕ} (known : T
 stream_fits {x} {front} known read is =
     (stream_trace known x.reader.sizes x.reader.gone front x.reader.events is read.trace).sizes.streamed
 
--- before the line of the sizes there is no event
-pub stream_without_sizes : {x : TraceStream} {front : List Event} {seen : ℕ} → HasStreamReadOn front seen x → x.reader.sizes ≡ None
-    → front ++ x.reader.events ≡ []
-stream_without_sizes {x} {front} read none = go x.reader.sizes none read.trace
-  where
-    go : (sizes : Option TraceSizes) → sizes ≡ None → IsTraceSoFar sizes x.reader.gone front x.reader.events → front ++ x.reader.events ≡ []
-    go None is trace = trace.1
-    go (Some s) is trace = absurd cc
-
 -- all events are those that were judged and the others
 pub stream_all : (front es : List Event) (seen : ℕ) → (front ++ take seen es) ++ drop seen es ≡ front ++ es
 stream_all front es seen =

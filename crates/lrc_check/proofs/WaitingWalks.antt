@@ -1,6 +1,6 @@
 -- A walk from the least processor of a circle, each time to the one that is waited for.
-use Rattle.std.proofs.Common.{◌≡◌, ◌∙◌, ◌+◌, ◌<◌, ◌≤◌, ℕ, List, [], ◌∷◌, ◌++◌, Some, length, slice_get, ap, sym, subst, refl, arith}
-use Rattle.std.proofs.lemmas.List.{append_assoc, length-append}
+use Rattle.std.proofs.Common.{◌≡◌, ◌∙◌, ◌<◌, ℕ, List, [], ◌∷◌, ◌++◌, Some, slice_get, ap, sym, subst, refl, arith}
+use Rattle.std.proofs.lemmas.List.{append_assoc}
 use Rattle.std.proofs.lemmas.Option.{same_Some, slice_get_within}
 use Rattle.base.proofs.SlicesAndCounts.{slice_get-append_left}
 use Rattle.causes.specs.declared.waits_at_end.Wait.{Wait}
@@ -50,28 +50,3 @@ waiting_walk_next waits least path at next walk for above = record { begins = be
     all : (c : List ℕ) → IsWaitingCircle waits least c
         → (qs : List ℕ) × (c ≡ (path ++ at ∷ []) ++ next ∷ qs) × AreWaitingRound waits least (next ∷ qs)
     all c is = let it = walk.all c is in step c it.0 it.1 it.2
-
--- a step back to the least closes a circle
-pub waiting_walk_closes : (waits : List Wait) (least : ℕ) (path : List ℕ) (at : ℕ) → IsWaitingWalk waits least path at
-    → waits_for waits at ≡ Some least → length path < length waits → IsWaitingCircle waits least (path ++ at ∷ [])
-waiting_walk_closes waits least path at walk for few = record {
-  begins = walk.begins;
-  round = walk.on [] for;
-  few = omega (arith, few, length-append path (at ∷ []));
-}
-
--- if it can't go on, there is no circle
-pub waiting_walk_ends : (waits : List Wait) (least : ℕ) (path : List ℕ) (at : ℕ) → IsWaitingWalk waits least path at
-    → ((q : ℕ) → waits_for waits at ≡ Some q → q < least) → (c : List ℕ) → ¬ IsWaitingCircle waits least c
-waiting_walk_ends waits least path at walk below c is = let it = walk.all c is in ends it.0 it.2
-  where
-    ends : (ps : List ℕ) → AreWaitingRound waits least (at ∷ ps) → ⊥
-    ends [] round = absurd (omega (arith, below least round))
-    ends (q ∷ qs) round = absurd (omega (arith, below q round.0, round.1))
-
--- nor if it is as long as there are processors
-pub waiting_walk_too_long : (waits : List Wait) (least : ℕ) (path : List ℕ) (at : ℕ) → IsWaitingWalk waits least path at
-    → length waits ≤ length path → (c : List ℕ) → ¬ IsWaitingCircle waits least c
-waiting_walk_too_long waits least path at walk long c is =
-    let it = walk.all c is in
-    absurd (omega (arith, long, is.few, ap length it.1, length-append path (at ∷ it.0)))

@@ -1,7 +1,7 @@
 -- Who wait for each other in a circle.
 use Rattle.std.specs.Prelude.{ℕ, ◌≡◌, ◌<◌, ◌≤◌, List, [], ◌∷◌, Option, Some, None, length, slice_get}
 use Rattle.causes.specs.declared.waits_at_end.Wait.{Wait}
-use Rattle.causes.specs.declared.waits_at_end.Wait.TheVariants.{Nothing, Lock, Flag, Barrier}
+use Rattle.causes.specs.declared.waits_at_end.Wait.TheVariants.{Lock, Barrier}
 
 -- the only one of these
 abbrev pub only_waited_for : List ℕ → Option ℕ

@@ -1,11 +1,9 @@
-//! Reads a trace, judges it, and prints what was found.
+//! Judges a trace, and prints what was found.
 ghost use Rattle.std.specs.Prelude.{ℕ, List, IfErr, IfOk, IfSome, OnOk};
 ghost use Rattle.std.specs.Io.KnownBytes.{Appends, Keeps};
 ghost use Rattle.journal.specs.Prelude.{Race};
-ghost use Rattle.lrc_check.specs.Traces.Prelude.{IsNoLawfulTrace};
-ghost use Rattle.judge.specs.Prelude.{judged_sizes_of as judged_sizes};
-ghost use Rattle.lrc_check.specs.Traces.Prelude.{IsLawfulTrace, without_trace_labels, trace_sizes_of};
-ghost use Rattle.lrc_check.specs.Prelude.{AreUnprotectedTold, IsTraceRaceApart, IsFaultFoundBeforeBytesWritten, IsTrueCheckVerdict, IsFoundInBytes, IsFaultFoundInBytes};
+ghost use Rattle.lrc_check.specs.Traces.Prelude.{IsLawfulTrace, trace_sizes_of};
+ghost use Rattle.lrc_check.specs.Prelude.{AreUnprotectedTold, IsTraceRaceApart, IsFaultFoundBeforeBytesWritten, IsTrueCheckVerdict, IsFaultFoundInBytes};
 ghost use Rattle.lrc_check.specs.Prelude.{unprotected_looked_for};
 
 use crate::check_fault::CheckFault;
@@ -13,7 +11,7 @@ use crate::checked::{Checked, Rules};
 use crate::history_judge::judge_whole_history;
 use crate::told_events::ToldEvents;
 use crate::trace_history::trace_history_sizes;
-use crate::traces::trace::{LabelledTrace, Trace, TraceSizes, read};
+use crate::traces::trace::{Trace, TraceSizes};
 use crate::verdict_text::verdict_text_of;
 use crate::waiting::waits_at_end_of_trace;
 use base::MOST_HELD;
@@ -120,49 +118,4 @@ pub fn write_verdict<W: Write>(
     let text = verdict_text_of(alloc, told, judged, rules)?;
     write_checked_trace_text(out, &text)?;
     Ok(())
-}
-
-/// Judges the trace, and writes what was found.
-///
-/// # Errors
-///
-/// Nothing was written where memory ran out. After `Output` a beginning of the text may have been. `Trace` never comes.
-pub fn check_trace<W: Write>(
-    alloc: Global,
-    labelled: &LabelledTrace,
-    rules: Rules,
-    out: &mut W,
-) -> Result<Checked, CheckFault>
-    requires { IsLawfulTrace (trace_sizes_of labelled.now.trace.sizes) labelled.now.trace.events.items }
-    ensures found { IfOk result (IsTrueCheckVerdict rules (trace_sizes_of labelled.now.trace.sizes) labelled.now.trace.events.items) }
-    ensures refused { IfErr result (λ fault. IsFaultFoundInBytes fault → ⊥) }
-    ensures early { IfErr result
-        (λ fault. IsFaultFoundBeforeBytesWritten fault → Keeps (W.contents out.old) (W.contents out.new)) }
-{
-    let judged = judge_trace(alloc, &labelled.trace, rules)?;
-    write_verdict(alloc, ToldEvents::of_trace(labelled), &judged, rules, out)?;
-    Ok(judged.found)
-}
-
-/// Judges the trace that has these bytes, without their labels, as its text, and writes what was found, as `check_trace` does.
-///
-/// # Errors
-///
-/// As those of `check_trace`; and `Trace`, with the first line that has a fault, only if the bytes are the text of no trace, after
-/// which nothing was written.
-pub fn check<W: Write>(
-    alloc: Global,
-    bytes: &[u8],
-    rules: Rules,
-    out: &mut W,
-) -> Result<Checked, CheckFault>
-    // What is found is true of the one trace that has these bytes.
-    ensures found { IfOk result (IsFoundInBytes rules bytes.now) }
-    // What is refused as a trace is none.
-    ensures refused { IfErr result (λ fault. IsFaultFoundInBytes fault → IsNoLawfulTrace (without_trace_labels bytes.now)) }
-    ensures early { IfErr result
-        (λ fault. IsFaultFoundBeforeBytesWritten fault → Keeps (W.contents out.old) (W.contents out.new)) }
-{
-    let labelled = read(alloc, bytes)?;
-    check_trace(alloc, &labelled, rules, out)
 }

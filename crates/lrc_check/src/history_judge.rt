@@ -5,7 +5,7 @@ ghost use Rattle.journal.specs.declared.event.Event.{Event};
 ghost use Rattle.journal.specs.Sizes.{addresses};
 ghost use Rattle.judge.specs.declared.locksets.lockset_finder.LocksetWords.{LocksetWords as Words};
 ghost use Rattle.judge.specs.declared.locksets.lockset_finder.LocksetWords.TheVariants.{All};
-ghost use Rattle.judge.specs.Locksets.Prelude.{PairsTellUnprotected};
+ghost use Rattle.judge.specs.Locksets.Prelude.{IsGuardedPair, PairsTellUnprotected, TellsGuardedPair};
 ghost use Rattle.judge.specs.declared.sizes.Sizes.{Sizes as JudgedSizes};
 ghost use Rattle.judge.specs.Prelude.{AreStreamedSizes, judged_sizes_of, most_judged_events};
 ghost use Rattle.lrc_check.specs.Prelude.{AreUnprotectedTold, ComesNextInHistory, ComesNextToHistoryLocksets, ComesNextToTally, HasHistoryLocksets, HasJudgedNext, HasJudgedToEnd, IsHistoryLocksets, IsCheckVerdictTraffic, IsHistoryEnd, IsHistoryEndWithin, IsHistoryJudgeOf, IsHistoryTallied, IsNextPartOfHistory, IsTrueCheckVerdict};
@@ -16,7 +16,7 @@ use crate::checked::{Checked, Lie, Rules, TraceVerdict};
 use crate::trace_judge::TraceJudge;
 use crate::unprotected::unprotected_asked_for;
 use journal::{Event, Kind, Traffic, traffic_of};
-use judge::locksets::{LocksetFinder, LocksetWords, Unprotected};
+use judge::locksets::{Guarded, LocksetFinder, LocksetWords, Unprotected};
 use judge::{MemoryModel, Sizes};
 use std::alloc::{AllocError, Global};
 
@@ -340,6 +340,19 @@ impl HistoryJudge {
         match &self.locksets {
             Some(finder) => finder.found(alloc, LocksetWords::All),
             None => Ok(Vec::new(alloc)),
+        }
+    }
+
+    /// Two accesses so far of the word at this address that only a lock keeps apart, and that hold one in common; None if there are
+    /// none, if no words without a lock are looked for, or from the first race on.
+    pub(crate) fn guarded_so_far(&self, address: usize) -> Option<Guarded>
+        requires { (j : List Event) × IsHistoryJudgeOf j self.now }
+        ensures { (j : List Event) → IsHistoryJudgeOf j self.now → MatchOption self.now.locksets (result ≡ None)
+            (λ _. MatchOption result ((i k l : ℕ) → ¬ IsGuardedPair j address i k l) (TellsGuardedPair j address)) }
+    {
+        match &self.locksets {
+            Some(finder) => finder.guarded(address),
+            None => None,
         }
     }
 }

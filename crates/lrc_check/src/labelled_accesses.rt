@@ -4,7 +4,7 @@ use crate::told_events::KnownEvent;
 use crate::traces::reader::Reader;
 use indexmap::IndexMap;
 use journal::{Event, Kind};
-use judge::locksets::{PairedAccess, Unprotected};
+use judge::locksets::{Guarded, PairedAccess, Unprotected};
 use std::alloc::{AllocError, Global};
 
 /// Of how many words without a lock at most accesses are told that aren't at hand any more: each of those is looked for among all.
@@ -29,9 +29,10 @@ struct LabelledAccess {
 }
 
 /// The accesses that have a label, those that a finder may still tell: of each word, processor, kind and set of locks held the
-/// last one, which `NearestRaces` and `LocksetFinder` keep, too; and those of words without a lock that were found.
+/// last one, which `NearestRaces` and `LocksetFinder` keep, too; those of words without a lock that were found; and of each word
+/// two that hold a lock in common, which are told if the word turns out to lack one at times.
 ///
-/// It takes memory for these accesses and their labels, however long the trace is, and none if no access has a label.
+/// It takes memory for these accesses and their labels, however long the trace is.
 #[derive(Drop)]
 pub(crate) struct LabelledAccesses {
     /// Whether it is kept which locks are held.
@@ -39,7 +40,7 @@ pub(crate) struct LabelledAccesses {
     /// Of each processor the locks that it holds, rising.
     held: Vec<Vec<usize>>,
     last: IndexMap<AccessedWord, Vec<LabelledAccess>>,
-    /// By place the accesses of words without a lock.
+    /// By place the accesses of words without a lock, and those that hold a lock in common.
     found: IndexMap<usize, KnownEvent>,
     /// The places of those that are still at hand.
     wanted: IndexMap<usize, ()>,
@@ -298,6 +299,21 @@ impl LabelledAccesses {
             }
         }
         Ok(())
+    }
+
+    /// Keeps these two accesses of a word, which hold a lock in common, from now on, those that have a label: they are told if the word
+    /// turns out to lack a lock. It is called before the events at hand are noted; `gone` events aren't at hand any more. The only
+    /// error is running out of memory.
+    pub(crate) fn keep_guarded(
+        &mut self,
+        alloc: Global,
+        gone: usize,
+        address: usize,
+        pair: Guarded,
+    ) -> Result<(), AllocError> {
+        let (first, second) = pair.accesses;
+        self.keep_paired(alloc, gone, address, first)?;
+        self.keep_paired(alloc, gone, address, second)
     }
 
     /// Adds what is kept of the accesses of a word without a lock that aren't at hand any more. The only error is running out of

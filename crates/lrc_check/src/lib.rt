@@ -9,9 +9,8 @@
 //! **What is proved.** A `TraceJudge` takes an event at a time. It tells a lie as soon as that is read: what stands before
 //! it is faithful, and with it nothing is, however it goes on; and why. It tells the first race as soon as its second event
 //! is read, also if that is the lie. A `HistoryJudge` does this of a history by parts, `judge_history` of a whole one,
-//! `check_trace` of a trace, and `check` of bytes, or a fault of a line only where they are no trace's. A `TraceStream`
-//! does it of a trace as it is read, and lets go of what it has judged. `tell_trace`
-//! answers which of a trace's events are told: all of a faithful one, else those up to the first lie and with it. If that
+//! `judge_trace` of a trace. A `TraceStream` does it of a trace as it is read, and lets go of what it has judged; it answers a
+//! fault of a line only if the bytes are no trace's. `tell_trace` answers which of a trace's events are told: all of a faithful one, else those up to the first lie and with it. If that
 //! is asked for, the words that need a lock and have none are told besides (`AreUnprotectedTold`), by `judge_trace` and by
 //! a `TraceStream`, which may have let go of their accesses.
 //!
@@ -36,7 +35,7 @@ mod waiting;
 
 pub use check_fault::CheckFault;
 pub use checked::{Checked, Lie, Rules, TraceVerdict, Unexplained, are_counts_judged};
-pub use checking_traces::{JudgedTrace, check, check_trace, judge_trace, write_verdict};
+pub use checking_traces::{JudgedTrace, judge_trace, write_verdict};
 pub use history_judge::{HistoryJudge, judge_history, judge_whole_history};
 pub use telling_traces::{ToldTrace, tell_trace};
 pub use told_events::{KnownEvent, ToldEvents};

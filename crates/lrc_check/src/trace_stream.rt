@@ -4,7 +4,7 @@ ghost use Rattle.journal.specs.declared.event.Event.{Event as AnEvent};
 ghost use Rattle.journal.specs.Prelude.{Race};
 ghost use Rattle.lrc_script.specs.Prelude.{HasNoLineFeed};
 ghost use Rattle.lrc_check.specs.Traces.Prelude.{FedTextBeginsTrace, IsNoLawfulTrace, IsFedLineRefused, IsNoUnfinishedTrace, IsTraceSoFar, trace_sizes_of, without_trace_labels};
-ghost use Rattle.lrc_check.specs.Prelude.{AreUnprotectedTold, HasStreamReadOn, IsFaultFoundInBytes, IsFoundInBytes, IsFoundInStream, IsFoundInUnfinished, IsStreamEnd, IsStreamEndOf, IsStreamJudge, IsTraceStream, unprotected_looked_for};
+ghost use Rattle.lrc_check.specs.Prelude.{AreUnprotectedTold, HasStreamReadOn, IsFaultFoundInBytes, IsFoundInBytes, IsFoundInStream, IsFoundInUnfinished, IsHistoryJudgeOf, IsStreamEnd, IsStreamEndOf, IsStreamJudge, IsTraceStream, unprotected_looked_for};
 
 use crate::check_fault::CheckFault;
 use crate::checked::{Checked, Lie, Rules, TraceVerdict};
@@ -84,6 +84,25 @@ fn keep_earlier_access(
     Ok(())
 }
 
+/// Keeps of each of so many words two accesses that have a label and hold a lock in common, if the judge has found such. `gone`
+/// events aren't at hand any more. The only error is running out of memory.
+fn keep_guarded_accesses(
+    alloc: Global,
+    earlier: &mut LabelledAccesses,
+    judge: &HistoryJudge,
+    gone: usize,
+    words: usize,
+) -> Result<(), AllocError>
+    requires { (j : List AnEvent) × IsHistoryJudgeOf j judge.now }
+{
+    for address in 0..words {
+        if let Some(pair) = judge.guarded_so_far(address) {
+            earlier.keep_guarded(alloc, gone, address, pair)?;
+        }
+    }
+    Ok(())
+}
+
 /// Keeps these stores to the address, without labels. The only error is running out of memory.
 fn keep_owed_stores(
     alloc: Global,
@@ -142,14 +161,17 @@ impl TraceStream {
         requires { (bytes : List ℕ) × IsTraceStream bytes self.old }
         ensures { self.new ≡ record self.old { earlier = self.new.earlier } }
     {
-        let Some(judge) = &self.judge else {
+        let (Some(judge), Some(sizes)) = (&self.judge, self.reader.sizes()) else {
             return Ok(());
         };
         if judge.race().is_some() {
             return Ok(());
         }
+        let gone = self.reader.gone();
         let words = judge.unprotected_so_far(alloc)?;
-        self.earlier.keep_found(alloc, self.reader.gone(), &words)?;
+        self.earlier.keep_found(alloc, gone, &words)?;
+        let addresses = sizes.pages.saturating_mul(sizes.words);
+        keep_guarded_accesses(alloc, &mut self.earlier, judge, gone, addresses)?;
         self.earlier.note(alloc, &self.reader)
     }
 

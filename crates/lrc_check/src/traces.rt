@@ -9,10 +9,10 @@
 //! what a fault says of such bytes. Of a `Reader`, `IsFedTextOf` says which bytes it was fed, and which events and labels it
 //! let go of; `HasReadFedText` says of which bytes it has the first lines' events, also where a line behind them was refused.
 //!
-//! **What is proved.** `trace::read` answers a trace only where it is one and the bytes are its text, and a fault
-//! only where they are no trace's, with the first line that isn't due. A `Reader` answers this of all its pieces'
-//! bytes, also where it lets go of what was taken of it, and a fault of a piece only where no trace has a text that begins
-//! so; it then has the events of all lines before that one. Module `laws`: no two traces have one text; what is printed of
+//! **What is proved.** A `Reader` is fed a text in pieces. It answers a trace only if that is one and the bytes of all pieces
+//! are its text, and a fault only if they are no trace's, with the first line that isn't due. It does so also if it lets go of
+//! what was taken of it. A piece has a fault only if no trace has a text that begins so; the reader then has the events of all
+//! lines before that one. Module `laws`: no two traces have one text; what is printed of
 //! a journal is, behind its sizes, the text of a trace of its events where nothing was cut off, and is refused as a cut
 //! journal's where something was; a well formed journal is a trace.
 //!

@@ -110,8 +110,8 @@ fn write_explained_rendering<W: Write>(text: &[u8], out: &mut W) -> Result<(), E
 /// and a lane is at most 10 wide, so that sixteen lanes and numbers of eight digits take 200 columns. A longer label runs
 /// on. What stands to the right of the lanes doesn't count.
 ///
-/// It takes time and memory as `causes::loads`, `causes::race` and `causes::Ways` do, with pages time as `causes::dues` does
-/// besides, with the state as `causes::states`, and memory for the whole text.
+/// It takes time and memory as `causes::sources_of_loads` and `causes::Ways` do, with pages time as `causes::dues` does
+/// besides, with the state as `causes::event_states`, and memory for the whole text.
 ///
 /// # Errors
 ///

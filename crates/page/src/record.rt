@@ -1,5 +1,5 @@
 //! What the stores of an interval come to in one page.
-ghost use Rattle.std.specs.Prelude.{◌≡◌, ◌↔◌, IsTrue, IsSome, IfSome};
+ghost use Rattle.std.specs.Prelude.{◌≡◌};
 ghost use Rattle.page.specs.Prelude.{ArePageChangesRising};
 
 use std::marker::Model;
@@ -33,19 +33,6 @@ impl Record {
         Record { page, words }
     }
 
-    /// The same of words that may be in any order: `None` exactly if their offsets don't rise
-    /// strictly.
-    pub fn from_words(page: usize, words: Vec<(usize, u32)>) -> Option<Self>
-        ensures some { IsSome result ↔ ArePageChangesRising words.items }
-        ensures value { IfSome result (λ r. (r.page ≡ page) × (r.words ≡ words.items)) }
-    {
-        if is_rising_page_record(&words) {
-            Some(Record::new(page, words))
-        } else {
-            None
-        }
-    }
-
     /// The page that the words lie in.
     pub fn page(&self) -> usize
         ensures { result ≡ self.now.page }
@@ -60,15 +47,4 @@ impl Record {
     {
         &self.words
     }
-}
-
-fn is_rising_page_record(words: &[(usize, u32)]) -> bool
-    ensures { IsTrue result ↔ ArePageChangesRising words.now }
-{
-    for i in 1..words.len() {
-        if words[i].0 <= words[i - 1].0 {
-            return false;
-        }
-    }
-    true
 }

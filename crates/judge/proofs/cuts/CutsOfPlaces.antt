@@ -28,11 +28,6 @@ cut_of_places_start among t zeros = record {
   within = λ q. (let zero = zeros q in omega arith);
 }
 
--- no places, no entries
-pub cut_of_places_none : (j : List Event) (some : ℕ → Type 0) → ((i : ℕ) → some i → ⊥) → IsCutIn j some (λ _. 0)
-cut_of_places_none j some none =
-    record { covers = λ i e at. (λ h. absurd (none i h), λ lt. absurd (omega arith)); within = λ q. omega arith }
-
 -- equal sets have equal cuts
 pub cut_of_places_same : (j : List Event) (some others : ℕ → Type 0) (t : ℕ → ℕ) → ((i : ℕ) → some i ↔ others i)
     → IsCutIn j some t → IsCutIn j others t

@@ -65,10 +65,6 @@ module _ (j : List Event) (p a v : ℕ) where
     by = refl;
   }
 
-  -- and its unordered ones those outside the past
-  pub answering_kept_outside : (x : ModelConcurrentStore (did j p (Load a v)) (length j) a v) → ¬ InPast j p x.place
-  answering_kept_outside x past = x.unordered ((answering_kept_past x.place).1 past)
-
 -- a store that a past doesn't have may be answered later
 pub answering_kept_later : (n : ℕ) (j : List Event) (p a q i v : ℕ) → p < n → EventProcessorsInRange n j → Does j i q (Store a v)
     → ¬ InPast j p i → MayBeAnsweredLater n j a q i

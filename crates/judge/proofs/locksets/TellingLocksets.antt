@@ -138,17 +138,17 @@ telling_locksets_none_unguarded j a w none tells i k is =
     none tells.unguarded in
     never i k (telling_locksets_within is.needs) is
 
--- nor of a word that isn't accessed
-pub telling_locksets_unwatched_unguarded : (j : List Event) (a : ℕ) → IsUnwatched j a (length j) → (i k : ℕ) → ¬ IsUnguardedPair j a i k
-telling_locksets_unwatched_unguarded j a none i k is =
-    let r = is.needs.race in
+-- no pair of a word that isn't accessed
+pub telling_locksets_unwatched : (j : List Event) (a : ℕ) → IsUnwatched j a (length j) → (i k : ℕ) → ¬ IsPairToLock j a i k
+telling_locksets_unwatched j a none i k needs =
+    let r = needs.race in
     let stood = without_locks_stood j i r.first r.first_at in
     none i stood.event (event_place_inside j i stood.event stood.at) stood.at
     (sym (without_locks_address stood.event.kind) ∙ (sym (ap (λ (f : Event). event_address f.kind) stood.is)
-    ∙ (r.conflict.first ∙ ap (λ b. Some b) is.needs.address)))
+    ∙ (r.conflict.first ∙ ap (λ b. Some b) needs.address)))
 
 -- one with a lock, or none at all
-telling_locksets_guarded : (j : List Event) (a : ℕ) (o : Option Guarded) → IsWatchedGuarded j a (length j) o
+pub telling_locksets_guarded : (j : List Event) (a : ℕ) (o : Option Guarded) → IsWatchedGuarded j a (length j) o
     → MatchOption o ((i k l : ℕ) → ¬ IsGuardedPair j a i k l) (TellsGuardedPair j a)
 telling_locksets_guarded j a None never = λ i k l is. never i k l (telling_locksets_within is.needs) is
 telling_locksets_guarded j a (Some g) some = some

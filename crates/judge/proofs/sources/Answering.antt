@@ -1,15 +1,12 @@
 -- The latest stores of a load are what it may answer.
-use Rattle.std.proofs.Common.{◌≡◌, ℕ, zero, suc, ◌+◌, ◌<◌, ◌≤◌, inl, inr, ◌↔◌, List, [], ◌∷◌, ◌++◌, length, subst, refl, ap, ◌∙◌, ◌≢◌, arith, take, drop, take-append-drop, sym}
-use Rattle.std.proofs.lemmas.List.{length-take-le}
-use Rattle.base.proofs.SlicesAndCounts.{slice_take-suc_at}
+use Rattle.std.proofs.Common.{◌≡◌, ℕ, zero, suc, ◌+◌, ◌<◌, ◌≤◌, inl, inr, ◌↔◌, List, [], ◌∷◌, ◌++◌, length, subst, refl, arith}
 use Rattle.journal.specs.declared.event.Event.{Event}
 use Rattle.journal.specs.declared.event.Kind.TheVariants.{Load, Store}
 use Rattle.journal.specs.DidEvent.{did, event}
-use Rattle.journal.specs.Events.{EventAt}
 use Rattle.journal.specs.HappensBeforeEdges.{HappensBefore}
 use Rattle.journal.specs.WellFormed.{Does}
 use Rattle.journal.specs.ExplainedAnswers.{IsAnswer, LatestExplainedAnswer, UntouchedExplainedAnswer}
-use Rattle.journal.proofs.Order.EventPlacesAndCounts.{event_place_at_end, event_place_longer, event_place_same, event_place_inside, event_place_shorter, event_place_does_same}
+use Rattle.journal.proofs.Order.EventPlacesAndCounts.{event_place_longer, event_place_inside, event_place_shorter, event_place_does_same}
 use Rattle.journal.proofs.Order.HappensBefore.{happens_before_goes_forward}
 use Rattle.judge.specs.Sources.Latest.{IsLatest}
 use Rattle.judge.specs.Sources.LatestAnswers.{IsLatestAnswer}
@@ -71,50 +68,11 @@ answering_store_at j p a v q i x =
 
 module _ (j : List Event) (p a v : ℕ) (Marked : ℕ → ℕ → Type 0)
     (tells : (q i : ℕ) → Marked q i ↔ IsLatest (did j p (Load a v)) (length j) a q i) where
-  abbrev IsAnsweringNext : Type 0
-  IsAnsweringNext = IsAnswer (did j p (Load a v)) (length j) a v
-
   -- a marked place is one of the journal
   pub answering_marked_place : (q i : ℕ) → Marked q i → i < length j
   answering_marked_place q i at =
       let x = (tells q i).0 at in
       event_place_inside j i (event q (Store a x.value)) (answering_store_at j p a v q i x)
-
-  -- the value of a marked store may be answered
-  pub answering_marked : (q i b : ℕ) (e : Event) → Marked q i → EventAt j i e → e.kind ≡ Store b v → IsAnsweringNext
-  answering_marked q i b e at there is =
-      let x = (tells q i).0 at in
-      let same = event_place_same j i (event q (Store a x.value)) e (answering_store_at j p a v q i x) there in
-      let value = answering_one_value a x.value b v (ap (λ (y : Event). y.kind) same ∙ is) in
-      inr (subst (LatestExplainedAnswer (did j p (Load a v)) (length j) a) value x.store)
-
-  -- where there is a mark, no other value may
-  pub answering_other : (q i : ℕ) → Marked q i
-      → ((r k : ℕ) (e : Event) → Marked r k → EventAt j k e → (b : ℕ) → e.kind ≢ Store b v)
-      → ¬ IsAnsweringNext
-  answering_other q i at others (inl x) =
-      let l = (tells q i).0 at in
-      x.1 l.store.place l.store.by l.value l.store.stores l.store.before
-  answering_other q i at others (inr l) =
-      let x : IsLatest (did j p (Load a v)) (length j) a l.by l.place =
-      record { value = v; store = l; place = refl; by = refl } in
-      others l.by l.place (event l.by (Store a v)) ((tells l.by l.place).1 x) (answering_store_at j p a v l.by l.place x) a
-      refl
-
-  -- and where there is none, just 0 may
-  pub answering_none_marked : ((q i : ℕ) → ¬ Marked q i) → IsAnsweringNext ↔ (v ≡ 0)
-  answering_none_marked none = (there, back)
-    where
-      there : IsAnsweringNext → v ≡ 0
-      there (inl x) = x.0
-      there (inr l) =
-          absurd
-          (none l.by l.place
-          ((tells l.by l.place).1 (record { value = v; store = l; place = refl; by = refl })))
-
-      back : v ≡ 0 → IsAnsweringNext
-      back is =
-          inl (is, answering_untouched (did j p (Load a v)) (length j) a (λ q i x. none q i ((tells q i).1 x)))
 
 -- what a load may answer stays as the journal goes on
 pub answering_longer_law : (j es : List Event) (k a v : ℕ) → k < length j → IsAnswer (j ++ es) k a v ↔ IsAnswer j k a v
@@ -141,19 +99,3 @@ answering_longer_law j es k a v within = (there, back)
         event_place_longer j es x.1 (event x.0 (Store a v)) x.3,
       ))
     ]
-
--- what a load may answer at the end of a history's front, it may in the history
-pub answering_in_front : (events : List Event) (k a v : ℕ) (e : Event) → EventAt events k e
-    → IsAnswer (take k events ++ e ∷ []) (length (take k events)) a v ↔ IsAnswer events k a v
-answering_in_front events k a v e at =
-    let lt = event_place_inside events k e at in
-    let long : length (take k events) ≡ k = length-take-le k events (omega arith) in
-    let split : (take k events ++ e ∷ []) ++ drop (suc k) events ≡ events =
-    ap (λ xs. xs ++ drop (suc k) events) (sym (slice_take-suc_at events k e at)) ∙ take-append-drop (suc k) events in
-    let within =
-    event_place_inside (take k events ++ e ∷ []) (length (take k events)) e (event_place_at_end (take k events) e) in
-    let stays = answering_longer_law (take k events ++ e ∷ []) (drop (suc k) events) (length (take k events)) a v within in
-    let P : List Event → ℕ → Type 0 =
-    λ xs n. IsAnswer (take k events ++ e ∷ []) (length (take k events)) a v ↔ IsAnswer xs n a v in
-    subst (λ n. P events n) long
-    (subst (λ xs. P xs (length (take k events))) split ((λ h. stays.1 h), (λ h. stays.0 h)))

@@ -107,14 +107,6 @@ choosing_source_load_order : (j : List Event) (p a v i k : ℕ) → k < length j
     → HappensBefore (did j p (Load a v)) i k ↔ HappensBefore j i k
 choosing_source_load_order j p a v i k lt = happens_before_extension j (event p (Load a v) ∷ []) i k lt
 
--- a store up to another one of its processor happens before what that happens before
-choosing_source_before_up_to : (j : List Event) (q i m k : ℕ) (a b : Kind) → Does j i q a → Does j m q b → i ≤ m → HappensBefore j m k
-    → HappensBefore j i k
-choosing_source_before_up_to j q i m k a b does to le h = elim (cases_eq i m) [
-  | inl is ↦ subst (λ x. HappensBefore j x k) (sym is) h
-  | inr isnt ↦ happens_before_transitive j (leaving_closes_own_order j q i m a b does to (omega arith)) h
-]
-
 -- what happens before a store happens before what that is up to
 choosing_source_before_longer : (j : List Event) (q i m k : ℕ) (a b : Kind) → Does j m q a → Does j k q b → m ≤ k → HappensBefore j i m
     → HappensBefore j i k

@@ -1,5 +1,5 @@
 -- The rows of a history, as it goes on.
-use Rattle.std.proofs.Common.{◌≡◌, ◌≢◌, ℕ, ◌<◌, List, [], ◌∷◌, ◌++◌, length, take, drop, Option, Some, slice_get, subst, sym, refl, ap, ◌∙◌, suc, take-append-drop, arith}
+use Rattle.std.proofs.Common.{◌≡◌, ℕ, ◌<◌, List, [], ◌∷◌, ◌++◌, length, take, drop, Option, Some, slice_get, subst, sym, refl, ap, ◌∙◌, suc, take-append-drop, arith}
 use Rattle.std.specs.Prelude.{None, map, option_map}
 use Rattle.std.proofs.lemmas.Option.{none-some, same_Some, slice_get-map}
 use Rattle.std.proofs.lemmas.List.{length-take-le}
@@ -163,12 +163,3 @@ load_row_of_stores j p a v stores are = record { loads = loads; others = others 
 
     others : ((r b w : ℕ) → ¬ Does (j ++ event p (Load a v) ∷ []) (length j) r (Load b w)) → map load_row_place stores ≡ []
     others none = absurd (none p a v (event_place_at_end j (event p (Load a v))))
-
--- an event that is no load has no place
-pub load_row_others : (j : List Event) (e : Event) → ((a v : ℕ) → e.kind ≢ Load a v) → IsLatestRow (j ++ e ∷ []) (length j) []
-load_row_others j e isnt = record {
-  loads = λ p a v does.
-      (let same = event_place_same (j ++ e ∷ []) (length j) e (event p (Load a v)) (event_place_at_end j e) does in
-      absurd (isnt a v (ap (λ x. x.kind) same)));
-  others = λ none. refl;
-}

@@ -1,7 +1,7 @@
 -- What a load may answer, by its latest stores.
 use Rattle.std.specs.Prelude.{ℕ, ◌≡◌, ◌<◌, ◌⊎◌, ◌↔◌, List, ◌++◌, length}
 use Rattle.journal.specs.declared.event.Event.{Event}
-use Rattle.journal.specs.declared.event.Kind.TheVariants.{Load, Store}
+use Rattle.journal.specs.declared.event.Kind.TheVariants.{Store}
 use Rattle.journal.specs.WellFormed.{Does}
 use Rattle.journal.specs.ExplainedAnswers.{IsAnswer}
 use Rattle.judge.specs.Sources.Latest.{IsLatest}
@@ -18,12 +18,3 @@ LatestAnswersLaw = (j : List Event) (k a v : ℕ) → IsAnswer j k a v ↔ IsLat
 -- what a load may answer stays as the history goes on
 abbrev pub LatestAnswersStayLaw : Type 0
 LatestAnswersStayLaw = (j es : List Event) (k a v : ℕ) → k < length j → IsAnswer (j ++ es) k a v ↔ IsAnswer j k a v
-
--- the load at place k answers what it may not, and each load before it what it may
-pub record IsFirstNotLatestAnswer (j : List Event) (k : ℕ) : Type 0 where
-  pub by : ℕ
-  pub address : ℕ
-  pub value : ℕ
-  pub does : Does j k by (Load address value)
-  pub wrong : ¬ IsAnswer j k address value
-  pub first : (m p a v : ℕ) → m < k → Does j m p (Load a v) → IsAnswer j m a v

@@ -4,8 +4,8 @@ ghost use Rattle.journal.specs.declared.event.Event.{Event as AnEvent};
 ghost use Rattle.journal.specs.Events.{event_stores};
 ghost use Rattle.journal.specs.Prelude.{EventAddressesInRange, EventAddressInRange, EventProcessorsInRange, event_address};
 ghost use Rattle.judge.specs.Prelude.{IsSparse, most_judged_events, most_judged_processors, most_sparse_values, sparse_at, sparse_room};
-ghost use Rattle.judge.specs.Locksets.Prelude.{AreKeptLocksetWords, AreKeptLocksetsOfAll, ComesNextToWatch, IsLocksetFinderOf, IsUnguardedPair, IsUnprotectedAsked};
-ghost use Rattle.judge.specs.Locksets.Prelude.{IsWatchCandidate, IsWatchedNext, PairsLeaveUnprotected, PairsTellUnprotected, WatchedTells};
+ghost use Rattle.judge.specs.Locksets.Prelude.{AreKeptLocksetWords, AreKeptLocksetsOfAll, ComesNextToWatch, IsGuardedPair, IsLocksetFinderOf, IsUnguardedPair, IsUnprotectedAsked};
+ghost use Rattle.judge.specs.Locksets.Prelude.{IsWatchCandidate, IsWatchedNext, PairsLeaveUnprotected, PairsTellUnprotected, TellsGuardedPair, WatchedTells};
 
 use crate::cut::Cut;
 use crate::cuts::Cuts;
@@ -236,6 +236,17 @@ impl LocksetFinder {
         self.watch(alloc, event)?;
         update_finder_locks(&mut self.held, event)?;
         self.cuts.note(unlocked_event(event))
+    }
+
+    /// Two accesses of the word that only a lock keeps apart, and that hold one in common; None if there are none so far. `found`
+    /// tells these two with the word, once others hold none in common.
+    pub fn guarded(&self, address: usize) -> Option<Guarded>
+        requires { (j : List AnEvent) × IsLocksetFinderOf j self.now }
+        ensures { (j : List AnEvent) → IsLocksetFinderOf j self.now
+            → MatchOption result ((i k l : ℕ) → ¬ IsGuardedPair j address i k l) (TellsGuardedPair j address) }
+    {
+        let word = &self.words.kept[self.words.place(address)?];
+        word.guarded
     }
 
     /// The words that need a lock and have none, those that are asked for, by rising address. The only error is running out of

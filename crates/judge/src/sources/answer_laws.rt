@@ -6,7 +6,7 @@ pub fn answers_law()
     ensures { LatestAnswersLaw }
 {}
 
-/// What a load may answer stays as the history goes on: what `ReadableSources::may_answer` says of it before it comes, it
+/// What a load may answer stays as the history goes on: what `KeptStores::may_answer` says of it before it comes, it
 /// says of each history that begins so.
 pub fn answer_stays_law()
     ensures { LatestAnswersStayLaw }

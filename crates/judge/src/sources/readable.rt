@@ -1,10 +1,9 @@
 //! What a load that comes next may answer.
-ghost use Rattle.std.specs.Prelude.{◌≡◌, ◌↔◌, ℕ, ◌+◌, ◌*◌, ◌<◌, ◌≤◌, ◌^◌, [], ◌∷◌, ◌++◌, IsTrue, IfOk, OnOk, List};
+ghost use Rattle.std.specs.Prelude.{◌≡◌, ◌↔◌, ℕ, ◌+◌, ◌*◌, ◌<◌, ◌≤◌, ◌^◌, [], ◌∷◌, ◌++◌, IfOk, OnOk, List};
 ghost use Rattle.std.specs.Prelude.{Some, cond, length, max, slice_get, slice_index, take, vec_len};
 ghost use Rattle.base.specs.Prelude.{most_held, most_processors};
 ghost use Rattle.journal.specs.declared.event.Event.{Event};
 ghost use Rattle.journal.specs.declared.event.Kind.TheVariants.{Load, Store};
-ghost use Rattle.journal.specs.ExplainedAnswers.{IsAnswer};
 ghost use Rattle.journal.specs.Prelude.{EventAddressInRange, EventAddressesInRange, EventProcessorsInRange, did};
 ghost use Rattle.judge.specs.declared.sources.stored_intervals.Stored.{Stored};
 ghost use Rattle.judge.specs.Sources.Prelude.{SourceStoresAreKept, AreLastStores, IsLastStoreFollowed, IsLatest, IsLastStoreUnfollowed, AreKeptSourcesOf, kept_source_row};
@@ -33,16 +32,6 @@ pub struct ReadableSources {
     known: Known,
     /// The stores in order: of each address a row for each processor, sixteen rows an address.
     stores: SparseTable<Vec<Stored>>,
-}
-
-/// Whether the event stores this value.
-fn is_store_of(event: Event, value: u32) -> bool
-    ensures { IsTrue result ↔ ((a : ℕ) × (event.kind ≡ Store a value)) }
-{
-    match event.kind {
-        Kind::Store(_, stored) => stored == value,
-        _ => false,
-    }
 }
 
 /// How many intervals a past has something of, where it has that many whole ones. Of a processor's own past the open
@@ -167,29 +156,6 @@ impl ReadableSources {
             latest[by] = readable_unfollowed(&last, &joined, by);
         }
         latest
-    }
-
-    /// Whether a load of the address by this processor that comes next, after these events, may answer the value: the
-    /// value of one of its latest stores, or 0 where it has none. It takes no memory, and time as `before` does.
-    pub fn may_answer(&self, events: &[Event], processor: usize, address: usize, value: u32) -> bool
-        requires tells { AreKeptSourcesOf events.now self.now }
-        requires processor { processor < self.now.processors }
-        requires address { address < self.now.addresses }
-        ensures { IsTrue result
-            ↔ IsAnswer (did events.now processor (Load address value)) (length events.now) address value }
-    {
-        let last = self.last_stores(processor, address);
-        let joined = self.joined(&last);
-        let mut is_free = true;
-        for by in 0..self.processors {
-            if let Some(place) = readable_unfollowed(&last, &joined, by) {
-                if is_store_of(events[place], value) {
-                    return true;
-                }
-                is_free = false;
-            }
-        }
-        is_free && value == 0
     }
 
     /// Keeps a store of the processor to the address, which comes at this place.

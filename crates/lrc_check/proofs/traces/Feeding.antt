@@ -1,10 +1,10 @@
 -- What is read of a text that comes line by line and piece by piece, with its labels.
-use Rattle.std.proofs.Common.{◌≡◌, ◌≢◌, ℕ, ◌+◌, ◌<◌, Bool, cond, true, false, ◌&&◌, List, [], ◌∷◌, ◌++◌, Option, Some, None, refl, sym, ap, subst, ◌∙◌, append_assoc, append-nil, length, slice_index_or, arith}
+use Rattle.std.proofs.Common.{◌≡◌, ◌≢◌, ℕ, ◌+◌, Bool, true, false, ◌&&◌, List, [], ◌∷◌, ◌++◌, Option, Some, None, refl, sym, ap, subst, ◌∙◌, append_assoc, append-nil, length, arith}
 use Rattle.std.specs.Prelude.{is_none}
 use Rattle.std.proofs.lemmas.List.{length-append}
 use Rattle.journal.specs.declared.event.Event.{Event}
 use Rattle.journal.specs.Sizes.{Sizes}
-use Rattle.lrc_script.specs.LineReading.{IsLineReadOff, parts_of_read_line}
+use Rattle.lrc_script.specs.LineReading.{IsLineReadOff}
 use Rattle.lrc_script.proofs.Reading.Separators.{HasNoSeparator}
 use Rattle.lrc_check.specs.declared.traces.fault.TraceFault.{TraceFault}
 use Rattle.lrc_check.specs.declared.traces.fault.TraceFault.TheVariants.{NoMemory}
@@ -15,9 +15,9 @@ use Rattle.lrc_check.specs.Traces.FedText.{FedTextBeginsTrace, IsUnfinishedTrace
 use Rattle.lrc_check.specs.Traces.LawfulTraces.{IsLawfulTrace}
 use Rattle.lrc_check.specs.Traces.LabelLines.{AreTraceLabelsLeft, trace_line_count}
 use Rattle.lrc_check.specs.Traces.RefusedLines.{IsFedLineRefused, IsLineRefused}
-use Rattle.lrc_check.specs.Traces.Labels.{ArePassedOver, is_trace_line_passed_over, without_trace_labels, line_without_trace_label, trace_event_label, trace_label_by_lines, trace_labels_of}
+use Rattle.lrc_check.specs.Traces.Labels.{ArePassedOver, is_trace_line_passed_over, without_trace_labels, line_without_trace_label, trace_label_by_lines, trace_labels_of}
 use Rattle.lrc_check.specs.Traces.Sizes.{trace_sizes_of}
-use Rattle.lrc_check.proofs.traces.LabelLines.{label_lines_let_go, label_lines_of_event, label_lines_unread}
+use Rattle.lrc_check.proofs.traces.LabelLines.{label_lines_let_go, label_lines_unread}
 use Rattle.lrc_check.proofs.traces.TextParts.{text_parts_of_no_other_trace}
 use Rattle.lrc_check.specs.Traces.TraceText.{trace_text}
 use Rattle.lrc_check.proofs.traces.Labelling.{labelling_dropped_clean, labelling_lines_last, labelling_lines_passed_on, labelling_lines_read_on}
@@ -162,14 +162,6 @@ feeding_read_further x y bytes piece front told trace text h = record {
       );
 }
 
--- no line was refused
-pub feeding_read : (x : FedText) (bytes : List ℕ) (front : List Event) (told : List ℕ) → IsFedTextOf bytes front told x
-    → HasReadFedText bytes front x
-feeding_read x bytes front told h = record {
-  trace = h.trace;
-  text = λ more. (without_trace_labels (x.unfinished ++ more), sym (h.text more));
-}
-
 -- no trace begins so
 pub feeding_fault_never_begins : (bytes : List ℕ) (n : ℕ) (f : TraceFault) → f ≢ NoMemory → FedTextFaultStays bytes n f → ¬ FedTextBeginsTrace bytes
 feeding_fault_never_begins bytes n f ne stays b = trace_walk_fault_only f (without_trace_labels (bytes ++ b.3)) n (stays b.3) ne b.0 b.1 b.2 (sym b.4)
@@ -267,12 +259,3 @@ feeding_read_let_go gone headed begun labels unfinished passed bytes front y cou
 }
 
 -- ---- the label of an event that is left
-
-pub feeding_label : (gone : ℕ) (headed : Bool) (begun : Option Trace) (labels unfinished : List ℕ) (passed : ℕ) (bytes : List ℕ) (front : List Event) (told : List ℕ)
-    (index : ℕ) → index < length (trace_begun_events begun)
-    → IsFedTextOf bytes front told (feeding_fed_text gone headed begun labels unfinished passed)
-    → slice_index_or (parts_of_read_line 10 labels) (cond headed (index + 1) index) [] ≡ trace_event_label (trace_labels_of bytes) (gone + index)
-feeding_label gone headed None labels unfinished passed bytes front told index less h = absurd (omega arith)
-feeding_label gone headed (Some t) labels unfinished passed bytes front told index less h =
-    label_lines_of_event headed gone (length t.events.items) index told labels (trace_labels_of (unfinished ++ [])) (trace_labels_of bytes)
-    h.lines less (h.labels [] ∙ ap trace_labels_of (append-nil bytes))

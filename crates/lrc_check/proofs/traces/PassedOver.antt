@@ -3,7 +3,7 @@ use Rattle.std.proofs.Common.{◌≡◌, ℕ, ◌+◌, ◌-◌, ◌<◌, ◌^◌
 use Rattle.std.specs.Prelude.{if◌then◌else◌}
 use Rattle.journal.specs.declared.event.Event.{Event}
 use Rattle.lrc_script.specs.LineReading.{IsLineReadOff, parts_of_read_line}
-use Rattle.lrc_script.proofs.Reading.Separators.{HasNoSeparator, separator_behind_first_word}
+use Rattle.lrc_script.proofs.Reading.Separators.{separator_behind_first_word}
 use Rattle.lrc_check.specs.declared.traces.trace.Trace.{Trace}
 use Rattle.lrc_check.specs.Traces.Begun.{IsTraceBegun, trace_begun_text}
 use Rattle.lrc_check.specs.Traces.Labels.{ArePassedOver, is_trace_line_passed_over, passed_over_lines, trace_lines_passed_over, without_trace_labels}

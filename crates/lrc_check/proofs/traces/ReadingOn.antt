@@ -1,20 +1,11 @@
 -- A trace whose lines are read on.
-use Rattle.std.proofs.Common.{◌≡◌, ℕ, List, [], ◌∷◌, ◌++◌, Option, Some, sym, ap, ◌∙◌, append_assoc, append-nil}
+use Rattle.std.proofs.Common.{◌≡◌, ℕ, List, [], ◌∷◌, ◌++◌, Option, Some, sym, ap, ◌∙◌, append_assoc}
 use Rattle.journal.specs.declared.event.Event.{Event}
 use Rattle.lrc_check.specs.declared.traces.trace.Trace.{Trace}
 use Rattle.lrc_check.specs.Traces.Begun.{BeginsWithTraceBegun, IsTraceLeft, IsTraceReadOn, trace_begun_events, trace_begun_sizes, trace_begun_text}
 use Rattle.lrc_check.specs.Traces.Sizes.{trace_sizes_of}
 use Rattle.lrc_check.specs.Traces.TraceLines.{TraceLineRead}
-use Rattle.lrc_check.proofs.traces.TraceWalk.{trace_walk_added, trace_walk_left, trace_walk_sizes_kept, trace_walk_sizes_same}
-
--- nothing more was read
-pub reading_on_same : (gone : ℕ) (begun : Option Trace) → IsTraceLeft gone begun → IsTraceReadOn gone begun begun
-reading_on_same gone begun left = record {
-  left = left;
-  sizes = trace_walk_sizes_same (trace_begun_sizes begun);
-  events = ([], sym (append-nil (trace_begun_events begun)));
-  begun = λ front h. h;
-}
+use Rattle.lrc_check.proofs.traces.TraceWalk.{trace_walk_added, trace_walk_left, trace_walk_sizes_kept}
 
 -- and then on
 pub reading_on_further : (gone : ℕ) (a b c : Option Trace) → IsTraceReadOn gone a b → IsTraceReadOn gone b c → IsTraceReadOn gone a c

@@ -84,25 +84,12 @@ pub trace_walk_sizes_kept : (a b c : Option TraceSizes) → AreTraceSizesKept a 
 trace_walk_sizes_kept None b c first second = tt
 trace_walk_sizes_kept (Some s) b c first second = subst (λ (o : Option TraceSizes). AreTraceSizesKept o c) first second
 
-pub trace_walk_sizes_same : (a : Option TraceSizes) → AreTraceSizesKept a a
-trace_walk_sizes_same None = tt
-trace_walk_sizes_same (Some s) = refl
-
 -- a line among the bytes, and what stands behind it
 pub trace_walk_line_among : (before bytes line after : List ℕ) → IsLineReadOff bytes line after
     → before ++ bytes ≡ (before ++ (line ++ 10 ∷ [])) ++ after
 trace_walk_line_among before bytes line after cut =
     ap (λ (x : List ℕ). before ++ x) (cut.bytes_are ∙ sym (append_assoc line (10 ∷ []) after))
     ∙ sym (append_assoc before (line ++ 10 ∷ []) after)
-
--- a line that begins before these bytes
-pub trace_walk_line_joined : (before kept piece line after : List ℕ) → IsLineReadOff piece line after
-    → (before ++ kept) ++ piece ≡ (before ++ ((kept ++ line) ++ 10 ∷ [])) ++ after
-trace_walk_line_joined before kept piece line after cut =
-    trace_walk_line_among (before ++ kept) piece line after cut
-    ∙ ap (λ (x : List ℕ). x ++ after)
-    (append_assoc before kept (line ++ 10 ∷ [])
-    ∙ ap (λ (x : List ℕ). before ++ x) (sym (append_assoc kept line (10 ∷ []))))
 
 -- nothing stands behind a line feed at the end
 trace_walk_line_feed_there : (xs : List ℕ) → HasNoSeparator 10 (xs ++ 10 ∷ []) → ⊥
@@ -116,17 +103,6 @@ trace_walk_nothing_behind (x ∷ xs) [] (r ∷ rest) clean same =
     absurd (omega (arith, ap (λ (t : List ℕ). length t) same, length-append xs (r ∷ rest)))
 trace_walk_nothing_behind (x ∷ xs) (y ∷ ys) rest clean same =
     trace_walk_nothing_behind xs ys rest clean (let others : xs ++ rest ≡ ys ++ 10 ∷ [] = cc in others)
-
--- where that line was read, what is read and what stands behind it are all the bytes
-pub trace_walk_joined_line_read : (before kept piece line after now left : List ℕ) → IsLineReadOff piece line after → HasNoSeparator 10 left
-    → now ++ left ≡ before ++ ((kept ++ line) ++ 10 ∷ []) → now ++ after ≡ (before ++ kept) ++ piece
-trace_walk_joined_line_read before kept piece line after now left cut clean same =
-    let none : left ≡ [] =
-    trace_walk_nothing_behind now (before ++ (kept ++ line)) left clean
-    (same ∙ sym (append_assoc before (kept ++ line) (10 ∷ []))) in
-    let whole : now ≡ before ++ ((kept ++ line) ++ 10 ∷ []) =
-    sym (append-nil now) ∙ ap (λ (x : List ℕ). now ++ x) (sym none) ∙ same in
-    ap (λ (x : List ℕ). x ++ after) whole ∙ sym (trace_walk_line_joined before kept piece line after cut)
 
 -- ---- a line that adds no event
 
@@ -237,12 +213,6 @@ trace_walk_fault_behind f s gone front es line h clean says =
     subst (λ (n : ℕ). IsTraceFaultLasting (trace_text s (front ++ es) ++ (line ++ 10 ∷ [])) (n + 2) f) (sym count)
     (trace_walk_next_fault f s (front ++ es) line h.1 clean (subst (λ (n : ℕ). TraceFaultRefuses f s n line) count says))
 
-pub trace_walk_fault_longer : (f : TraceFault) (n : ℕ) (front more bytes : List ℕ) → bytes ≡ front ++ more
-    → IsTraceFaultLasting front n f → IsTraceFaultLasting bytes n f
-trace_walk_fault_longer f n front more bytes whole h after =
-    subst (λ (x : List ℕ). IsTraceFault x n f)
-    (sym (append_assoc front more after) ∙ ap (λ (x : List ℕ). x ++ after) (sym whole)) (h (more ++ after))
-
 -- there is no line, or the last one has no line feed
 pub trace_walk_rest_fault : (gone : ℕ) (front : List Event) (begun : Option Trace) (rest : List ℕ) → IsTraceBegun gone front begun
     → HasNoSeparator 10 rest → (begun ≢ None → 0 < length rest)
@@ -260,11 +230,3 @@ trace_walk_rest_fault gone front (Some t) rest h clean some =
         behind = (clean, some (λ e. absurd cc));
       },
     )
-
--- no trace has a text that begins with such bytes
-pub trace_walk_fault_never_begun : (f : TraceFault) (bytes : List ℕ) (n : ℕ) → f ≢ NoMemory → IsTraceFaultLasting bytes n f
-    → ¬ BeginsTraceText bytes
-trace_walk_fault_never_begun f bytes n ne h b = trace_walk_fault_only f (bytes ++ b.3) n (h b.3) ne b.0 b.1 b.2 (sym b.4)
-
-pub trace_walk_whole_fault : (f : TraceFault) (bytes : List ℕ) (n : ℕ) → IsTraceFaultLasting bytes n f → IsTraceFault bytes n f
-trace_walk_whole_fault f bytes n h = subst (λ (x : List ℕ). IsTraceFault x n f) (append-nil bytes) (h [])

@@ -1,16 +1,13 @@
 -- A text that may end in the midst of a line, and whose first line doesn't end.
-use Rattle.std.proofs.Common.{◌≡◌, ℕ, List, [], ◌∷◌, ◌++◌, refl, subst, ap, ◌∙◌, append_assoc}
+use Rattle.std.proofs.Common.{◌≡◌, ℕ, List, [], ◌∷◌, ◌++◌, refl, subst, ◌∙◌, append_assoc}
 use Rattle.journal.specs.declared.event.Event.{Event}
-use Rattle.journal.specs.Sizes.{Sizes}
 use Rattle.lrc_script.proofs.Reading.Separators.{HasNoSeparator}
 use Rattle.lrc_script.specs.ScriptLines.{script_cluster_line, script_line_bytes}
 use Rattle.lrc_report.specs.ReportText.{report_events_text}
 use Rattle.lrc_check.specs.Traces.Begun.{trace_text_so_far}
-use Rattle.lrc_check.specs.Traces.FedText.{FedText, IsFedTextOf, IsNoUnfinishedTrace, IsUnfinishedTrace}
+use Rattle.lrc_check.specs.Traces.FedText.{FedText, IsFedTextOf, IsNoUnfinishedTrace}
 use Rattle.lrc_check.specs.Traces.Labels.{line_without_trace_label, without_trace_labels}
-use Rattle.lrc_check.specs.Traces.LawfulTraces.{IsLawfulTrace}
 use Rattle.lrc_check.specs.Traces.Sizes.{trace_sizes_as_script}
-use Rattle.lrc_check.specs.Traces.TraceText.{trace_text}
 use Rattle.lrc_check.specs.declared.traces.trace.TraceSizes.{TraceSizes}
 use Rattle.std.specs.Prelude.{None, Option}
 use Rattle.lrc_check.proofs.traces.Feeding.{feeding_text_whole}

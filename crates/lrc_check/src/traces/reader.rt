@@ -4,7 +4,7 @@ ghost use Rattle.journal.specs.declared.event.Event.{Event};
 ghost use Rattle.lrc_script.specs.Prelude.{HasNoLineFeed};
 ghost use Rattle.lrc_check.specs.declared.traces.fault.TraceFault.TheVariants.{NoMemory, Truncated};
 ghost use Rattle.lrc_check.specs.Traces.Prelude.{FedTextBeginsTrace, IsNoOtherLawfulTrace, IsNoLawfulTrace, IsFedTextOf, IsFedTextWhole, IsLawfulTrace, IsUnfinishedTrace, IsNoUnfinishedTrace, IsTraceBegun, IsTraceLeft, IsTraceFault};
-ghost use Rattle.lrc_check.specs.Traces.Prelude.{ArePassedOver, AreTraceLabelsBehind, AreTraceSizesKept, IsFedLineRefused, IsLineRefused, BeginsWithTraceBegun, FedTextFaultStays, HasReadFedText, IsTraceReadOn, without_trace_labels, fed_text_line_number, trace_event_label, trace_begun_events, trace_begun_line_count, trace_begun_line_number, trace_begun_sizes, trace_begun_text, trace_labels_of, trace_sizes_of, trace_text};
+ghost use Rattle.lrc_check.specs.Traces.Prelude.{ArePassedOver, AreTraceLabelsBehind, AreTraceSizesKept, IsFedLineRefused, IsLineRefused, BeginsWithTraceBegun, FedTextFaultStays, HasReadFedText, IsTraceReadOn, without_trace_labels, fed_text_line_number, trace_begun_events, trace_begun_line_count, trace_begun_line_number, trace_begun_sizes, trace_begun_text, trace_labels_of, trace_sizes_of, trace_text};
 
 use crate::traces::fault::TraceFault;
 use crate::traces::labels::{TraceLabels, is_trace_line_passed_over, split_trace_label};
@@ -321,17 +321,6 @@ impl Reader {
         ensures { result ≡ self.now.headed }
     {
         self.headed
-    }
-
-    /// The label of the event at this index among `events`, without a byte if it has none. It takes time in the order of the
-    /// lines.
-    pub fn label(&self, index: usize) -> &[u8]
-        requires { index < length self.now.events }
-        ensures { (bytes : List ℕ) (front : List Event) (told : List ℕ) → IsFedTextOf bytes front told self.now
-            → result.now ≡ trace_event_label (trace_labels_of bytes) (self.now.gone + index) }
-    {
-        let line = if self.headed { index + 1 } else { index };
-        self.labels.at(line)
     }
 
     /// Lets go of the events that were read and of the labels, also of that of the line of the sizes if it was read. Their memory

@@ -1,4 +1,4 @@
-use Rattle.std.proofs.Common.{◌≤◌, length, subst, arith}
+use Rattle.std.proofs.Common.{subst, arith}
 use Rattle.std.specs.Prelude.{IfOk}
 use Rattle.judge.specs.declared.sizes.Sizes.{Sizes as JudgedSizes}
 use Rattle.judge.specs.JudgedSizes.{judged_sizes_of}

@@ -1,4 +1,4 @@
-use Rattle.std.proofs.Common.{◌≡◌, ◌∙◌, ◌+◌, ◌<◌, ◌++◌, ◌∷◌, [], Some, length, refl, sym, subst, arith}
+use Rattle.std.proofs.Common.{◌≡◌, ◌∙◌, ◌+◌, ◌∷◌, [], Some, length, refl, sym, subst, arith}
 use Rattle.lrc_check.specs.WaitingCircles.{waits_for}
 use Rattle.std.proofs.lemmas.List.{length-append}
 use Rattle.lrc_check.proofs.WaitingWalks.{IsWaitingWalk, waiting_walk_next, waiting_walk_start}

@@ -5,7 +5,7 @@ use Rattle.judge.specs.declared.locksets.lockset_finder.Unprotected.{Unprotected
 use Rattle.judge.specs.SparseTables.{sparse_at, sparse_table_value}
 use Rattle.judge.specs.Locksets.Pairs.{IsUnguardedPair, PairsLeaveUnprotected}
 use Rattle.judge.proofs.LongerSparseTables.{longer_sparse_read}
-use Rattle.judge.proofs.locksets.TellingLocksets.{telling_locksets_left, telling_locksets_none_unguarded, telling_locksets_unwatched_unguarded, telling_locksets_word_kept, telling_locksets_word_unkept}
+use Rattle.judge.proofs.locksets.TellingLocksets.{telling_locksets_left, telling_locksets_none_unguarded, telling_locksets_unwatched, telling_locksets_word_kept, telling_locksets_word_unkept}
 use Rattle.judge.proofs.locksets.lockset_finder.finder_answer_of.Goals as goal
 
 -- nothing is found
@@ -19,8 +19,9 @@ pub returns-in_err-place : goal.returns-in_err-place
 returns-in_err-place c = λ j tells.
     let words = c.args.words.now in
     nothing j c.args.address c.from_residual.result c.from_residual.ensures
-    (telling_locksets_unwatched_unguarded j c.args.address
-    (telling_locksets_word_unkept j (length j) (sparse_at words) (ap (sparse_table_value words.kept.items) c.in_err-place.ensures) tells))
+    (λ i k is. telling_locksets_unwatched j c.args.address
+    (telling_locksets_word_unkept j (length j) (sparse_at words) (ap (sparse_table_value words.kept.items) c.in_err-place.ensures) tells)
+    i k is.needs)
 
 pub returns-in_err-unguarded : goal.returns-in_err-unguarded
 returns-in_err-unguarded c = λ j tells.

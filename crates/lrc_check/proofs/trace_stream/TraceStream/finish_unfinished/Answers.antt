@@ -1,4 +1,4 @@
-use Rattle.std.proofs.Common.{◌≡◌, ◌∙◌, ℕ, ◌++◌, List, Option, Some, None, subst, sym, ap}
+use Rattle.std.proofs.Common.{◌≡◌, ℕ, ◌++◌, List, Option, Some, None, subst}
 use Rattle.std.specs.Prelude.{Result, Ok, Err, IfErr, IfOk}
 use Rattle.journal.specs.declared.event.Event.{Event}
 use Rattle.lrc_check.specs.declared.history_judge.HistoryJudge.{HistoryJudge}

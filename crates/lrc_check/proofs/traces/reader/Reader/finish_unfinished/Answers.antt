@@ -1,4 +1,4 @@
-use Rattle.std.proofs.Common.{◌≡◌, List, ℕ, [], ◌++◌, Option, Some, None, false, refl, ap, subst, sym}
+use Rattle.std.proofs.Common.{◌≡◌, [], ◌++◌, Option, Some, None, false, refl, ap, subst, sym}
 use Rattle.std.specs.Prelude.{IfErr, Result, Ok, Err, is_some}
 use Rattle.lrc_check.specs.declared.traces.trace.Trace.{Trace}
 use Rattle.lrc_check.specs.Traces.Begun.{trace_begun_sizes, trace_begun_text}
