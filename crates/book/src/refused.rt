@@ -5,78 +5,67 @@ ghost use Rattle.book.specs.declared.refused.Refused.TheVariants.{NoMemory};
 
 use journal::CutFault;
 use std::alloc::AllocError;
-use std::error::Error;
-use std::fmt;
+use thiserror::Error;
 
 /// Why a call on a processor or a cluster is refused. After a refusal all is as before, except that
 /// a call that entered the book has spent one of its entries.
-#[derive(Clone, Copy, Debug, PartialEq, Eq)]
+#[derive(Clone, Copy, Debug, PartialEq, Eq, Error)]
 pub enum Refused {
     /// The address or the page is past the end.
+    #[error("address out of range")]
     OutOfRange,
     /// The copy of this page is invalid.
+    #[error("page {0} is invalid")]
     Invalid(usize),
     /// The processor has asked, arrived or watched, and not yet taken.
+    #[error("waiting")]
     Waiting,
     /// The open block has 256 events.
+    #[error("block full")]
     BlockFull,
     /// The processor doesn't hold the lock.
+    #[error("lock not held")]
     NotHeld,
     /// The processor holds the lock.
+    #[error("lock already held")]
     AlreadyHeld,
     /// The lock number is past the end.
+    #[error("no such lock")]
     BadLock,
     /// The flag number is past the end.
+    #[error("no such flag")]
     BadFlag,
     /// What the processor waits for hasn't come.
+    #[error("nothing has come yet")]
     NotYet,
     /// The processor isn't waiting.
+    #[error("nothing awaited")]
     NothingAwaited,
     /// The copy is valid.
+    #[error("page already valid")]
     AlreadyValid,
     /// The journal would have more than 2^20 events.
+    #[error("journal full")]
     JournalFull,
     /// The processor has entered the book's lock as often as it may.
+    #[error("lock entries spent")]
     SeatSpent,
     /// A growth was refused in this call.
+    #[error("out of memory")]
     NoMemory,
     /// A size of the cluster is out of range.
+    #[error("size out of range")]
     BadSize,
     /// The events at these places of the part to be cut off race: its first race.
+    #[error("events {0} and {1} race")]
     Racy(usize, usize),
     /// The journal has no complete episode of the barrier.
+    #[error("no complete episode")]
     NoEpisode,
     /// More than 2^30 events would be cut off in all.
+    #[error("too many events cut off")]
     BaseFull,
 }
-
-impl fmt::Display for Refused {
-    fn fmt<W: fmt::Write>(&self, f: &mut fmt::Formatter<W>) -> fmt::Result {
-        let text = match *self {
-            Refused::OutOfRange => "address out of range",
-            Refused::Invalid(page) => return write!(f, "page {page} is invalid"),
-            Refused::Waiting => "waiting",
-            Refused::BlockFull => "block full",
-            Refused::NotHeld => "lock not held",
-            Refused::AlreadyHeld => "lock already held",
-            Refused::BadLock => "no such lock",
-            Refused::BadFlag => "no such flag",
-            Refused::NotYet => "nothing has come yet",
-            Refused::NothingAwaited => "nothing awaited",
-            Refused::AlreadyValid => "page already valid",
-            Refused::JournalFull => "journal full",
-            Refused::SeatSpent => "lock entries spent",
-            Refused::NoMemory => "out of memory",
-            Refused::BadSize => "size out of range",
-            Refused::Racy(first, second) => return write!(f, "events {first} and {second} race"),
-            Refused::NoEpisode => "no complete episode",
-            Refused::BaseFull => "too many events cut off",
-        };
-        f.write_str(text)
-    }
-}
-
-impl Error for Refused {}
 
 impl From<CutFault> for Refused {
     ghost from_gives = { λ f r. r ≡ book_cut_refusal f };
