@@ -1,5 +1,5 @@
 -- Lax, an acquire or an await without its ask or watch is judged as with it right before it.
-use Rattle.std.proofs.Common.{◌≡◌, ◌≢◌, ℕ, ◌+◌, ◌<◌, ◌≤◌, ◌↔◌, ◌&&◌, ◌==◌, inl, inr, Bool, true, false, cond, List, [], ◌∷◌, ◌++◌, length, take, Option, Some, None, subst, sym, refl, ap, ◌∙◌, append_assoc, append-nil, arith}
+use Rattle.std.proofs.Common.{◌≡◌, ◌≢◌, ℕ, ◌+◌, ◌≤◌, ◌↔◌, ◌&&◌, ◌==◌, inl, inr, Bool, true, false, cond, List, [], ◌∷◌, ◌++◌, length, take, Some, None, subst, sym, refl, ap, ◌∙◌, append_assoc, append-nil, arith}
 use Rattle.std.proofs.lemmas.Option.{same_Some, none-some}
 use Rattle.std.proofs.Math.Seq.{take-append-le, take-append_seam}
 use Rattle.base.proofs.SlicesAndCounts.{slice_push_cases}
@@ -10,7 +10,7 @@ use Rattle.journal.specs.AwaitedNext.{AwaitsNothingNext, awaited_next}
 use Rattle.journal.specs.DidEvent.{event}
 use Rattle.journal.specs.Sizes.{Sizes}
 use Rattle.journal.specs.Events.{EventAt, event_count, event_arrives, event_departs}
-use Rattle.journal.specs.WellFormed.{Does, Holds, LastIs, WellFormedAnswer, WellFormedKindInRange}
+use Rattle.journal.specs.WellFormed.{Holds, LastIs, WellFormedAnswer, WellFormedKindInRange}
 use Rattle.journal.proofs.Order.EventPlacesAndCounts.{event_count-append, event_place_at_end, event_place_inside, event_place_longer}
 use Rattle.journal.proofs.Journals.WellFormedStays.{well_formed_stays_holds_cases, well_formed_stays_holds_longer, well_formed_stays_holds_now, well_formed_stays_last_cases, well_formed_stays_last_longer, well_formed_stays_last_now}
 use Rattle.judge.specs.FrontTells.{FrontTellsFlagSet}
