@@ -3,60 +3,49 @@ ghost use Rattle.std.specs.Prelude.{◌≡◌};
 ghost use Rattle.lrc_script.specs.declared.fault.ScriptFault.TheVariants.{NoMemory};
 
 use std::alloc::{AllocError, AllocFailed};
-use std::error::Error;
-use std::fmt;
+use thiserror::Error;
 
 /// Why bytes aren't the text of a script that can be run. On one line the tests come in the order
 /// Truncated, BadLine, BadNumber, BadSize, OutOfRange, BadLock, BadFlag, AlreadyHeld, NotHeld, TooLong.
-#[derive(Clone, Copy, Debug, PartialEq, Eq)]
+#[derive(Clone, Copy, Debug, PartialEq, Eq, Error)]
 pub enum ScriptFault {
     /// The bytes end where a line has to be, or the last line has no line feed.
+    #[error("file ends too early")]
     Truncated,
     /// The first word, the number of words or the separation isn't one that is allowed at this point.
+    #[error("line not understood")]
     BadLine,
     /// A word in a number's place isn't a number.
+    #[error("bad number")]
     BadNumber,
     /// The `cluster` line has a size out of range.
+    #[error("size out of range")]
     BadSize,
     /// An address isn't below pages times words a page.
+    #[error("address out of range")]
     OutOfRange,
     /// A lock number isn't below the cluster's locks.
+    #[error("no such lock")]
     BadLock,
     /// A flag number isn't below the cluster's flags.
+    #[error("no such flag")]
     BadFlag,
     /// An `acquire` of a lock that the section holds.
+    #[error("lock already held")]
     AlreadyHeld,
     /// A `release` of a lock that the section doesn't hold.
+    #[error("lock not held")]
     NotHeld,
     /// Instruction 10,001 of a section, or address 65 of the `show` line.
+    #[error("too many")]
     TooLong,
     /// A section has another number of barriers than section 0.
+    #[error("number of barriers differs")]
     Uneven,
     /// A growth was refused while the line was read.
+    #[error("out of memory")]
     NoMemory,
 }
-
-impl fmt::Display for ScriptFault {
-    fn fmt<W: fmt::Write>(&self, f: &mut fmt::Formatter<W>) -> fmt::Result {
-        let text = match *self {
-            ScriptFault::Truncated => "file ends too early",
-            ScriptFault::BadLine => "line not understood",
-            ScriptFault::BadNumber => "bad number",
-            ScriptFault::BadSize => "size out of range",
-            ScriptFault::OutOfRange => "address out of range",
-            ScriptFault::BadLock => "no such lock",
-            ScriptFault::BadFlag => "no such flag",
-            ScriptFault::AlreadyHeld => "lock already held",
-            ScriptFault::NotHeld => "lock not held",
-            ScriptFault::TooLong => "too many",
-            ScriptFault::Uneven => "number of barriers differs",
-            ScriptFault::NoMemory => "out of memory",
-        };
-        f.write_str(text)
-    }
-}
-
-impl Error for ScriptFault {}
 
 impl<T: Drop> From<AllocFailed<T>> for ScriptFault {
     ghost from_gives = { λ _ e. e ≡ NoMemory };
