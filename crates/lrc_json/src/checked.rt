@@ -309,28 +309,37 @@ fn put_checked_guarded_json(
     members.put_number("lock", lock)
 }
 
+/// Adds the word, two accesses of it that hold no lock in common, and which hold one, if any do.
+fn put_checked_word_json(
+    members: &mut Members,
+    alloc: Global,
+    told: ToldEvents<'_>,
+    word: Unprotected,
+) -> Result<(), AllocError> {
+    members.put_number("address", word.address)?;
+    members.put("first", checked_access_json(alloc, told, word.unguarded.0)?)?;
+    members.put(
+        "second",
+        checked_access_json(alloc, told, word.unguarded.1)?,
+    )?;
+    match word.guarded {
+        Some(guarded) => put_checked_guarded_json(members, alloc, told, guarded),
+        None => Ok(()),
+    }
+}
+
 /// The word that needs a lock and has none: at times, or never, and then it is handed over.
 fn checked_unprotected_json(
     alloc: Global,
     told: ToldEvents<'_>,
     word: Unprotected,
 ) -> Result<Members, AllocError> {
-    let Unprotected {
-        address,
-        unguarded,
-        guarded,
-    } = word;
-    let name = match guarded {
+    let name = match word.guarded {
         Some(_) => "unprotected",
         None => "handed",
     };
     let mut members = Members::telling(alloc, name)?;
-    members.put_number("address", address)?;
-    members.put("first", checked_access_json(alloc, told, unguarded.0)?)?;
-    members.put("second", checked_access_json(alloc, told, unguarded.1)?)?;
-    if let Some(guarded) = guarded {
-        put_checked_guarded_json(&mut members, alloc, told, guarded)?;
-    }
+    put_checked_word_json(&mut members, alloc, told, word)?;
     Ok(members)
 }
 
@@ -347,6 +356,25 @@ fn put_checked_unprotected_json(
     Ok(())
 }
 
+/// Adds the lines of what was found.
+fn put_checked_lines_json(
+    text: &mut String,
+    alloc: Global,
+    told: ToldEvents<'_>,
+    rules: Rules,
+    judged: &JudgedTrace,
+) -> Result<(), AllocError> {
+    if let Some(race) = judged.found.race {
+        let members = checked_race_json(alloc, told, race, &judged.race)?;
+        put_json_output_line(text, alloc, members)?;
+    }
+    if let TraceVerdict::Lie(lie) = &judged.found.verdict {
+        put_json_output_line(text, alloc, checked_lie_json(alloc, told, lie)?)?;
+    }
+    put_checked_unprotected_json(text, alloc, told, &judged.unprotected)?;
+    put_json_output_line(text, alloc, checked_summary_json(alloc, rules, judged)?)
+}
+
 /// The lines of what was found.
 fn checked_lines_json(
     alloc: Global,
@@ -355,22 +383,7 @@ fn checked_lines_json(
     judged: &JudgedTrace,
 ) -> Result<String, AllocError> {
     let mut text = String::new(alloc);
-    if let Some(race) = judged.found.race {
-        put_json_output_line(
-            &mut text,
-            alloc,
-            checked_race_json(alloc, told, race, &judged.race)?,
-        )?;
-    }
-    if let TraceVerdict::Lie(lie) = &judged.found.verdict {
-        put_json_output_line(&mut text, alloc, checked_lie_json(alloc, told, lie)?)?;
-    }
-    put_checked_unprotected_json(&mut text, alloc, told, &judged.unprotected)?;
-    put_json_output_line(
-        &mut text,
-        alloc,
-        checked_summary_json(alloc, rules, judged)?,
-    )?;
+    put_checked_lines_json(&mut text, alloc, told, rules, judged)?;
     Ok(text)
 }
 
