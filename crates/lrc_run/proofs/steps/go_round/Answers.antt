@@ -1,4 +1,5 @@
 use Rattle.std.proofs.Common.{rules, true, ◌≡◌, ◌∙◌, ◌++◌, List, ap, drop, length, take, subst, arith}
+use Rattle.std.proofs.lemmas.Grind.{elements}
 use Rattle.std.proofs.Math.Seq.{take-append_seam}
 use Rattle.std.specs.Prelude.{All}
 use Rattle.lrc_script.specs.Plan.{plan_of}
@@ -63,3 +64,6 @@ loop-preserved g c =
     c.requires.sizes many c.loop.invariant.between (drawn_is ∙ c.draw.ensures.list) c.draw.ensures.state
     round.turns round.seen in
     record { between = next; long = search rules }
+
+pub round_in_vain-requires : goal.round_in_vain-requires
+round_in_vain-requires g c = grind (arith, elements)

@@ -1,4 +1,5 @@
-use Rattle.std.proofs.Common.{◌∷◌, ℕ, [], List, Option, Some, append-nil, slice_index_or, subst, sym}
+use Rattle.std.proofs.Common.{◌∷◌, ℕ, [], List, Option, Some, append-nil, slice_index_or, subst, sym, arith}
+use Rattle.std.proofs.lemmas.Grind.{elements}
 use Rattle.lrc_script.specs.Plan.{plan_of}
 use Rattle.lrc_run.specs.DrawnOrders.{drawn_order_chosen}
 use Rattle.lrc_run.specs.RunTurns.{AreRunTurnsTaken}
@@ -34,3 +35,6 @@ returns-in-None-clause-taken g c = λ first start was.
     let none = subst P c.in-None.is c.in_ok-place.ensures.taken in
     let R : List ℕ → Type 0 = λ ps. AreRunTurnsTaken sections ps first new start end in
     subst R (append-nil turns) (turn_ways_taken-append sections turns [] first cur new start all end was none)
+
+pub have_arrived-requires : goal.have_arrived-requires
+have_arrived-requires g c = grind (arith, elements)
