@@ -18,8 +18,8 @@
 #include <unistd.h>
 
 /* After how many accesses the turn passes at the latest, how many of 1024 points lower a priority, at one of how many points a
- * wait's time is over, how long one waits for a thread that does nothing, and the status of a program that hangs. */
-enum { MOST_ACCESSES = 256, LOWERED = 32, TIMELY = 256, PATIENCE = 200000000, HANGS = 3 };
+ * wait's time is over, how many seconds one waits for a thread that does nothing, and the status of a program that hangs. */
+enum { MOST_ACCESSES = 256, LOWERED = 32, TIMELY = 256, PATIENCE = 1, HANGS = 3 };
 
 bool is_scheduled;
 
@@ -162,7 +162,7 @@ static void take_from_idle(uint64_t seen)
 /* Waits until it is the thread's turn. */
 static void wait_until_chosen(struct thread *thread)
 {
-    const struct timespec patience = {0, PATIENCE};
+    const struct timespec patience = {PATIENCE, 0};
 
     while (!atomic_load(&thread->turn.go)) {
         uint64_t seen = atomic_load(&deeds);
