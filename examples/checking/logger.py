@@ -17,13 +17,13 @@ from pathlib import Path
 class Trace:
     """Shared words, locks, flags and one barrier, of which each use is logged."""
 
-    def __init__(self, file, processors, words, locks=0, flags=0):
+    def __init__(self, file, processors, words, locks=0, flags=0, pages=1):
         self.file, self.words, self.events = file, [0] * words, 0
         self.guard = threading.Lock()
         self.locks = [threading.Lock() for _ in range(locks)]
         self.flags = [threading.Event() for _ in range(flags)]
         self.barrier = threading.Barrier(processors)
-        numbers = [processors, 1, words, locks] + [flags] * (flags > 0)
+        numbers = [processors, pages, words // pages, locks] + [flags] * (flags > 0)
         print("cluster", *numbers, file=file)
 
     @staticmethod

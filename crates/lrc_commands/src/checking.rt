@@ -203,7 +203,7 @@ fn room(alloc: Global, size: usize) -> Result<Vec<u8>, AllocError>
 }
 
 /// Reads a trace, so that its text is never there as a whole.
-pub(crate) fn check_command_reads_all<S: Read>(
+pub fn check_command_reads_all<S: Read>(
     alloc: Global,
     source: &mut S,
     unfinished: bool,

@@ -141,7 +141,7 @@ impl CommandFault {
     }
 
     /// The same of a trace, of which this line was refused if the fault is of one.
-    pub(crate) fn say_of_trace<E: Write>(
+    pub fn say_of_trace<E: Write>(
         self,
         alloc: Global,
         file: Option<&str>,

@@ -28,7 +28,7 @@ pub mod explaining;
 pub mod exploring;
 pub mod fault;
 mod locks;
-mod refused_line;
+pub mod refused_line;
 pub mod sampling;
 pub mod telling;
 mod trace_hint;

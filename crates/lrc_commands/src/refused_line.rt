@@ -5,7 +5,7 @@ use std::alloc::Global;
 
 /// The line of a trace that has a fault, as far as it was kept, and what is known of the trace before it.
 #[derive(Drop)]
-pub(crate) struct RefusedLine {
+pub struct RefusedLine {
     /// Its bytes, without a line feed.
     bytes: Vec<u8>,
     /// How many lines before it were passed over.
@@ -16,7 +16,7 @@ pub(crate) struct RefusedLine {
 
 impl RefusedLine {
     /// Nothing is kept yet.
-    pub(crate) fn new(alloc: Global) -> RefusedLine {
+    pub fn new(alloc: Global) -> RefusedLine {
         RefusedLine {
             bytes: Vec::new(alloc),
             passed: 0,

@@ -23,7 +23,7 @@ use Rattle.lrc_options.specs.declared.options.TraceModel.{TraceModel}
 use Rattle.lrc_options.specs.declared.options.TraceLocksets.{TraceLocksets}
 use Rattle.lrc_options.specs.declared.options.TraceModel.TheVariants.{RaceFree}
 use Rattle.lrc_options.specs.Clashes.{do_options_clash_together, clashing_option_source}
-use Rattle.lrc_options.specs.OptionRules.{option_rule_detail_given, option_rule_locksets_given, option_rule_model_given, option_rule_named_detail, option_rule_named_locksets, option_rule_named_model, IsCommandByOptionRules, IsNumberReadByOptionRule, IsNumberByOptionRule, IsSeedByOptionRule, IsFlagByOptionRule, AreOptionsRefusedByRules, IsOptionUnanswered, AreOptionParsers, OptionParsers, AreOptionsAskedByRules, AreOptionsGivenByRules, flagged_option_rules, lrc_option_rules, option_rule_number, option_rule_most_seed}
+use Rattle.lrc_options.specs.OptionRules.{option_rule_detail_given, option_rule_locksets_given, option_rule_model_given, option_rule_named_detail, option_rule_named_locksets, option_rule_named_model, IsCommandByOptionRules, IsNumberReadByOptionRule, IsNumberByOptionRule, IsSeedByOptionRule, IsSizeByOptionRule, IsFlagByOptionRule, AreOptionsRefusedByRules, IsOptionUnanswered, AreOptionParsers, OptionParsers, AreOptionsAskedByRules, AreOptionsGivenByRules, flagged_option_rules, lrc_option_rules, option_rule_number, option_rule_most_seed}
 
 -- a text that is a number is read as that
 matched_option_number_reads : {E : Type 0} (t : Text) (G : List ℕ → Result ℕ E → Type 0) (r : Option ℕ) → ReadsOne G t r
@@ -72,6 +72,34 @@ matched_option_number_none least most default given r above below = record {
   default_is = λ is. refl;
   least_is = above;
   most_is = below;
+}
+
+-- a size in range
+pub matched_option_size_in : (most : ℕ) (given : Option Text) (n : ℕ) → IsNumberReadByOptionRule given (Some n) → 1 ≤ n → n ≤ most
+    → IsSizeByOptionRule most given (Some n)
+matched_option_size_in most given n r least within_most = record {
+  read = λ t is within. r.read t is within.0 within.1;
+  none = r.none;
+  least_is = least;
+  most_is = within_most;
+}
+
+pub matched_option_size_out : (most : ℕ) (given : Option Text) (n : ℕ) → IsNumberReadByOptionRule given (Some n) → (1 ≤ n → n ≤ most → ⊥)
+    → IsSizeByOptionRule most given None
+matched_option_size_out most given n r out = record {
+  read = λ t is within. absurd (out (rw (same_Some n (option_rule_number t) (r.read t is within.0 within.1)) within.2)
+      (rw (same_Some n (option_rule_number t) (r.read t is within.0 within.1)) within.3));
+  none = λ is. refl;
+  least_is = tt;
+  most_is = tt;
+}
+
+pub matched_option_size_none : (most : ℕ) (given : Option Text) → IsNumberReadByOptionRule given None → IsSizeByOptionRule most given None
+matched_option_size_none most given r = record {
+  read = λ t is within. r.read t is within.0 within.1;
+  none = λ is. refl;
+  least_is = tt;
+  most_is = tt;
 }
 
 -- a seed in range

@@ -20,9 +20,11 @@ use Rattle.lrc_options.specs.FinalWords.{AreFinalWordsWritten}
 use Rattle.lrc_options.specs.Ranges.{AreProcessorsWritten, IsOptionRangeWritten, most_trace_processors}
 use Rattle.lrc_options.specs.declared.ranges.EventRange.{EventRange}
 use Rattle.lrc_options.specs.declared.options.Asked.{Asked}
-use Rattle.lrc_options.specs.declared.options.Asked.TheVariants.{Explain, Explore, Sample, Script, Tell, Trace}
+use Rattle.lrc_options.specs.declared.options.Asked.TheVariants.{Draw, Explain, Explore, Follow, Sample, Script, Tell, Trace}
+use Rattle.lrc_options.specs.declared.options.DrawOptions.{DrawOptions}
 use Rattle.lrc_options.specs.declared.options.ExplainOptions.{ExplainOptions}
 use Rattle.lrc_options.specs.declared.options.ExploreOptions.{ExploreOptions}
+use Rattle.lrc_options.specs.declared.options.FollowOptions.{FollowOptions}
 use Rattle.lrc_options.specs.declared.options.Options.{Options}
 use Rattle.lrc_options.specs.declared.options.SampleOptions.{SampleOptions}
 use Rattle.lrc_options.specs.declared.options.TellOptions.{TellOptions}
@@ -111,6 +113,10 @@ outcomes_option_rule details = record (option_rule (codes "outcomes")) { parser 
 abbrev pub json_option_rule : Rule
 json_option_rule = flag_option_rule (codes "json")
 
+-- the pattern that `draw` draws a script by, of those that this parser lets through
+abbrev pub pattern_option_rule : ValueParser → Rule
+pattern_option_rule patterns = record (new_rule (codes "PATTERN")) { parser = Some patterns; defaults = codes "mixed" ∷ [] }
+
 -- a command of this shape, of which no argument is global
 pub record IsCommandByOptionRules (a : App) (c : Command) : Type 0 where
   pub shape : app_of c ≡ a
@@ -182,25 +188,40 @@ abbrev pub check_option_rules : ValueParser → ValueParser → App
 check_option_rules models words = with_rule (with_rule (with_rule (judged_option_rules (file_option_rules (codes "check")) models) race_is_error_option_rule)
     (locksets_option_rule words)) json_option_rule
 
+-- `lrc draw`, without its sizes and with them
+abbrev pub drawn_option_rules : ValueParser → App
+drawn_option_rules patterns = with_rule (with_rule (new_app (codes "draw")) (pattern_option_rule patterns)) seed_option_rule
+
+abbrev pub draw_option_rules : ValueParser → App
+draw_option_rules patterns = with_rule (with_rule (with_rule (with_rule (with_rule (with_rule (drawn_option_rules patterns)
+    (number_option_rule (codes "processors") 1 16)) (number_option_rule (codes "pages") 1 64)) (number_option_rule (codes "words") 1 64))
+    (number_option_rule (codes "locks") 1 32)) (number_option_rule (codes "flags") 1 32)) (number_option_rule (codes "length") 1 400)
+
+-- `lrc follows`
+abbrev pub follows_option_rules : App
+follows_option_rules = with_rule (file_option_rules (codes "follows")) (new_rule (codes "TRACE"))
+
 -- `lrc` without its commands: it wants one, and has a version
 abbrev pub bare_option_rules : App
 bare_option_rules = on_top (λ s. record s { subcommand_required = true; has_version = true }) (new_app (codes "lrc"))
 
--- what takes the names of locks, of models, of words without a lock, and of what outcomes tell
+-- what takes the names of locks, of models, of words without a lock, of what outcomes tell, and of patterns
 pub record OptionParsers : Type 0 where
   pub locks : ValueParser
   pub models : ValueParser
   pub words : ValueParser
   pub details : ValueParser
+  pub patterns : ValueParser
 
-abbrev pub option_parsers : ValueParser → ValueParser → ValueParser → ValueParser → OptionParsers
-option_parsers locks models words details = record { locks = locks; models = models; words = words; details = details }
+abbrev pub option_parsers : ValueParser → ValueParser → ValueParser → ValueParser → ValueParser → OptionParsers
+option_parsers locks models words details patterns =
+    record { locks = locks; models = models; words = words; details = details; patterns = patterns }
 
 -- `lrc` with all its commands
 abbrev pub lrc_option_rules : OptionParsers → App
-lrc_option_rules by = with_subcommand (with_subcommand (with_subcommand (with_subcommand (with_subcommand (with_subcommand bare_option_rules
+lrc_option_rules by = with_subcommand (with_subcommand (with_subcommand (with_subcommand (with_subcommand (with_subcommand (with_subcommand (with_subcommand bare_option_rules
     (run_option_rules by.locks).top) (step_option_rules by.locks).top) (explain_option_rules by.locks by.models).top) (sample_option_rules by.locks by.details).top)
-    (explore_option_rules by.details).top) (check_option_rules by.models by.words).top
+    (explore_option_rules by.details).top) (check_option_rules by.models by.words).top) (draw_option_rules by.patterns).top) follows_option_rules.top
 
 -- the parser takes these names and no others
 abbrev pub OptionTakesNames : List Text → ValueParser → Type 0
@@ -214,6 +235,8 @@ pub record AreOptionParsers (by : OptionParsers) : Type 0 where
       OptionTakesNames (codes "race-free" ∷ codes "happens-before" ∷ codes "lazy-release" ∷ codes "sequential" ∷ []) by.models
   pub words : OptionTakesNames (codes "forgotten" ∷ codes "all" ∷ []) by.words
   pub details : OptionTakesNames (codes "words" ∷ codes "loads" ∷ codes "all" ∷ []) by.details
+  pub patterns : OptionTakesNames (codes "guarded" ∷ codes "free" ∷ codes "chains" ∷ codes "sharing" ∷ codes "barriers"
+      ∷ codes "nested" ∷ codes "flags" ∷ codes "silences" ∷ codes "mixed" ∷ []) by.patterns
 
 -- the number that a text gives
 abbrev pub option_rule_number : Text → ℕ
@@ -237,6 +260,13 @@ pub record IsSeedByOptionRule (given : Option Text) (seed : Option ℕ) : Type 0
   pub read : (t : Text) → given ≡ Some t → IsUnsignedIn 0 option_rule_most_seed t → seed ≡ Some (option_rule_number t)
   pub none : given ≡ None → seed ≡ None
   pub most_is : IfSome seed (λ n. n ≤ option_rule_most_seed)
+
+-- the number in a range that is given, or none
+pub record IsSizeByOptionRule (most : ℕ) (given : Option Text) (size : Option ℕ) : Type 0 where
+  pub read : (t : Text) → given ≡ Some t → IsUnsignedIn 1 most t → size ≡ Some (option_rule_number t)
+  pub none : given ≡ None → size ≡ None
+  pub least_is : IfSome size (λ n. 1 ≤ n)
+  pub most_is : IfSome size (λ n. n ≤ most)
 
 -- whether a flag is set
 pub record IsFlagByOptionRule (given : Option Text) (flag : Bool) : Type 0 where
@@ -328,6 +358,22 @@ pub record AreOptionsByRulesOfExplore (rows : List Row) (o : ExploreOptions) : T
   pub outcomes : o.outcomes ≡ option_rule_detail_given rows
   pub json : IsFlagByOptionRule (one_of (codes "json") rows) o.json
 
+-- the options that the rows of `draw` give
+pub record AreOptionsByRulesOfDraw (rows : List Row) (o : DrawOptions) : Type 0 where
+  pub pattern : option_map (λ f. string_bytes f) o.pattern ≡ first_of (codes "PATTERN") rows
+  pub seed : IsSeedByOptionRule (one_of (codes "seed") rows) o.seed
+  pub processors : IsSizeByOptionRule 16 (one_of (codes "processors") rows) o.processors
+  pub pages : IsSizeByOptionRule 64 (one_of (codes "pages") rows) o.pages
+  pub words : IsSizeByOptionRule 64 (one_of (codes "words") rows) o.words
+  pub locks : IsSizeByOptionRule 32 (one_of (codes "locks") rows) o.locks
+  pub flags : IsSizeByOptionRule 32 (one_of (codes "flags") rows) o.flags
+  pub length : IsSizeByOptionRule 400 (one_of (codes "length") rows) o.length
+
+-- those that the rows of `follows` give
+pub record AreOptionsByRulesOfFollow (rows : List Row) (o : FollowOptions) : Type 0 where
+  pub script : option_map (λ f. string_bytes f) o.script ≡ first_of (codes "FILE") rows
+  pub trace : option_map (λ f. string_bytes f) o.trace ≡ first_of (codes "TRACE") rows
+
 -- the events that are given, or all
 abbrev pub AreEventsByOptionRule : Option Text → EventRange → Type 0
 AreEventsByOptionRule None x = (x.first ≡ 0) × (x.end ≡ None)
@@ -379,10 +425,14 @@ AreOptionsAskedByRules name rows (Tell o) = (bytes_eq name (codes "explain") ≡
 AreOptionsAskedByRules name rows (Sample o) = (bytes_eq name (codes "sample") ≡ true) × AreOptionsByRulesOfSample rows o
 AreOptionsAskedByRules name rows (Explore o) = (bytes_eq name (codes "explore") ≡ true) × AreOptionsByRulesOfExplore rows o
 AreOptionsAskedByRules name rows (Trace o) = (bytes_eq name (codes "check") ≡ true) × AreOptionsByRulesOfTrace rows o
+AreOptionsAskedByRules name rows (Draw o) = (bytes_eq name (codes "draw") ≡ true) × AreOptionsByRulesOfDraw rows o
+AreOptionsAskedByRules name rows (Follow o) = (bytes_eq name (codes "follows") ≡ true) × AreOptionsByRulesOfFollow rows o
 AreOptionsAskedByRules name rows (Script o) = (bytes_eq name (codes "explain") ≡ false)
     × (bytes_eq name (codes "sample") ≡ false)
     × (bytes_eq name (codes "explore") ≡ false)
     × (bytes_eq name (codes "check") ≡ false)
+    × (bytes_eq name (codes "draw") ≡ false)
+    × (bytes_eq name (codes "follows") ≡ false)
     × AreOptionsByRulesOfScript name rows o
 
 -- what the words ask for, by the matches of a simple command, which find no fault in them; no options exclude each other

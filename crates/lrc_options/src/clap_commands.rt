@@ -1,18 +1,20 @@
 //! The command that the program's words are read by.
 ghost use Rattle.std.specs.Prelude.{◌≡◌, IfOk, false, true};
-ghost use Rattle.clap.specs.Words.{App, app_of, rule_of, with_rule, with_subcommand};
+ghost use Rattle.clap.specs.Words.{App, app_of, new_app, rule_of, with_rule, with_subcommand};
 ghost use Rattle.clap.specs.declared.builder.command.Command.TheViews.{out-Command};
 ghost use Rattle.clap.specs.declared.builder.value_parser.ValueParser.TheVariants as vp;
 ghost use Rattle.lrc_options.specs.OptionRules.{flag_option_rule, lock_option_rule, model_option_rule, most_option_rule, number_option_rule, option_parsers, option_rule, schedule_option_rule, seed_option_rule, seeds_option_rule};
 ghost use Rattle.lrc_options.specs.OptionRules.{IsCommandByOptionRules, bare_option_rules, check_option_rules, explain_option_rules, explore_option_rules, file_option_rules, outcomes_option_rule};
 ghost use Rattle.lrc_options.specs.OptionRules.{flagged_option_rules, lrc_option_rules, run_option_rules, sample_option_rules, script_option_rules, step_option_rules};
-ghost use Rattle.lrc_options.specs.OptionRules.{judged_option_rules, locksets_option_rule, told_option_rules, tries_option_rule};
+ghost use Rattle.lrc_options.specs.OptionRules.{draw_option_rules, drawn_option_rules, follows_option_rules, judged_option_rules, locksets_option_rule, pattern_option_rule, told_option_rules, tries_option_rule};
 ghost use Rattle.lrc_options.specs.ScriptWords.{script_word_rules};
 
 use crate::help::{
-    ABOUT, AFTER, AFTER_RUN_AND_STEP, EVENTS, EXPLAIN, EXPLORE, HTML, JOURNAL, JSON, LAX, LOCKSETS,
-    MODEL, MOST, OUTCOMES, PROCESSORS, RACE_IS_ERROR, SAMPLE, SCHEDULE, SCRIPT, SCRIPT_FILE, SEED,
-    SEEDS, STATE, STRICT, SVG, TRACE, TRACE_FILE, TRACED, TRIES, UNFINISHED, UNTIL, VERSION,
+    ABOUT, AFTER, AFTER_RUN_AND_STEP, DRAW, DRAWN_FLAGS, DRAWN_LENGTH, DRAWN_LOCKS, DRAWN_PAGES,
+    DRAWN_PROCESSORS, DRAWN_SEED, DRAWN_WORDS, EVENTS, EXPLAIN, EXPLORE, FOLLOWS, HTML, JOURNAL,
+    JSON, LAX, LOCKSETS, MODEL, MOST, OUTCOMES, PATTERN, PROCESSORS, RACE_IS_ERROR, SAMPLE,
+    SCHEDULE, SCRIPT, SCRIPT_FILE, SEED, SEEDS, STATE, STRICT, SVG, TRACE, TRACE_FILE, TRACED,
+    TRIES, UNFINISHED, UNTIL, VERSION,
 };
 use clap::builder::ValueParser;
 use clap::{Arg, ArgAction, Command};
@@ -32,6 +34,11 @@ pub(crate) static MODELS: [&str; 4] = ["race-free", "happens-before", "lazy-rele
 
 /// Which words without a lock may be told.
 pub(crate) static LOCKSET_WORDS: [&str; 2] = ["forgotten", "all"];
+
+/// The patterns by which a script may be drawn.
+pub(crate) static PATTERNS: [&str; 9] = [
+    "guarded", "free", "chains", "sharing", "barriers", "nested", "flags", "silences", "mixed",
+];
 
 /// What an outcome may tell, what it tells where nothing is given first.
 pub(crate) static DETAILS: [&str; 3] = ["words", "loads", "all"];
@@ -154,6 +161,17 @@ fn clap_outcomes_arg<'a>(alloc: Global, details: &'a [&'a str]) -> Arg<'a>
         .value_parser(details)
         .default_value("words")
         .help(OUTCOMES)
+}
+
+/// The pattern of `draw`.
+fn clap_pattern_arg<'a>(alloc: Global, patterns: &'a [&'a str]) -> Arg<'a>
+    ensures rule { rule_of result ≡ pattern_option_rule (vp.Names patterns.entry) }
+    ensures own { result.global ≡ false }
+{
+    Arg::new(alloc, "PATTERN")
+        .value_parser(patterns)
+        .default_value("mixed")
+        .help(PATTERN)
 }
 
 /// The flag of this name.
@@ -360,6 +378,54 @@ fn clap_check_command<'a>(
     with_clap_arg(command, clap_flag_arg(alloc, "json", JSON))
 }
 
+/// A command without arguments.
+fn clap_new_command<'a>(alloc: Global, name: &'a str, about: &'a str, after: &'a str) -> Command<'a>
+    ensures { IsCommandByOptionRules (new_app name.entry.now) result }
+{
+    Command::new(alloc, name).about(about).after_help(after)
+}
+
+/// `lrc draw`, without its sizes.
+fn clap_drawn_command<'a>(alloc: Global, patterns: &'a [&'a str]) -> Result<Command<'a>, AllocError>
+    ensures { IfOk result (IsCommandByOptionRules (drawn_option_rules (vp.Names patterns.entry))) }
+{
+    let about = "Draws a lawful script, to be run on a memory that is to be tested";
+    let command = Ok(clap_new_command(alloc, "draw", about, DRAW));
+    let command = with_clap_arg(command, clap_pattern_arg(alloc, patterns));
+    with_clap_arg(
+        command,
+        clap_number_arg(alloc, "seed", 0, MOST_SEED, DRAWN_SEED),
+    )
+}
+
+/// `lrc draw`.
+fn clap_draw_command<'a>(alloc: Global, patterns: &'a [&'a str]) -> Result<Command<'a>, AllocError>
+    ensures { IfOk result (IsCommandByOptionRules (draw_option_rules (vp.Names patterns.entry))) }
+{
+    let command = clap_drawn_command(alloc, patterns);
+    let command = with_clap_arg(
+        command,
+        clap_number_arg(alloc, "processors", 1, 16, DRAWN_PROCESSORS),
+    );
+    let command = with_clap_arg(command, clap_number_arg(alloc, "pages", 1, 64, DRAWN_PAGES));
+    let command = with_clap_arg(command, clap_number_arg(alloc, "words", 1, 64, DRAWN_WORDS));
+    let command = with_clap_arg(command, clap_number_arg(alloc, "locks", 1, 32, DRAWN_LOCKS));
+    let command = with_clap_arg(command, clap_number_arg(alloc, "flags", 1, 32, DRAWN_FLAGS));
+    with_clap_arg(
+        command,
+        clap_number_arg(alloc, "length", 1, 400, DRAWN_LENGTH),
+    )
+}
+
+/// `lrc follows`.
+fn clap_follows_command<'a>(alloc: Global) -> Result<Command<'a>, AllocError>
+    ensures { IfOk result (IsCommandByOptionRules follows_option_rules) }
+{
+    let about = "Tells whether a trace follows its script";
+    let command = clap_file_command(alloc, "follows", about, FOLLOWS, SCRIPT_FILE);
+    with_clap_arg(command, Arg::new(alloc, "TRACE").help(TRACE_FILE))
+}
+
 /// `lrc` without its commands, with this text at the end of its help.
 fn clap_bare_command<'a>(alloc: Global, after: &'a str) -> Command<'a>
     ensures { IsCommandByOptionRules bare_option_rules result }
@@ -391,9 +457,10 @@ pub(crate) fn clap_lrc_command<'a>(
     models: &'a [&'a str],
     words: &'a [&'a str],
     details: &'a [&'a str],
+    patterns: &'a [&'a str],
 ) -> Result<Command<'a>, AllocError>
     ensures command { IfOk result (IsCommandByOptionRules (lrc_option_rules (option_parsers (vp.Names locks.entry) (vp.Names models.entry)
-        (vp.Names words.entry) (vp.Names details.entry)))) }
+        (vp.Names words.entry) (vp.Names details.entry) (vp.Names patterns.entry)))) }
     ensures wants { IfOk result (λ c. (out-Command c).subcommand_required ≡ true) }
 {
     let lrc = Ok(clap_bare_command(alloc, AFTER));
@@ -402,5 +469,7 @@ pub(crate) fn clap_lrc_command<'a>(
     let lrc = with_clap_subcommand(lrc, clap_explain_command(alloc, locks, models));
     let lrc = with_clap_subcommand(lrc, clap_sample_command(alloc, locks, details));
     let lrc = with_clap_subcommand(lrc, clap_explore_command(alloc, details));
-    with_clap_subcommand(lrc, clap_check_command(alloc, models, words))
+    let lrc = with_clap_subcommand(lrc, clap_check_command(alloc, models, words));
+    let lrc = with_clap_subcommand(lrc, clap_draw_command(alloc, patterns));
+    with_clap_subcommand(lrc, clap_follows_command(alloc))
 }

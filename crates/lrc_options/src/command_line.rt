@@ -6,21 +6,21 @@ ghost use Rattle.clap.specs.Words.{first_of, one_of, rows_of, found_of};
 ghost use Rattle.lrc_options.specs.OptionRules.{IsNumberReadByOptionRule, IsNumberByOptionRule, IsSeedByOptionRule, IsFlagByOptionRule, IsLaxByOptionRules, IsOneOfFlagsByOptionRule, AreOptionsAskedByRules, AreOptionsByRulesOfScript};
 ghost use Rattle.lrc_options.specs.declared.ranges.EventRange.{EventRange};
 ghost use Rattle.lrc_options.specs.OptionRules.{AreEventsByOptionRule, AreOptionsByRulesOfExplain, AreOptionsByRulesOfExplore, AreUntilWordsByOptionRule, AreProcessorsByOptionRule, AreOptionsByRulesOfSample};
-ghost use Rattle.lrc_options.specs.OptionRules.{AreOptionsByRulesOfShowing, AreOptionsByRulesOfTell, IsExplanationAskedByOptionRules, IsShowingUnreadByOptionRules};
+ghost use Rattle.lrc_options.specs.OptionRules.{AreOptionsByRulesOfDraw, AreOptionsByRulesOfFollow, AreOptionsByRulesOfShowing, AreOptionsByRulesOfTell, IsSizeByOptionRule, IsExplanationAskedByOptionRules, IsShowingUnreadByOptionRules};
 ghost use Rattle.lrc_options.specs.OptionRules.{AreOptionsByRulesOfTrace, option_rule_default_most, option_rule_detail_given, option_rule_locksets_given, option_rule_model_given, option_rule_named_detail, option_rule_named_locksets, option_rule_named_model, option_rule_ticket};
 ghost use Rattle.lrc_options.specs.Clashes.{do_options_clash_together};
 ghost use Rattle.lrc_options.specs.OptionRules.{AreOptionsGivenByRules, AreOptionsRefusedByRules, IsOptionUnanswered, option_rule_most_processors, option_rule_most_tries, option_rule_most_seed, option_rule_default_tries, option_rule_default_seeds};
 
 use crate::clap_commands::{
-    DETAILS, LOCKS, LOCKSET_WORDS, MODELS, MOST_SEED, MOST_TRIES, clap_lrc_command,
+    DETAILS, LOCKS, LOCKSET_WORDS, MODELS, MOST_SEED, MOST_TRIES, PATTERNS, clap_lrc_command,
 };
 use crate::clashes::{is_in_words, is_lazy_release, option_clash_of};
 use crate::final_words::final_words;
 use crate::misuse::{misuse_by_exclusion, misuse_by_unread_value, with_misuse_tip};
 use crate::options::{
-    Asked, DEFAULT_MOST, DEFAULT_SEEDS, DEFAULT_TRIES, ExplainOptions, ExploreOptions,
-    MOST_TRACE_PROCESSORS, Options, OutcomeDetail, SampleOptions, ShowOptions, TellOptions,
-    TraceLocksets, TraceModel, TraceOptions,
+    Asked, DEFAULT_MOST, DEFAULT_SEEDS, DEFAULT_TRIES, DrawOptions, ExplainOptions, ExploreOptions,
+    FollowOptions, MOST_TRACE_PROCESSORS, Options, OutcomeDetail, SampleOptions, ShowOptions,
+    TellOptions, TraceLocksets, TraceModel, TraceOptions,
 };
 use crate::ranges::{ALL_EVENTS, EventRange, option_range_of_events, processors};
 use base::MOST_PROCESSORS;
@@ -74,6 +74,16 @@ fn command_line_most(matches: &ArgMatches<'_>) -> u32
     match command_line_number(matches, "most") {
         Some(most) if most <= MOST_SEED => most as u32,
         _ => DEFAULT_MOST,
+    }
+}
+
+/// The size that an option gives, from 1 to the most.
+fn command_line_size(matches: &ArgMatches<'_>, id: &str, most: u64) -> Option<u64>
+    ensures { IsSizeByOptionRule most (one_of id.now (rows_of (found_of matches.now))) result }
+{
+    match command_line_number(matches, id) {
+        Some(size) if 1 <= size && size <= most => Some(size),
+        _ => None,
     }
 }
 
@@ -437,6 +447,38 @@ fn command_line_trace_options(
     })
 }
 
+/// The options that the matches of `draw` give.
+fn command_line_draw_options(
+    alloc: Global,
+    matches: &ArgMatches<'_>,
+) -> Result<DrawOptions, AllocError>
+    ensures { IfOk result (AreOptionsByRulesOfDraw (rows_of (found_of matches.now))) }
+{
+    let pattern = command_line_text(alloc, matches, "PATTERN")?;
+    Ok(DrawOptions {
+        pattern,
+        seed: command_line_seed(matches),
+        processors: command_line_size(matches, "processors", 16),
+        pages: command_line_size(matches, "pages", 64),
+        words: command_line_size(matches, "words", 64),
+        locks: command_line_size(matches, "locks", 32),
+        flags: command_line_size(matches, "flags", 32),
+        length: command_line_size(matches, "length", 400),
+    })
+}
+
+/// The options that the matches of `follows` give.
+fn command_line_follow_options(
+    alloc: Global,
+    matches: &ArgMatches<'_>,
+) -> Result<FollowOptions, AllocError>
+    ensures { IfOk result (AreOptionsByRulesOfFollow (rows_of (found_of matches.now))) }
+{
+    let script = command_line_text(alloc, matches, "FILE")?;
+    let trace = command_line_text(alloc, matches, "TRACE")?;
+    Ok(FollowOptions { script, trace })
+}
+
 /// What the matches of `explain` ask for, of which this is shown.
 fn command_line_explanation(
     alloc: Global,
@@ -464,6 +506,8 @@ fn command_line_asks(
 ) -> Result<Asked, AllocError>
     requires showing { AreOptionsByRulesOfShowing (rows_of (found_of matches.now)) showing }
     requires until { AreUntilWordsByOptionRule (first_of (codes "until") (rows_of (found_of matches.now))) until.items }
+    requires draws { bytes_eq name.now (codes "draw") ≡ false }
+    requires follows { bytes_eq name.now (codes "follows") ≡ false }
     ensures { IfOk result (AreOptionsAskedByRules name.now (rows_of (found_of matches.now))) }
 {
     if name == "explain" {
@@ -515,6 +559,26 @@ fn command_line_answer(alloc: Global, name: &str, matches: &ArgMatches<'_>) -> R
     if let Some(clash) = option_clash_of(name, matches) {
         return Err(misuse_by_exclusion(alloc, name, clash)?);
     }
+    if name == "draw" {
+        return Ok(Asked::Draw(command_line_draw_options(alloc, matches)?));
+    }
+    if name == "follows" {
+        return Ok(Asked::Follow(command_line_follow_options(alloc, matches)?));
+    }
+    command_line_study_answer(alloc, name, matches)
+}
+
+/// The same of a command that studies or runs a script or a trace.
+fn command_line_study_answer(
+    alloc: Global,
+    name: &str,
+    matches: &ArgMatches<'_>,
+) -> Result<Asked, Error>
+    requires draws { bytes_eq name.now (codes "draw") ≡ false }
+    requires follows { bytes_eq name.now (codes "follows") ≡ false }
+    ensures asked { IfOk result (AreOptionsAskedByRules name.now (rows_of (found_of matches.now))) }
+    ensures unanswered { IfErr result (IsShowingUnreadByOptionRules (rows_of (found_of matches.now))) }
+{
     let showing = command_line_show_options(alloc, name, matches)?;
     let Some(until) = command_line_until(alloc, matches)? else {
         let want = "words at addresses, each address once, as 0=1 or 0=1,4=2";
@@ -528,8 +592,10 @@ fn command_line_answer(alloc: Global, name: &str, matches: &ArgMatches<'_>) -> R
 /// `lrc explain [FILE] [--seed N | --schedule S] [--lock KIND] [--svg | --html] [--state] [--events A..B] [--processors P,..]`,
 /// `lrc explain [FILE] --trace [--model NAME] [--strict] [--lax] [--unfinished]` with the same to say what is shown,
 /// `lrc sample [FILE] [--seeds N] [--lock KIND] [--outcomes WHAT] [--json]`,
-/// `lrc explore [FILE] [--most N] [--until A=V,..] [--outcomes WHAT] [--json]` or
-/// `lrc check [FILE] [--model NAME] [--strict] [--lax] [--unfinished] [--race-is-error] [--locksets WHICH] [--json]`.
+/// `lrc explore [FILE] [--most N] [--until A=V,..] [--outcomes WHAT] [--json]`,
+/// `lrc check [FILE] [--model NAME] [--strict] [--lax] [--unfinished] [--race-is-error] [--locksets WHICH] [--json]`,
+/// `lrc draw [PATTERN] [--seed N] [--processors N] [--pages N] [--words N] [--locks N] [--flags N] [--length N]` or
+/// `lrc follows [FILE] [TRACE]`.
 ///
 /// # Errors
 ///
@@ -546,6 +612,7 @@ pub fn options<'a>(alloc: Global, words: &'a [String]) -> Result<Asked, Error>
         MODELS.as_slice(),
         LOCKSET_WORDS.as_slice(),
         DETAILS.as_slice(),
+        PATTERNS.as_slice(),
     )?
     .try_get_matches_from(words)
     {

@@ -225,3 +225,52 @@ pub(crate) const JSON: &str = "prints JSON in place of text: an object a line";
 pub(crate) const SCRIPT_FILE: &str = "the script; standard input where it isn't given";
 
 pub(crate) const TRACE_FILE: &str = "the trace; standard input where it isn't given";
+
+/// What a drawn script is made of.
+pub(crate) const PATTERN: &str = "what the script is made of";
+
+/// What `--seed` of `draw` does.
+pub(crate) const DRAWN_SEED: &str = "draws another script, in place of that of 0; up to 4294967295";
+
+/// Sizes of a drawn script.
+pub(crate) const DRAWN_PROCESSORS: &str =
+    "how many processors it has, 1 to 16, in place of a drawn number";
+
+pub(crate) const DRAWN_PAGES: &str = "how many pages, 1 to 64";
+
+pub(crate) const DRAWN_WORDS: &str = "how many words a page has, 1 to 64";
+
+pub(crate) const DRAWN_LOCKS: &str = "how many locks, 1 to 32";
+
+pub(crate) const DRAWN_FLAGS: &str = "how many flags, 1 to 32, if the pattern has flags";
+
+pub(crate) const DRAWN_LENGTH: &str =
+    "how many pieces each phase of a section has, an access or a critical section each; 1 to 400";
+
+/// What is printed of a drawn script.
+pub(crate) const DRAW: &str = "Patterns, of which no script hangs:
+  guarded                additions, each under the lock of its address; never races
+  free                   loads, stores and additions, some under a lock; may race
+  chains                 words that a chain of flags hands on; never races
+  sharing                words of one processor beside words under locks, on the same pages; never races
+  barriers               phases, in each of which a word has another owner; never races
+  nested                 locks within locks, in rising order; never races
+  flags                  flags that several processors set, and loads after them; may race
+  silences               a processor that hears of nothing until the end; never races
+  mixed                  most of these side by side; may race
+
+What is printed is a script, as `lrc run --help` tells it. The same words give the same script everywhere.
+
+Statuses: 0 done; 4 out of memory, or a failed write; 5 usage, or no such script was drawn.";
+
+/// What is printed of a trace and its script.
+pub(crate) const FOLLOWS: &str =
+    "The script is as `lrc run --help` tells it, and a trace as `lrc check --help` does; both can't be standard input.
+What is printed:
+  follows                each processor's events, fetches aside, are what its section says, then a last barrier,
+                         and of processor 0 the loads of the shown words
+  strays I               what stands before event I does so, and with event I it doesn't; then the event's line
+  unfinished P           all events do so, and processor P hasn't come to its end
+
+Statuses: 0 it follows; 2 the script or the trace is refused; 4 out of memory, or a failed write; 5 usage, or
+a file can't be read; 6 it doesn't follow.";

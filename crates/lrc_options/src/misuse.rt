@@ -7,7 +7,7 @@ use clap::{ArgMatches, Command, Error};
 use std::alloc::{AllocError, Global};
 
 /// Each command with each option that it has. Of the commands that have an option the first one is named.
-const OPTIONS: [(&str, &str); 35] = [
+const OPTIONS: [(&str, &str); 42] = [
     ("run", "--tries"),
     ("run", "--lock"),
     ("run", "--journal"),
@@ -43,6 +43,13 @@ const OPTIONS: [(&str, &str); 35] = [
     ("check", "--unfinished"),
     ("explain", "--unfinished"),
     ("sample", "--outcomes"),
+    ("draw", "--seed"),
+    ("draw", "--processors"),
+    ("draw", "--pages"),
+    ("draw", "--words"),
+    ("draw", "--locks"),
+    ("draw", "--flags"),
+    ("draw", "--length"),
 ];
 
 /// A command that was given an option that it lacks, and a command that has it.

@@ -20,6 +20,40 @@ pub enum Asked {
     Explore(ExploreOptions),
     /// A trace is to be judged, by `check`.
     Trace(TraceOptions),
+    /// A script is to be drawn, by `draw`.
+    Draw(DrawOptions),
+    /// Whether a trace follows its script is to be told, by `follows`.
+    Follow(FollowOptions),
+}
+
+/// Which script is to be drawn. A size that isn't given is drawn, too.
+#[derive(Drop)]
+pub struct DrawOptions {
+    /// The name of the pattern, one of those that `--help` lists.
+    pub pattern: Option<String>,
+    /// What the script is drawn from; 0 if None.
+    pub seed: Option<u64>,
+    /// How many processors it has, 1 to 16.
+    pub processors: Option<u64>,
+    /// How many pages, 1 to 64.
+    pub pages: Option<u64>,
+    /// How many words a page has, 1 to 64.
+    pub words: Option<u64>,
+    /// How many locks, 1 to 32.
+    pub locks: Option<u64>,
+    /// How many flags, 1 to 32, if the pattern has flags.
+    pub flags: Option<u64>,
+    /// How many pieces a phase of a section has, 1 to 400.
+    pub length: Option<u64>,
+}
+
+/// Which trace is to follow which script.
+#[derive(Drop)]
+pub struct FollowOptions {
+    /// The file to read the script from, or None for standard input.
+    pub script: Option<String>,
+    /// The file to read the trace from, or None for standard input.
+    pub trace: Option<String>,
 }
 
 /// What of a history is shown, and how.

@@ -1,7 +1,6 @@
 //! Scripts that are drawn; and tests of what no run of a built program shows, each by a caller who knows nothing but contracts.
 #![tactic(auto)]
 
-pub mod drawing;
 #[cfg(test)]
 mod intervals;
 #[cfg(test)]

@@ -1,6 +1,6 @@
 //! Scripts that are printed: drawn ones, and the greatest. What is read of scripts is in `tests/texts` and `tests/sweeping`.
 
-use crate::drawing::draw::{free, guarded};
+use lrc_tester::drawing::draw::{free, guarded};
 use lrc_script::script::{Instruction, MOST_BYTES, Script, parse};
 use std::alloc::{AllocError, Global};
 use std::process::Abort;

@@ -10,7 +10,9 @@ returns-clause-command c =
     let explain = c.with_clap_subcommand-lrc-3.ensures _ _ step c.clap_explain_command.ensures in
     let sample = c.with_clap_subcommand-lrc-4.ensures _ _ explain c.clap_sample_command.ensures in
     let explore = c.with_clap_subcommand-lrc-5.ensures _ _ sample c.clap_explore_command.ensures in
-    c.with_clap_subcommand.ensures _ _ explore c.clap_check_command.ensures
+    let check = c.with_clap_subcommand-lrc-6.ensures _ _ explore c.clap_check_command.ensures in
+    let draw = c.with_clap_subcommand-lrc-7.ensures _ _ check c.clap_draw_command.ensures in
+    c.with_clap_subcommand.ensures _ _ draw c.clap_follows_command.ensures
 
 pub returns-clause-wants : goal.returns-clause-wants
 returns-clause-wants c =

@@ -11,12 +11,12 @@ pub returns-in-Some-clause-given : goal.returns-in-Some-clause-given
 returns-in-Some-clause-given c =
     let app = c.in_ok-clap_lrc_command.ensures.command.shape in
     let words = map (λ w. string_bytes w) c.args.words.now in
-    let are : AreOptionParsers (option_parsers (vp.Names c.as_slice.result) (vp.Names c.as_slice-2.result) (vp.Names c.as_slice-3.result) (vp.Names c.as_slice-4.result)) =
-    record { locks = search rules; models = search rules; words = search rules; details = search rules } in
-    let entered : subcommand_rows_of c.in-Ok.matches ≡ subcommand_of (lrc_option_rules (option_parsers (vp.Names c.as_slice.result) (vp.Names c.as_slice-2.result) (vp.Names c.as_slice-3.result) (vp.Names c.as_slice-4.result))) words =
+    let are : AreOptionParsers (option_parsers (vp.Names c.as_slice.result) (vp.Names c.as_slice-2.result) (vp.Names c.as_slice-3.result) (vp.Names c.as_slice-4.result) (vp.Names c.as_slice-5.result)) =
+    record { locks = search rules; models = search rules; words = search rules; details = search rules; patterns = search rules } in
+    let entered : subcommand_rows_of c.in-Ok.matches ≡ subcommand_of (lrc_option_rules (option_parsers (vp.Names c.as_slice.result) (vp.Names c.as_slice-2.result) (vp.Names c.as_slice-3.result) (vp.Names c.as_slice-4.result) (vp.Names c.as_slice-5.result))) words =
     (c.in-Ok.ensures.matches (ap is_simple app)).1 ∙ ap (λ (a : App). subcommand_of a words) app in
     let faults = matched_option_no_fault _ _ _ c.in-Ok.is (c.try_get_matches_from.ensures.kinds (ap is_simple_and_free app)) in
-    matched_options_given_by (option_parsers (vp.Names c.as_slice.result) (vp.Names c.as_slice-2.result) (vp.Names c.as_slice-3.result) (vp.Names c.as_slice-4.result)) words c.in-Some.name.now (rows_of (found_of c.in-Some.given.now)) c.command_line_answer.result
+    matched_options_given_by (option_parsers (vp.Names c.as_slice.result) (vp.Names c.as_slice-2.result) (vp.Names c.as_slice-3.result) (vp.Names c.as_slice-4.result) (vp.Names c.as_slice-5.result)) words c.in-Some.name.now (rows_of (found_of c.in-Some.given.now)) c.command_line_answer.result
     are (sym (ap (λ (a : App). fault_of a words) app) ∙ faults)
     (sym entered ∙ matched_option_named_rows _ _ _ _ _ c.in-Some.ensures.name c.in-Some.ensures.rows) c.command_line_answer.ensures.apart
     c.command_line_answer.ensures.asked
@@ -25,19 +25,19 @@ pub returns-in-Some-clause-refused : goal.returns-in-Some-clause-refused
 returns-in-Some-clause-refused c =
     let app = c.in_ok-clap_lrc_command.ensures.command.shape in
     let words = map (λ w. string_bytes w) c.args.words.now in
-    let are : AreOptionParsers (option_parsers (vp.Names c.as_slice.result) (vp.Names c.as_slice-2.result) (vp.Names c.as_slice-3.result) (vp.Names c.as_slice-4.result)) =
-    record { locks = search rules; models = search rules; words = search rules; details = search rules } in
-    let entered : subcommand_rows_of c.in-Ok.matches ≡ subcommand_of (lrc_option_rules (option_parsers (vp.Names c.as_slice.result) (vp.Names c.as_slice-2.result) (vp.Names c.as_slice-3.result) (vp.Names c.as_slice-4.result))) words =
+    let are : AreOptionParsers (option_parsers (vp.Names c.as_slice.result) (vp.Names c.as_slice-2.result) (vp.Names c.as_slice-3.result) (vp.Names c.as_slice-4.result) (vp.Names c.as_slice-5.result)) =
+    record { locks = search rules; models = search rules; words = search rules; details = search rules; patterns = search rules } in
+    let entered : subcommand_rows_of c.in-Ok.matches ≡ subcommand_of (lrc_option_rules (option_parsers (vp.Names c.as_slice.result) (vp.Names c.as_slice-2.result) (vp.Names c.as_slice-3.result) (vp.Names c.as_slice-4.result) (vp.Names c.as_slice-5.result))) words =
     (c.in-Ok.ensures.matches (ap is_simple app)).1 ∙ ap (λ (a : App). subcommand_of a words) app in
     let command = sym entered ∙ matched_option_named_rows _ _ _ _ _ c.in-Some.ensures.name c.in-Some.ensures.rows in
-    matched_option_if_err_map c.command_line_answer.result (λ e unanswered. matched_options_refused_by (option_parsers (vp.Names c.as_slice.result) (vp.Names c.as_slice-2.result) (vp.Names c.as_slice-3.result) (vp.Names c.as_slice-4.result)) words c.in-Some.name.now
+    matched_option_if_err_map c.command_line_answer.result (λ e unanswered. matched_options_refused_by (option_parsers (vp.Names c.as_slice.result) (vp.Names c.as_slice-2.result) (vp.Names c.as_slice-3.result) (vp.Names c.as_slice-4.result) (vp.Names c.as_slice-5.result)) words c.in-Some.name.now
     (rows_of (found_of c.in-Some.given.now)) e are command unanswered) c.command_line_answer.ensures.unanswered
 
 pub returns-in_err-clap_lrc_command-clause-refused : goal.returns-in_err-clap_lrc_command-clause-refused
 returns-in_err-clap_lrc_command-clause-refused c =
     let answer = err_from_is_err_and c.from_residual.result c.from_residual.ensures.1 in
-    rw answer.1 (matched_options_out_of_memory (option_parsers (vp.Names c.as_slice.result) (vp.Names c.as_slice-2.result) (vp.Names c.as_slice-3.result) (vp.Names c.as_slice-4.result)) _ _
-    (record { locks = search rules; models = search rules; words = search rules; details = search rules }) answer.2)
+    rw answer.1 (matched_options_out_of_memory (option_parsers (vp.Names c.as_slice.result) (vp.Names c.as_slice-2.result) (vp.Names c.as_slice-3.result) (vp.Names c.as_slice-4.result) (vp.Names c.as_slice-5.result)) _ _
+    (record { locks = search rules; models = search rules; words = search rules; details = search rules; patterns = search rules }) answer.2)
 
 pub returns-in_ok-with_misuse_tip-in-Err-clause-refused : goal.returns-in_ok-with_misuse_tip-in-Err-clause-refused
 returns-in_ok-with_misuse_tip-in-Err-clause-refused c =
@@ -46,8 +46,8 @@ returns-in_ok-with_misuse_tip-in-Err-clause-refused c =
     let fault = c.in-Err.fault in
     let fails = matched_option_is_fault _ _ fault c.in-Err.is (c.try_get_matches_from.ensures.kinds (ap is_simple_and_free app)) in
     record {
-      parsers = option_parsers (vp.Names c.as_slice.result) (vp.Names c.as_slice-2.result) (vp.Names c.as_slice-3.result) (vp.Names c.as_slice-4.result);
-      parsers_are = record { locks = search rules; models = search rules; words = search rules; details = search rules };
+      parsers = option_parsers (vp.Names c.as_slice.result) (vp.Names c.as_slice-2.result) (vp.Names c.as_slice-3.result) (vp.Names c.as_slice-4.result) (vp.Names c.as_slice-5.result);
+      parsers_are = record { locks = search rules; models = search rules; words = search rules; details = search rules; patterns = search rules };
       kind = inl (matched_option_fault_same_kind _ fault c.in_ok-with_misuse_tip-in-Err.field-0 c.in_ok-with_misuse_tip-in-Err.ensures
           (subst (λ (a : App). HasKind (fault_of a words) fault) app fails));
     }
@@ -57,5 +57,5 @@ returns-in_err-with_misuse_tip-in-Err-clause-refused c =
     let answer =
     err_from_is_err_and c.from_residual-in_err-with_misuse_tip-in-Err.result
     c.from_residual-in_err-with_misuse_tip-in-Err.ensures.1 in
-    rw answer.1 (matched_options_out_of_memory (option_parsers (vp.Names c.as_slice.result) (vp.Names c.as_slice-2.result) (vp.Names c.as_slice-3.result) (vp.Names c.as_slice-4.result)) _ _
-    (record { locks = search rules; models = search rules; words = search rules; details = search rules }) answer.2)
+    rw answer.1 (matched_options_out_of_memory (option_parsers (vp.Names c.as_slice.result) (vp.Names c.as_slice-2.result) (vp.Names c.as_slice-3.result) (vp.Names c.as_slice-4.result) (vp.Names c.as_slice-5.result)) _ _
+    (record { locks = search rules; models = search rules; words = search rules; details = search rules; patterns = search rules }) answer.2)

@@ -1,0 +1,2 @@
+pub mod EventsNoted
+pub mod Promised

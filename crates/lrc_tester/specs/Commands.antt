@@ -1,0 +1,62 @@
+-- What the commands `draw` and `follows` have done.
+use Rattle.std.specs.Prelude.{ℕ, ◌≡◌, Bool, true, false, IsTrue, List, Option, codes, cond, option_map, string_bytes}
+use Rattle.std.specs.Option.{option_map_or}
+use Rattle.std.specs.Str.{bytes_eq}
+use Rattle.std.specs.Io.KnownBytes.{Appends}
+use Rattle.journal.specs.declared.event.Event.{Event}
+use Rattle.journal.specs.Sizes.{Sizes}
+use Rattle.lrc_script.specs.Prelude.{IsLawful, text}
+use Rattle.lrc_script.specs.Plan.{Plan}
+use Rattle.conformance.specs.FlatRuns.{NeverRacesFlat}
+use Rattle.conformance.specs.Follows.{Follows, plan_sizes}
+use Rattle.lrc_options.specs.declared.options.DrawOptions.{DrawOptions}
+use Rattle.lrc_program.specs.Prelude.{IsServedScriptRead}
+use Rattle.lrc_commands.specs.Prelude.{HasTraceCommandText}
+use Rattle.lrc_tester.specs.Patterns.{NeverHangsFlat, never_races_by_pattern}
+use Rattle.lrc_tester.specs.declared.pattern.Pattern.{Pattern}
+use Rattle.lrc_tester.specs.declared.pattern.Pattern.TheVariants as pattern
+
+-- the pattern of this name
+abbrev pub pattern_of_name : List ℕ → Pattern
+pattern_of_name name = cond (bytes_eq name (codes "guarded")) pattern.Guarded
+    (cond (bytes_eq name (codes "free")) pattern.Free
+    (cond (bytes_eq name (codes "chains")) pattern.Chains
+    (cond (bytes_eq name (codes "sharing")) pattern.Sharing
+    (cond (bytes_eq name (codes "barriers")) pattern.Barriers
+    (cond (bytes_eq name (codes "nested")) pattern.Nested
+    (cond (bytes_eq name (codes "flags")) pattern.Flags
+    (cond (bytes_eq name (codes "silences")) pattern.Silences pattern.Mixed)))))))
+
+-- the pattern that the options give
+abbrev pub drawn_pattern : DrawOptions → Pattern
+drawn_pattern o = option_map_or (λ name. pattern_of_name (string_bytes name)) o.pattern pattern.Mixed
+
+-- a lawful script was written which never hangs, and never races if its pattern promises so
+pub record IsScriptDrawn (o : DrawOptions) (old new : Option (List ℕ)) : Type 0 where
+  pub script : Plan
+  pub lawful : IsLawful script
+  pub race_free : IsTrue (never_races_by_pattern (drawn_pattern o)) → NeverRacesFlat script
+  pub never_hangs : NeverHangsFlat script
+  pub written : Appends old new (text script)
+
+-- the sources have this script, and a trace of these sizes and events
+pub record AreScriptAndTrace (script trace : Option (List ℕ)) (s : Plan) (sizes : Sizes) (events : List Event) : Type 0 where
+  pub read : IsServedScriptRead script s
+  pub told : HasTraceCommandText false trace sizes events
+
+-- the trace has the script's sizes, and follows it
+pub record IsFollowingTrace (s : Plan) (sizes : Sizes) (events : List Event) : Type 0 where
+  pub sizes_are : plan_sizes s ≡ sizes
+  pub follows : Follows s events
+
+-- the sources have a script and a trace; it follows the script, or it doesn't
+abbrev pub IsFollowsAnswer : Bool → Plan → Sizes → List Event → Type 0
+IsFollowsAnswer true s sizes events = IsFollowingTrace s sizes events
+IsFollowsAnswer false s sizes events = ¬ IsFollowingTrace s sizes events
+
+pub record IsFollowsCommandDone (follows : Bool) (script trace : Option (List ℕ)) : Type 0 where
+  pub plan : Plan
+  pub sizes : Sizes
+  pub events : List Event
+  pub are : AreScriptAndTrace script trace plan sizes events
+  pub answer : IsFollowsAnswer follows plan sizes events

@@ -1,0 +1,4 @@
+pub mod Drawing
+pub mod Patterns
+pub mod Following
+pub mod Commands

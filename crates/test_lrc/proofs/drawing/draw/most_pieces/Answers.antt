@@ -1,5 +1,0 @@
-use Rattle.std.proofs.Common.{rules}
-use Rattle.test_lrc.proofs.drawing.draw.most_pieces.Goals as goal
-
-pub returns-in-Guarded : goal.returns-in-Guarded
-returns-in-Guarded c = search rules

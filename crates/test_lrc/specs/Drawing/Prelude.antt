@@ -1,3 +1,0 @@
--- The words that contracts name, passed on from one place. Declares nothing.
-pub use Rattle.test_lrc.specs.Drawing.Draw.{IsShape, access, below, drawn, drawn_sections, group, item, more_phases}
-pub use Rattle.test_lrc.specs.Drawing.Draw.{most_pieces, phase, piece, pieces, section, seeded, shape}
