@@ -19,8 +19,8 @@ use Rattle.cluster.specs.ProcessorRefusals.{processor_refusal_of_ask}
 use Rattle.seats.specs.Deeds.{is_deed}
 use Rattle.seats.specs.SeatCalls.{SeatCallAccessesBy, AccessesPage, SeatCallsInside, HasDone, IsLeftUndone, IsSeatedAfterCall}
 use Rattle.seats.specs.Sitting.{SittingSeat, new_sitting_processor, seat_deeds}
-use Rattle.seats.specs.declared.word_access.WordAccess.{WordAccess}
-use Rattle.seats.specs.declared.word_access.WordAccess.TheVariants as access
+use Rattle.cluster.specs.declared.cluster.accessing.WordAccess.{WordAccess}
+use Rattle.cluster.specs.declared.cluster.accessing.WordAccess.TheVariants as access
 use Rattle.seats.specs.declared.fault.SeatFault.{SeatFault}
 use Rattle.seats.specs.declared.fault.SeatFault.TheVariants as fault
 use Rattle.seats.specs.PhaseGuards.{PhaseGuards, KeepsToPhaseGuards, phase_guard_held_then, phase_guard_holds_after, phase_guards_allow, guard_phase_after}
