@@ -1,14 +1,14 @@
 -- The words that contracts name, passed on from one place. Declares nothing.
 pub use Rattle.seats.specs.Acting.{HasActed, HasActedInPart, HasSummed, loads_at, acting_loads_from}
 pub use Rattle.seats.specs.BalanceFacts.{BalanceFactLaw, HasFoundKept, HasWeighed, KeepsBalanceFact, balance_fact_adds_two, balance_fact}
-pub use Rattle.seats.specs.GuardedRuns.{IsGuardedRun}
+pub use Rattle.seats.specs.GuardedRuns.{IsGuardedRun, IsGuardedRunFault}
 pub use Rattle.seats.specs.KeptLayout.{kept_layout_lets_access}
 pub use Rattle.seats.specs.PhaseGuards.{phase_guards_allow_access}
 pub use Rattle.seats.specs.GuardLaws.{SeatGuardLaw, SeatTableGuardLaw}
 pub use Rattle.seats.specs.Tables.{IsFirstOpenInTables, IsPutInTable, TablesOpenNothing, table_guard, table_guard_put, table_range_has, table_next}
 pub use Rattle.cluster.specs.Covers.{IsCoverAllowed}
 pub use Rattle.seats.specs.ProgramRuns.{AreSeatedForProgramRun, HasRoomForProgramRun, HaveAllJoinedProgramRun, HaveAllWorkedInProgramRun, IsNobodyInProgramRun, IsProgramRun}
-pub use Rattle.seats.specs.ProgramRuns.{IsProgramRunWork, program_run_seat}
+pub use Rattle.seats.specs.ProgramRuns.{AreProgramRunEnds, HaveEndedInProgramRun, IsProgramRunFault, IsProgramRunWork, program_run_seat}
 pub use Rattle.seats.specs.ToldFaults.{IsToldFault, NoneFaulted, is_vain_wait, told_fault_then}
 pub use Rattle.seats.specs.Sitting.{HasWorkedSitting, IsSitting, new_sitting_processor, seat_deeds}
 pub use Rattle.seats.specs.SeatCalls.{SeatCallAccessesBy, AccessesPage, HasDone, IsSeatCallTaken, IsLeftUndone, IsSeatCallUndone}
