@@ -23,7 +23,7 @@ pub mod Persistence
 pub mod SearchedStates
 pub mod ShownRuns
 pub mod GivenUpRuns
-pub mod UntilSearched
+pub mod SearchGoals
 pub mod locksets
 pub mod text_walks
 pub mod ranked_locks

@@ -38,6 +38,7 @@ mod flat_state;
 mod found_states;
 mod free_choice;
 mod free_run;
+mod goal;
 mod guarded;
 mod kept_state;
 mod lock_ranks;

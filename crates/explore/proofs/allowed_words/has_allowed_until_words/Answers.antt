@@ -5,9 +5,9 @@ use Rattle.journal.specs.declared.event.Kind.{Kind}
 use Rattle.conformance.specs.Follows.{calls_of}
 use Rattle.lrc_script.specs.Plan.{plan_of}
 use Rattle.explore.specs.AllowedBeginnings.{allowed_beginning_events}
-use Rattle.explore.specs.AllowedUntilSearch.{AreAllowedUntilLoads}
+use Rattle.explore.specs.AllowedSearchEnds.{AreAllowedUntilLoads}
 use Rattle.explore.proofs.allowed_runs.AllowedUntil.{allowed_until_told}
-use Rattle.explore.proofs.allowed_until_search.has_allowed_until_words.Goals as goal
+use Rattle.explore.proofs.allowed_words.has_allowed_until_words.Goals as goal
 
 pub returns-then-not-is_whole : goal.returns-then-not-is_whole
 returns-then-not-is_whole c = (

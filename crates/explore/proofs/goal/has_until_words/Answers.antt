@@ -1,6 +1,6 @@
 use Rattle.std.proofs.Common.{sym, subst}
 use Rattle.explore.specs.EndingWords.{HasEndingWords}
-use Rattle.explore.proofs.until.has_until_words.Goals as goal
+use Rattle.explore.proofs.goal.has_until_words.Goals as goal
 
 pub returns-then-is_whole : goal.returns-then-is_whole
 returns-then-is_whole c = λ s g lawful knows.
