@@ -34,3 +34,6 @@ pub mod KeptStates
 pub mod TrimmedWords
 pub mod StateOrigins
 pub mod CountedStates
+pub mod CutScripts
+pub mod MemoryOutcomes
+pub mod ReportedWords

@@ -38,3 +38,4 @@ pub mod SearchGoals
 pub mod Prelude
 pub mod Prefixes
 pub mod WholeRuns
+pub mod MemoryShown

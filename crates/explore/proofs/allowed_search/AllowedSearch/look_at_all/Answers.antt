@@ -74,7 +74,7 @@ returns-in-None-clause-looked g c =
 pub returns-in-None-clause-searched : goal.returns-in-None-clause-searched
 returns-in-None-clause-searched g c =
     let x = c.loop-looked.self in
-    let same = sym (c.in-None.ensures.items ∙ append-nil c.pop.new.self.items) in
+    let same : c.pop.new.self.items ≡ x.pending.items = sym (c.in-None.ensures.items ∙ append-nil c.pop.new.self.items) in
     let zero_long : vec_len x.pending ≡ 0 = c.in-None.ensures.cases.0 in (
       rules_search_same (plan_of c.args.script.now) c.args.detail c.loop-looked.looked x _ same refl c.loop-looked.invariant.searched,
       same ∙ none_left x.pending.items (omega (arith, zero_long)),
