@@ -23,7 +23,7 @@ pub mod Persistence
 pub mod SearchedStates
 pub mod ShownRuns
 pub mod GivenUpRuns
-pub mod UntilSearched
+pub mod SearchGoals
 pub mod locksets
 pub mod text_walks
 pub mod ranked_locks
@@ -34,3 +34,6 @@ pub mod KeptStates
 pub mod TrimmedWords
 pub mod StateOrigins
 pub mod CountedStates
+pub mod CutScripts
+pub mod MemoryOutcomes
+pub mod ReportedWords

@@ -21,7 +21,7 @@ use Rattle.explore.specs.Prefixes.PrefixLaws.{PrefixHasNoNeighbours}
 use Rattle.explore.proofs.prefixes.Beginnings.{prefix_beginning_next, prefix_beginning_whole_done}
 use Rattle.explore.specs.declared.flat_state.FlatState.{FlatState}
 use Rattle.explore.specs.declared.found_states.FoundStates.{FoundStates}
-use Rattle.explore.specs.declared.neighbours.Neighbours.{Neighbours}
+use Rattle.explore.specs.declared.search.Met.{Met}
 use Rattle.explore.specs.declared.search.Search.{Search}
 use Rattle.explore.specs.declared.explored.Hanging.{Hanging}
 use Rattle.explore.specs.declared.explored.ScriptOutcome.{ScriptOutcome}
@@ -537,7 +537,7 @@ searched_states_some_outcomes s d x steps n tells searched = record {
 }
 
 -- what is open is so where no two events conflict and not all states were looked at
-pub searched_states_open_only : (o : Option Neighbours) (race_free through : Bool) (v : Verdict) (h : Hanging) → IsFlatSearchVerdictOpen o race_free v
+pub searched_states_open_only : (o : Option Met) (race_free through : Bool) (v : Verdict) (h : Hanging) → IsFlatSearchVerdictOpen o race_free v
     → IsFlatSearchHangingOpen through h → (race_free ≡ false → through ≡ false) → explored_settles v h through ≡ false
     → (o ≡ None) × (through ≡ false)
 searched_states_open_only o race_free through verdict.RaceFree hanging.Never none opens both is = (none, is)

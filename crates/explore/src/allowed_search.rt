@@ -1,12 +1,14 @@
 //! The search by the rules of the memory alone: beginnings of runs are looked at, the longest first.
-ghost use Rattle.std.specs.Prelude.{◌≡◌, ◌⊎◌, [], IfOk, OnOk, map};
+ghost use Rattle.std.specs.Prelude.{◌≡◌, ◌↔◌, ◌+◌, [], false, IfOk, IsTrue, OnOk, map};
 ghost use Rattle.base.specs.InOrderOnce.{Has};
 ghost use Rattle.lrc_script.specs.Prelude.{IsLawful, Plan, plan_of};
-ghost use Rattle.explore.specs.AllowedRuns.{AreAllowedRunOutcomes, IsAllowedRunShowing, shown_run_outcome};
+ghost use Rattle.explore.specs.AllowedRuns.{AreAllowedRunOutcomes, HasAllowedRunBeginnings, IsAllowedRunShowing, shown_run_outcome};
 ghost use Rattle.explore.specs.declared.showing.ShownRun.{ShownRun as AShownRun};
 ghost use Rattle.explore.specs.Explored.{explored_outcome};
 ghost use Rattle.explore.specs.AllowedBeginnings.{TellsAllowedBeginning, allowed_beginning_events};
 ghost use Rattle.explore.specs.AllowedSearch.{AreAllowedSearchRuns, IsAllowedSearchFollowed, IsAllowedSearchStep, IsAllowedSearched, allowed_search_found};
+ghost use Rattle.explore.specs.AllowedSearchEnds.{IsAllowedLooked, IsAllowedRunOfGoal, IsAllowedSearchedTo, IsAllowedSearchedWithout};
+ghost use Rattle.explore.specs.declared.allowed_search.AllowedEnd.TheVariants.{Through};
 ghost use Rattle.explore.specs.NotedOutcomes.{IsNotedOutcome, noted_outcomes};
 ghost use Rattle.explore.specs.Machines.{AreLawfulMachineSteps};
 ghost use Rattle.explore.specs.declared.outcome_telling.Detail.{Detail as ADetail};
@@ -16,7 +18,9 @@ use crate::allowed_answers::allowed_answer_sources;
 use crate::allowed_beginning::AllowedBeginning;
 use crate::allowed_choice::allowed_choice;
 use crate::allowed_room::allowed_room_at_most;
+use crate::allowed_words::is_allowed_goal_met;
 use crate::explored::ScriptOutcome;
+use crate::goal::Goal;
 use crate::outcome_telling::{Detail, OutcomeTelling};
 use crate::prefixes::{ScriptCall, script_calls_of_all};
 use crate::progress::Progress;
@@ -30,9 +34,38 @@ use std::alloc::{AllocError, Global};
 #[derive(Drop)]
 pub struct AllowedSearch {
     /// The beginnings that are still to be looked at, the next one last.
-    pub pending: Vec<AllowedBeginning>,
+    pending: Vec<AllowedBeginning>,
     /// What the whole runs show that were met, each outcome with the events of a run that shows it.
     outcomes: IndexMap<ScriptOutcome, Vec<Event>>,
+}
+
+/// What ended a search.
+#[derive(Drop)]
+pub enum AllowedEnd {
+    /// This is a run that was looked for.
+    Ending(AllowedBeginning),
+    /// All beginnings were looked at.
+    Through,
+    /// As many were looked at as were asked for, and there are more.
+    GivenUp,
+}
+
+/// How far a search came.
+#[derive(Drop)]
+pub struct AllowedLooked {
+    /// How many beginnings were looked at.
+    pub beginnings: usize,
+    /// What ended it.
+    pub end: AllowedEnd,
+}
+
+impl AllowedEnd {
+    /// Whether all beginnings were looked at.
+    fn is_through(&self) -> bool
+        ensures { IsTrue result ↔ (self.now ≡ Through) }
+    {
+        matches!(self, AllowedEnd::Through)
+    }
 }
 
 /// Adds an outcome with the run that shows it, if it is a new one. The only error is running out of memory.
@@ -101,7 +134,7 @@ impl AllowedSearch {
 
     /// Looks at a beginning: what it shows, told by this detail, is noted if it is whole, else what may come next after it is to be
     /// looked at.
-    pub fn look_at(
+    fn look_at(
         &mut self,
         alloc: Global,
         script: &Script,
@@ -123,8 +156,54 @@ impl AllowedSearch {
         self.follow(alloc, script, steps, beginning)
     }
 
-    /// Looks at so many beginnings, or at all; says at how many.
-    fn look_at_all<P: Progress>(
+    /// Looks at so many beginnings, none of which has been looked at, or until one is a run that is looked for.
+    pub fn look_at_all<P: Progress>(
+        &mut self,
+        alloc: Global,
+        script: &Script,
+        steps: &[Vec<ScriptCall>],
+        detail: Detail,
+        goal: Goal<'_>,
+        most: usize,
+        progress: &mut P,
+    ) -> Result<AllowedLooked, AllocError>
+        requires steps { AreLawfulMachineSteps (plan_of script.now) steps.now }
+        requires searched { IsAllowedSearchedWithout (plan_of script.now) detail goal 0 self.old }
+        ensures looked { IfOk result (IsAllowedLooked (plan_of script.now) (IsAllowedRunOfGoal (plan_of script.now) goal.entry) most) }
+        ensures searched { IfOk result (λ looked. IsAllowedSearchedTo (plan_of script.now) detail self.new looked.beginnings looked.end) }
+    {
+        for looked in 0..most {
+            progress.looked_at(looked);
+            match self.pending.pop() {
+                Some(beginning) => {
+                    if is_allowed_goal_met(alloc, script, steps, &beginning, goal)? {
+                        let beginnings = looked + 1;
+                        let end = AllowedEnd::Ending(beginning);
+                        return Ok(AllowedLooked { beginnings, end });
+                    }
+                    self.look_at(alloc, script, steps, detail, &beginning)?;
+                }
+                None => {
+                    return Ok(AllowedLooked {
+                        beginnings: looked,
+                        end: AllowedEnd::Through,
+                    });
+                }
+            }
+        }
+        let end = if self.pending.is_empty() {
+            AllowedEnd::Through
+        } else {
+            AllowedEnd::GivenUp
+        };
+        Ok(AllowedLooked {
+            beginnings: most,
+            end,
+        })
+    }
+
+    /// Looks at so many beginnings, or at all; says at how many, and whether these are all.
+    fn look_for_all<P: Progress>(
         &mut self,
         alloc: Global,
         script: &Script,
@@ -132,20 +211,15 @@ impl AllowedSearch {
         detail: Detail,
         most: usize,
         progress: &mut P,
-    ) -> Result<usize, AllocError>
+    ) -> Result<(usize, bool), AllocError>
         requires steps { AreLawfulMachineSteps (plan_of script.now) steps.now }
         requires searched { IsAllowedSearched (plan_of script.now) detail 0 self.old }
-        ensures searched { IfOk result (λ n. IsAllowedSearched (plan_of script.now) detail n self.new) }
-        ensures most { IfOk result (λ n. (n ≡ most) ⊎ (self.new.pending.items ≡ [])) }
+        ensures searched { IfOk result (λ looked. IsAllowedSearched (plan_of script.now) detail looked.0 self.new) }
+        ensures all { IfOk result (λ looked. IsTrue looked.1 → self.new.pending.items ≡ []) }
+        ensures given_up { IfOk result (λ looked. looked.1 ≡ false → HasAllowedRunBeginnings (plan_of script.now) (most + 1)) }
     {
-        for looked in 0..most {
-            progress.looked_at(looked);
-            match self.pending.pop() {
-                Some(beginning) => self.look_at(alloc, script, steps, detail, &beginning)?,
-                None => return Ok(looked),
-            }
-        }
-        Ok(most)
+        let looked = self.look_at_all(alloc, script, steps, detail, Goal::All, most, progress)?;
+        Ok((looked.beginnings, looked.end.is_through()))
     }
 }
 
@@ -173,8 +247,7 @@ pub fn allowed_outcomes<P: Progress>(
     let steps = script_calls_of_all(alloc, script)?;
     let most = allowed_room_at_most(script, most);
     let mut search = AllowedSearch::new(alloc)?;
-    let beginnings = search.look_at_all(alloc, script, &steps, detail, most, progress)?;
-    let are_all = search.pending.is_empty();
+    let (beginnings, are_all) = search.look_for_all(alloc, script, &steps, detail, most, progress)?;
     Ok(AllowedOutcomes {
         beginnings,
         outcomes: allowed_outcomes_with_runs(alloc, search.outcomes)?,

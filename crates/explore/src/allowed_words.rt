@@ -1,10 +1,20 @@
-//! Whether the loads at the end of a run answer words that are asked for.
-ghost use Rattle.std.specs.Prelude.{◌≡◌, ◌≢◌, ◌↔◌, ℕ, IsTrue};
+//! Whether a run is one that is looked for: whether the loads at its end answer words that are asked for.
+ghost use Rattle.std.specs.Prelude.{◌≡◌, ◌≢◌, ◌↔◌, ℕ, IfOk, IsTrue};
 ghost use Rattle.base.specs.InOrderOnce.{Has};
 ghost use Rattle.journal.specs.declared.event.Kind.TheVariants.{Load};
-ghost use Rattle.explore.specs.AllowedUntilSearch.{AreAllowedUntilLoads};
+ghost use Rattle.lrc_script.specs.Prelude.{plan_of};
+ghost use Rattle.explore.specs.AllowedBeginnings.{TellsAllowedBeginning, allowed_beginning_events};
+ghost use Rattle.explore.specs.AllowedSearchEnds.{AreAllowedUntilLoads, IsAllowedRunOfGoal};
+ghost use Rattle.explore.specs.AllowedUntil.{IsAllowedUntilRun};
+ghost use Rattle.explore.specs.Machines.{AreLawfulMachineSteps};
 
+use crate::allowed_beginning::AllowedBeginning;
+use crate::allowed_calls::allowed_calls_of;
+use crate::goal::Goal;
+use crate::prefixes::ScriptCall;
 use journal::Kind;
+use lrc_script::script::Script;
+use std::alloc::{AllocError, Global};
 
 /// Whether the call loads this address, and is answered this word.
 fn is_allowed_word_load(call: Kind, address: usize, word: u32) -> bool
@@ -58,7 +68,7 @@ fn is_allowed_word(calls: &[Kind], address: usize, word: u32) -> bool
 }
 
 /// Whether these calls load each of these words at its address, and no other one there.
-pub fn are_allowed_words(calls: &[Kind], words: &[(usize, u32)]) -> bool
+fn are_allowed_words(calls: &[Kind], words: &[(usize, u32)]) -> bool
     ensures { IsTrue result ↔ AreAllowedUntilLoads words.now calls.now }
 {
     for (address, word) in words {
@@ -67,4 +77,42 @@ pub fn are_allowed_words(calls: &[Kind], words: &[(usize, u32)]) -> bool
         }
     }
     true
+}
+
+/// Whether the beginning is a whole run that ends with these words.
+fn has_allowed_until_words(
+    alloc: Global,
+    script: &Script,
+    steps: &[Vec<ScriptCall>],
+    beginning: &AllowedBeginning,
+    words: &[(usize, u32)],
+) -> Result<bool, AllocError>
+    requires steps { AreLawfulMachineSteps (plan_of script.now) steps.now }
+    requires told { TellsAllowedBeginning (plan_of script.now) beginning.now }
+    ensures { IfOk result (λ has. IsTrue has ↔ IsAllowedUntilRun (plan_of script.now) words.now (allowed_beginning_events beginning.now)) }
+{
+    if !beginning.is_whole(steps) {
+        return Ok(false);
+    }
+    let calls = allowed_calls_of(alloc, beginning.events(), 0)?;
+    let first = calls.len().saturating_sub(script.shown.len());
+    Ok(are_allowed_words(&calls[first..], words))
+}
+
+/// Whether the beginning is a run that is looked for. The only error is running out of memory.
+pub fn is_allowed_goal_met(
+    alloc: Global,
+    script: &Script,
+    steps: &[Vec<ScriptCall>],
+    beginning: &AllowedBeginning,
+    goal: Goal<'_>,
+) -> Result<bool, AllocError>
+    requires steps { AreLawfulMachineSteps (plan_of script.now) steps.now }
+    requires told { TellsAllowedBeginning (plan_of script.now) beginning.now }
+    ensures { IfOk result (λ is. IsTrue is ↔ IsAllowedRunOfGoal (plan_of script.now) goal.entry (allowed_beginning_events beginning.now)) }
+{
+    match goal {
+        Goal::All => Ok(false),
+        Goal::Until(words) => has_allowed_until_words(alloc, script, steps, beginning, words),
+    }
 }

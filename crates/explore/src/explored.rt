@@ -72,6 +72,20 @@ pub struct Explored {
     pub are_all: bool,
 }
 
+/// Of an outcome, the replies of the processor's own loads, and the words at so many shown addresses, which processor 0 loads at
+/// the end.
+pub fn explored_outcome_parts(
+    replies: &[Vec<u32>],
+    processor: usize,
+    shown: usize,
+) -> (&[u32], &[u32]) {
+    let last = if processor == 0 { shown } else { 0 };
+    match replies.get(processor) {
+        Some(words) => words.split_at(words.len().saturating_sub(last)),
+        None => (&[], &[]),
+    }
+}
+
 impl Explored {
     /// Whether nothing is open: the script races, or it doesn't and all is known of its hangs and outcomes.
     pub fn is_settled(&self) -> bool

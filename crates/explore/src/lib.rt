@@ -38,9 +38,11 @@ mod flat_state;
 mod found_states;
 mod free_choice;
 mod free_run;
+mod goal;
 mod guarded;
 mod kept_state;
 mod lock_ranks;
+mod memory;
 mod neighbours;
 mod origins;
 mod outcome_telling;
@@ -68,8 +70,12 @@ pub use allowed::AllowedOutcomes;
 pub use allowed_search::allowed_outcomes;
 pub use allowed_showing::{AllowedShowing, AllowedUntil};
 pub use allowed_until_search::allowed_until;
-pub use explored::{Explored, Hang, Hanging, RacyEvents, ScriptOutcome, ShownOutcome, Verdict};
+pub use explored::{
+    Explored, Hang, Hanging, RacyEvents, ScriptOutcome, ShownOutcome, Verdict,
+    explored_outcome_parts,
+};
 pub use lock_ranks::ranked_locks_law;
+pub use memory::shown::{MemoryShowing, MemoryShown, MemoryUntil, what_memory_shows};
 pub use outcome_telling::{Detail, full_outcome_telling_law};
 pub use progress::{Progress, Silent};
 pub use run_outcomes::outcome_of_run;

@@ -1,90 +1,29 @@
 //! The search for a run that ends with some words: it stops at the first one.
-ghost use Rattle.std.specs.Prelude.{◌≡◌, ◌↔◌, ℕ, ◌+◌, ◌≤◌, IfOk, IsTrue, List, length};
-ghost use Rattle.base.specs.Prelude.{most_processors};
-ghost use Rattle.journal.specs.declared.event.Event.{Event as AnEvent};
-ghost use Rattle.lrc_script.specs.Prelude.{IsLawful, Plan, plan_of};
+ghost use Rattle.std.specs.Prelude.{◌≡◌, ℕ, ◌≤◌, IfOk, IsTrue, List, length};
+ghost use Rattle.lrc_script.specs.Prelude.{IsLawful, plan_of};
 ghost use Rattle.explore.specs.FreeChoice.{AreFreeChoiceTextFacts};
 ghost use Rattle.explore.specs.FoundStates.{AreFoundStates, found_states};
-ghost use Rattle.explore.specs.Origins.{most_state_origins};
-ghost use Rattle.explore.specs.Machines.{AreLawfulMachineSteps, IsMachineRunning, MachineKnows};
+ghost use Rattle.explore.specs.Machines.{AreLawfulMachineSteps};
 ghost use Rattle.explore.specs.FlatSearch.{FlatSearchedUpTo};
+ghost use Rattle.explore.specs.FlatSearchEnds.{IsFlatSearchEnd, IsFlatSearchShowingOpen};
+ghost use Rattle.explore.specs.SearchGoals.{IsGoalMetAt};
 ghost use Rattle.explore.specs.declared.outcome_telling.Detail.{Detail as ADetail};
 ghost use Rattle.explore.specs.OutcomeTelling.{outcome_telling_of_script};
-ghost use Rattle.explore.specs.EndingWords.{IsExploredUntil, IsRunEndingWithWords, IsEndingWordsShowing, are_ending_words_settled};
-ghost use Rattle.explore.specs.UntilSearched.{IsSearchedUntil, IsSearchUntilEnded, IsSearchUntilOpen, SearchUntilMeetsEnding};
+ghost use Rattle.explore.specs.EndingWords.{IsExploredUntil, IsEndingWordsShowing, IsRunEndingWithWords, are_ending_words_settled};
 
 use crate::explored::ScriptOutcome;
-use crate::flat_state::FlatState;
 use crate::found_states::FoundStates;
-use crate::neighbours::Neighbours;
+use crate::goal::Goal;
 use crate::outcome_telling::Detail;
 use crate::prefixes::{ScriptCall, script_calls_of_all};
 use crate::progress::Progress;
 use crate::racing_history::{cut_racing_history, racing_history, racing_history_race};
-use crate::search::{Search, is_search_past};
+use crate::search::{Met, Search, SearchEnd};
 use crate::showing::{ExploredUntil, Showing, ShownRun};
 use crate::state_room::state_room_at_most;
 use crate::text_facts::{TextFacts, text_facts};
 use lrc_script::script::Script;
 use std::alloc::{AllocError, Global};
-
-/// What ends a search before all states were looked at.
-#[derive(Clone, Copy)]
-pub enum Met {
-    /// The state at this place is whole and ends with the words.
-    Ending(usize),
-    /// Two next events conflict.
-    Conflict(Neighbours),
-}
-
-/// Whether the state is whole and has these words.
-fn has_until_words(state: &FlatState, steps: &[Vec<ScriptCall>], words: &[(usize, u32)]) -> bool
-    requires { IsMachineRunning state.now steps.now }
-    ensures { (s : Plan) (g : List AnEvent) → AreLawfulMachineSteps s steps.now → MachineKnows s g state.now
-        → IsTrue result ↔ IsRunEndingWithWords s words.now g }
-{
-    state.is_whole(steps) && state.has_words(words)
-}
-
-/// Looks at each state that there is, until one ends with these words, two events conflict or more than `most` states are
-/// found.
-fn look_until<P: Progress>(
-    search: &mut Search,
-    steps: &[Vec<ScriptCall>],
-    facts: &TextFacts,
-    words: &[(usize, u32)],
-    most: usize,
-    progress: &mut P,
-) -> Result<Option<Met>, AllocError>
-    requires facts { AreFreeChoiceTextFacts steps.now facts.now }
-    requires room { most + most_processors ≤ most_state_origins }
-    requires searched { (s : Plan) × AreLawfulMachineSteps s steps.now × FlatSearchedUpTo s search.old steps.now 0 }
-    ensures looked { IfOk result (λ o. (s : Plan) → AreLawfulMachineSteps s steps.now → FlatSearchedUpTo s search.old steps.now 0
-        → IsSearchedUntil s search.new steps.now words.now most o) }
-    ensures few { IfOk result (λ _. (s : Plan) → AreLawfulMachineSteps s steps.now → FlatSearchedUpTo s search.old steps.now 0
-        → length (found_states search.old.found) ≤ 1 → length (found_states search.new.found) ≤ most + most_processors) }
-    ensures telling { IfOk result (λ _. (s : Plan) → AreLawfulMachineSteps s steps.now → FlatSearchedUpTo s search.old steps.now 0
-        → search.new.found.first.telling ≡ search.old.found.first.telling) }
-{
-    for place in 0..most {
-        let states = search.found.len();
-        progress.found(states);
-        if is_search_past(states, most) {
-            return Ok(None);
-        }
-        if place == states {
-            return Ok(None);
-        }
-        let state = search.found.at(place)?;
-        if has_until_words(&state, steps, words) {
-            return Ok(Some(Met::Ending(place)));
-        }
-        if let Some(neighbours) = search.look_at(state, steps, facts, place)? {
-            return Ok(Some(Met::Conflict(neighbours)));
-        }
-    }
-    Ok(None)
-}
 
 /// The run to the state at this place, which ends with these words; or its first race, if it has one.
 fn run_until_words(
@@ -96,9 +35,9 @@ fn run_until_words(
 ) -> Result<Showing, AllocError>
     requires steps { AreLawfulMachineSteps (plan_of script.now) steps.now }
     requires found { AreFoundStates (plan_of script.now) found.now }
-    requires ends { (words : List (ℕ × ℕ)) × SearchUntilMeetsEnding (plan_of script.now) words (found_states found.now) place }
+    requires ends { (words : List (ℕ × ℕ)) × IsGoalMetAt (plan_of script.now) (IsRunEndingWithWords (plan_of script.now) words) (found_states found.now) place }
     ensures showing { IfOk result (λ showing. (words : List (ℕ × ℕ)) (d : ADetail)
-        → SearchUntilMeetsEnding (plan_of script.now) words (found_states found.now) place
+        → IsGoalMetAt (plan_of script.now) (IsRunEndingWithWords (plan_of script.now) words) (found_states found.now) place
         → found.now.first.telling ≡ outcome_telling_of_script (plan_of script.now) d → IsEndingWordsShowing (plan_of script.now) d words showing) }
     ensures settled { IfOk result (λ showing. IsTrue (are_ending_words_settled showing)) }
 {
@@ -111,29 +50,29 @@ fn run_until_words(
     Ok(Showing::Shown(ShownRun { events, outcome }))
 }
 
-/// What a search found that ended by this, or without it, when all states had been looked at or not.
+/// What a search for some words found that ended so.
 fn until_showing_of(
     alloc: Global,
     script: &Script,
     steps: &[Vec<ScriptCall>],
     search: &Search,
-    met: Option<Met>,
-    through: bool,
+    end: SearchEnd,
 ) -> Result<Showing, AllocError>
     requires steps { AreLawfulMachineSteps (plan_of script.now) steps.now }
-    requires ended { (words : List (ℕ × ℕ)) × IsSearchUntilEnded (plan_of script.now) search.now steps.now words through met }
-    ensures showing { IfOk result (λ showing. (words : List (ℕ × ℕ)) (d : ADetail)
-        → IsSearchUntilEnded (plan_of script.now) search.now steps.now words through met
+    requires ended { (words : List (ℕ × ℕ)) × (most : ℕ)
+        × IsFlatSearchEnd (plan_of script.now) search.now steps.now (IsRunEndingWithWords (plan_of script.now) words) most end }
+    ensures showing { IfOk result (λ showing. (words : List (ℕ × ℕ)) (most : ℕ) (d : ADetail)
+        → IsFlatSearchEnd (plan_of script.now) search.now steps.now (IsRunEndingWithWords (plan_of script.now) words) most end
         → search.now.found.first.telling ≡ outcome_telling_of_script (plan_of script.now) d → IsEndingWordsShowing (plan_of script.now) d words showing) }
-    ensures opens { IfOk result (IsSearchUntilOpen met through) }
+    ensures opens { IfOk result (IsFlatSearchShowingOpen end) }
 {
-    match met {
+    match end.met {
         Some(Met::Ending(place)) => run_until_words(alloc, script, steps, &search.found, place),
         Some(Met::Conflict(neighbours)) => {
             let racy = racing_history(alloc, script, steps, &search.found, neighbours)?;
             Ok(Showing::Racy(racy))
         }
-        None if through => Ok(Showing::Never),
+        None if end.through => Ok(Showing::Never),
         None => Ok(Showing::Undecided),
     }
 }
@@ -158,10 +97,12 @@ fn until_by_search<P: Progress>(
     ensures { IfOk result (IsExploredUntil (plan_of script.now) detail words.now most) }
 {
     let most = state_room_at_most(script, detail, most);
-    let met = look_until(search, steps, facts, words, most, progress)?;
-    let states = search.found.len();
-    let showing = until_showing_of(alloc, script, steps, search, met, states <= most)?;
-    Ok(ExploredUntil { states, showing })
+    let end = search.look_to_the_end(steps, facts, Goal::Until(words), most, progress)?;
+    let showing = until_showing_of(alloc, script, steps, search, end)?;
+    Ok(ExploredUntil {
+        states: end.states,
+        showing,
+    })
 }
 
 /// Looks at the states of the script as `explore_until` does, by its steps.

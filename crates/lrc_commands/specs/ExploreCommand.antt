@@ -16,7 +16,7 @@ use Rattle.explore.specs.declared.showing.Showing.{Showing}
 use Rattle.explore.specs.declared.showing.Showing.TheVariants as showing
 use Rattle.lrc_explore.specs.AllowedShowings.{AllowedShowingWritten}
 use Rattle.lrc_explore.specs.AllowedTexts.{AllowedTextWritten}
-use Rattle.lrc_explore.specs.declared.memory_shown.MemoryUntil.{MemoryUntil}
+use Rattle.explore.specs.declared.memory.shown.MemoryUntil.{MemoryUntil}
 use Rattle.lrc_explore.specs.Showings.{AreShowingWords, ShowingWritten}
 use Rattle.lrc_explore.specs.ExploreTexts.{ExploreTextWritten}
 use Rattle.explore.specs.declared.outcome_telling.Detail.{Detail}

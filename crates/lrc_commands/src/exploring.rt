@@ -10,12 +10,13 @@ ghost use Rattle.lrc_commands.specs.Prelude.{IsExploreCommandAllowedShowing, IsE
 use crate::fault::{CommandFault, WhyUnshown};
 use conformance::ScriptRunner;
 use explore::{
-    AllowedOutcomes, AllowedUntil, Detail, Explored, ExploredUntil, Progress, Showing, Verdict,
-    allowed_outcomes, allowed_until, explore, explore_until,
+    AllowedOutcomes, AllowedUntil, Detail, Explored, ExploredUntil, MemoryShown, MemoryUntil,
+    Progress, Showing, Verdict, allowed_outcomes, allowed_until, explore, explore_until,
+    what_memory_shows,
 };
 use lrc_explore::{
-    MemoryShown, MemoryUntil, render, render_allowed_showing_text, render_allowed_text,
-    render_showing_text, unshown_asked_address, what_memory_shows,
+    render, render_allowed_showing_text, render_allowed_text, render_showing_text,
+    unshown_asked_address,
 };
 use lrc_json::{
     write_allowed_json, write_allowed_showing_json, write_explored_json, write_showing_json,

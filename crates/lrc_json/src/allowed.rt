@@ -10,9 +10,9 @@ use crate::explored::{
 use crate::fault::JsonFault;
 use crate::members::Members;
 use crate::output::{put_json_output_line, write_json_output};
-use explore::{AllowedOutcomes, Explored, ShownRun};
+use explore::{AllowedOutcomes, Explored, MemoryShowing, MemoryShown, ShownRun};
 use journal::Event;
-use lrc_explore::{MemoryShowing, MemoryShown, RunAnswer, run_answers, sorted_run_outcomes};
+use lrc_explore::{RunAnswer, run_answers, sorted_run_outcomes};
 use lrc_script::script::Script;
 use serde_json::Value;
 use std::alloc::{AllocError, Global};

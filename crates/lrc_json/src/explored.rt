@@ -9,11 +9,11 @@ use crate::members::Members;
 use crate::outcomes::{outcome_replies_json, outcome_word_json};
 use crate::output::{put_json_output_line, write_json_output};
 use conformance::Schedule;
-use explore::{Explored, Hang, Hanging, ProcessorNumber, RacyEvents, Verdict};
-use journal::Kind;
-use lrc_explore::{
-    explored_outcome_parts, schedule_of_events, schedule_of_makers, sorted_shown_outcomes,
+use explore::{
+    Explored, Hang, Hanging, ProcessorNumber, RacyEvents, Verdict, explored_outcome_parts,
 };
+use journal::Kind;
+use lrc_explore::{schedule_of_events, schedule_of_makers, sorted_shown_outcomes};
 use lrc_script::script::Script;
 use serde_json::Value;
 use std::alloc::{AllocError, Global};

@@ -15,12 +15,13 @@ use Rattle.lrc_script.specs.Plan.{Plan}
 use Rattle.conformance.specs.Follows.{Follows, calls_of, load_of}
 use Rattle.conformance.specs.ScriptReports.{AreRepliesOfScriptReport}
 use Rattle.explore.specs.declared.allowed_search.AllowedSearch.{AllowedSearch}
+use Rattle.explore.specs.declared.goal.Goal.{Goal}
+use Rattle.explore.specs.declared.goal.Goal.TheVariants.{All, Until}
 use Rattle.explore.specs.declared.outcome_telling.Detail.{Detail}
-use Rattle.explore.specs.declared.outcome_telling.Detail.TheVariants as detail
 use Rattle.explore.specs.AllowedRuns.{IsAllowedRun}
 use Rattle.explore.specs.AllowedSearch.{IsAllowedSearchStep, IsAllowedSearched, allowed_search_found}
-use Rattle.explore.specs.AllowedUntil.{AllowedUntilNever, AreAllowedUntilWords, IsAllowedUntilRun}
-use Rattle.explore.specs.AllowedUntilSearch.{AllowedUntilFoundNone, AreAllowedUntilLoads}
+use Rattle.explore.specs.AllowedUntil.{AreAllowedUntilWords, IsAllowedUntilRun}
+use Rattle.explore.specs.AllowedSearchEnds.{AllowedSearchFoundNone, AreAllowedUntilLoads, IsAllowedRunOfGoal}
 use Rattle.explore.specs.OutcomeTelling.{AreOutcomeTellingReplies, outcome_telling_of_script, outcome_telling_replies, outcome_telling_steps}
 use Rattle.explore.specs.Prefixes.ScriptCalls.{script_calls_of_section, script_calls_shown_by}
 use Rattle.explore.proofs.MachineSteps.{machine_step_some_at}
@@ -159,22 +160,24 @@ allowed_until_same s d words g h replies lawful run told_g told_h ends =
     }
 
 -- before the first beginning nothing is found
-pub allowed_until_start : (s : Plan) (words : List (ℕ × ℕ)) (x : AllowedSearch) → allowed_search_found x ≡ [] → AllowedUntilFoundNone s words x
-allowed_until_start s words x none g replies has told ends =
+pub allowed_goal_start : (s : Plan) (d : Detail) (goal : Goal) (x : AllowedSearch) → allowed_search_found x ≡ [] → AllowedSearchFoundNone s d goal x
+allowed_goal_start s d goal x none g replies has told ends =
     joined_list_has-nil replies (subst (λ found. Has found replies) none has)
 
--- one more beginning isn't a run that ends with them
-pub allowed_until_next : (s : Plan) (words : List (ℕ × ℕ)) (g : List Event) (x y : AllowedSearch) → IsLawful s
-    → IsAllowedSearchStep s detail.Words g x y → ¬ IsAllowedUntilRun s words g → AllowedUntilFoundNone s words x → AllowedUntilFoundNone s words y
-allowed_until_next s words g x y lawful step isnt none h replies has told ends = elim (step.each replies has) [
+-- one more beginning isn't a run that is looked for
+pub allowed_goal_next : (s : Plan) (d : Detail) (goal : Goal) (g : List Event) (x y : AllowedSearch) → IsLawful s
+    → IsAllowedSearchStep s d g x y → ¬ IsAllowedRunOfGoal s goal g → AllowedSearchFoundNone s d goal x → AllowedSearchFoundNone s d goal y
+allowed_goal_next s d All g x y lawful step isnt none h replies has told ends = ends
+allowed_goal_next s d (Until words) g x y lawful step isnt none h replies has told ends = elim (step.each replies has) [
   | inl was ↦ none h replies was told ends
-  | inr own ↦ isnt (allowed_until_same s detail.Words words h g replies lawful own.0 told own.1 ends)
+  | inr own ↦ isnt (allowed_until_same s d words.now h g replies lawful own.0 told own.1 ends)
 ]
 
--- where nothing is left to be looked at, no run does
-pub allowed_until_never : (s : Plan) (words : List (ℕ × ℕ)) (n : ℕ) (x : AllowedSearch) → IsAllowedSearched s detail.Words n x
-    → AllowedUntilFoundNone s words x → x.pending.items ≡ [] → AllowedUntilNever s words
-allowed_until_never s words n x searched none empty g ends =
-    let t = outcome_telling_of_script s detail.Words in
+-- where nothing is left to be looked at, no run is
+pub allowed_goal_never : (s : Plan) (d : Detail) (goal : Goal) (n : ℕ) (x : AllowedSearch) → IsAllowedSearched s d n x
+    → AllowedSearchFoundNone s d goal x → x.pending.items ≡ [] → (g : List Event) → ¬ IsAllowedRunOfGoal s goal g
+allowed_goal_never s d All n x searched none empty g ends = ends
+allowed_goal_never s d (Until words) n x searched none empty g ends =
+    let t = outcome_telling_of_script s d in
     let told = told_replies_some_rows s.processors (λ p. outcome_telling_replies t p (outcome_telling_steps s p) 0 (calls_of g p)) in
-    none g told.0 (rules_search_finds_all s detail.Words n x searched empty told.0 (g, ends.run, told.1)) told.1 ends
+    none g told.0 (rules_search_finds_all s d n x searched empty told.0 (g, ends.run, told.1)) told.1 ends

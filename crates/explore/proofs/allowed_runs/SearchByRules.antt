@@ -1,8 +1,7 @@
 -- A search by the rules, beginning by beginning: what is seen is there once, and what the rules allow isn't lost.
-use Rattle.std.proofs.Common.{ℕ, zero, suc, ◌≡◌, ◌≢◌, ◌+◌, ◌<◌, ◌⊎◌, inl, inr, false, ◌==◌, List, [], ◌∷◌, ◌++◌, Option, Some, length, map, slice_get, refl, sym, ap, subst, ◌∙◌, append_assoc, append-nil, length-append, arith}
+use Rattle.std.proofs.Common.{ℕ, zero, suc, ◌≡◌, ◌≢◌, ◌+◌, ◌<◌, ◌⊎◌, inl, inr, false, List, [], ◌∷◌, ◌++◌, Option, Some, length, map, slice_get, refl, sym, ap, subst, ◌∙◌, append_assoc, append-nil, length-append, arith, IsTrue}
 use Rattle.std.specs.Prelude.{None, slice_index_or}
 use Rattle.std.specs.Global.{Vec}
-use Rattle.std.proofs.lemmas.Bool.{eq-eqb, eqb-true, false≢true}
 use Rattle.std.proofs.lemmas.List.{map-append}
 use Rattle.std.proofs.lemmas.Option.{none-some, same_Some, slice_get_within}
 use Rattle.base.specs.InOrderOnce.{Has, InOrder, IsOnce}
@@ -498,31 +497,14 @@ rules_search_followed s detail g nexts chosen x y lawful calls plain choice outc
 
 -- what the search answers
 pub rules_search_answered : (s : Plan) (detail : Detail) (most n : ℕ) (x : AllowedSearch) (answer : AllowedOutcomes) → IsAllowedSearched s detail n x
-    → (n ≡ allowed_room_at_most s most) ⊎ (x.pending.items ≡ []) → answer.beginnings ≡ n
-    → map shown_run_outcome answer.outcomes.items ≡ allowed_search_found x
+    → (IsTrue answer.are_all → x.pending.items ≡ []) → (answer.are_all ≡ false → HasAllowedRunBeginnings s (allowed_room_at_most s most + 1))
+    → answer.beginnings ≡ n → map shown_run_outcome answer.outcomes.items ≡ allowed_search_found x
     → ((r : ShownRun) → Has answer.outcomes.items r → IsAllowedRunShowing s detail r.events.items (shown_run_outcome r))
-    → answer.are_all ≡ (length x.pending.items == 0) → AreAllowedRunOutcomes s detail most answer
-rules_search_answered s detail most n x answer searched end count outcomes runs all = record {
+    → AreAllowedRunOutcomes s detail most answer
+rules_search_answered s detail most n x answer searched all given_up count outcomes runs = record {
   looked_at = subst (HasAllowedRunBeginnings s) (sym count) (rules_search_seen_many s detail n x searched);
   each = runs;
   once = subst IsOnce (sym outcomes) searched.once;
-  all = λ yes r outcome.
-      subst (λ os. Has os r) (sym outcomes)
-      (rules_search_finds_all s detail n x searched (empty x.pending.items (eqb-true (length x.pending.items) 0 (sym all ∙ yes))) r outcome);
-  given_up = λ isnt. go x.pending.items refl isnt;
+  all = λ yes r outcome. subst (λ os. Has os r) (sym outcomes) (rules_search_finds_all s detail n x searched (all yes) r outcome);
+  given_up = given_up;
 }
-  where
-    empty : (bs : List AllowedBeginning) → length bs ≡ 0 → bs ≡ []
-    empty [] is = refl
-    empty (b ∷ bs) is = absurd (omega arith)
-
-    go : (bs : List AllowedBeginning) → x.pending.items ≡ bs → answer.are_all ≡ false
-        → HasAllowedRunBeginnings s (allowed_room_at_most s most + 1)
-    go [] is isnt =
-        absurd (false≢true (sym isnt ∙ all ∙ eq-eqb (length x.pending.items) 0 (ap (λ (bs : List AllowedBeginning). length bs) is)))
-    go (b ∷ bs) is isnt =
-        let one = rules_search_one_more s detail n x b searched (subst (λ (cs : List AllowedBeginning). Has cs b) (sym is) (0, refl)) in
-        elim end [
-          | inl reached ↦ subst (λ m. HasAllowedRunBeginnings s (m + 1)) reached one
-          | inr none ↦ absurd (joined_list_has-nil b (subst (λ (cs : List AllowedBeginning). Has cs b) (sym is ∙ none) (0, refl)))
-        ]

@@ -1,12 +1,13 @@
 use Rattle.lrc_script.specs.Plan.{plan_of}
+use Rattle.explore.specs.declared.goal.Goal.TheVariants.{Until}
 use Rattle.explore.specs.declared.outcome_telling.Detail.TheVariants as detail
-use Rattle.explore.proofs.allowed_runs.AllowedUntil.{allowed_until_start}
+use Rattle.explore.proofs.allowed_runs.AllowedUntil.{allowed_goal_start}
 use Rattle.explore.proofs.allowed_until_search.look_until_allowed.Goals as goal
 
-pub look_at_pending_until-looked-requires-clause-searched : goal.look_at_pending_until-looked-requires-clause-searched
-look_at_pending_until-looked-requires-clause-searched g c =
+pub look_at_all-looked-requires-clause-searched : goal.look_at_all-looked-requires-clause-searched
+look_at_all-looked-requires-clause-searched g c =
     let s = plan_of c.args.script.now in
     record {
       searched = c.in_ok-search.ensures.searched s detail.Words;
-      none = allowed_until_start s c.args.words.now c.in_ok-search.search c.in_ok-search.ensures.none;
+      none = allowed_goal_start s detail.Words (Until c.args.words) c.in_ok-search.search c.in_ok-search.ensures.none;
     }

@@ -75,7 +75,7 @@ returns c = λ most ended.
           c.in_ok-outcomes.ensures.all replies
           (searched_states_all_outcomes s x steps c.requires.steps (ended.searched.all yes) d telling replies outcome);
       given_up = λ opens.
-          let both = searched_states_open_only c.args.end.neighbours (c.args.end.through || c.are_all_guarded.result) c.args.end.through
+          let both = searched_states_open_only c.args.end.met (c.args.end.through || c.are_all_guarded.result) c.args.end.through
           c.in_ok-findings.findings.verdict c.in_ok-findings.findings.hanging c.in_ok-findings.ensures.verdict_opens
           c.in_ok-findings.ensures.hanging_opens
           (neither c.args.end.through c.are_all_guarded.result) opens in
