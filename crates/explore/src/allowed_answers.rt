@@ -1,19 +1,18 @@
 //! What a load that comes next may answer.
-ghost use Rattle.std.specs.Prelude.{◌≡◌, ◌↔◌, ◌<◌, ◌≤◌, ◌⊎◌, ℕ, IfOk, IsTrue, OnOk, Some, length, slice_get};
+ghost use Rattle.std.specs.Prelude.{◌≡◌, ◌↔◌, ◌<◌, ◌⊎◌, ℕ, IfOk, IsTrue, List, OnOk, length};
 ghost use Rattle.base.specs.InOrderOnce.{Has, IsOnce};
 ghost use Rattle.journal.specs.declared.event.Event.{Event as AnEvent};
-ghost use Rattle.journal.specs.declared.event.Kind.TheVariants.{Load, Store};
+ghost use Rattle.journal.specs.declared.event.Kind.TheVariants.{Load};
 ghost use Rattle.journal.specs.ExplainedAnswers.{IsAnswer};
 ghost use Rattle.journal.specs.Prelude.{did};
-ghost use Rattle.judge.specs.Sources.Prelude.{AreKeptSourcesOf};
+ghost use Rattle.judge.specs.Prelude.{AreKeptStoresOf};
 ghost use Rattle.lrc_script.specs.Prelude.{IsLawful, plan_of};
 ghost use Rattle.lrc_script.specs.Lawful.{plan_addresses};
 ghost use Rattle.explore.specs.AllowedRuns.{IsAllowedRunBeginning};
-ghost use Rattle.explore.specs.AllowedAnswers.{AreAllowedAnswersStoredAt, HasAllowedAnswerMore, allowed_answer_stored};
+ghost use Rattle.explore.specs.AllowedAnswers.{AreAllowedAnswersOf, HasAllowedAnswerMore};
 
-use base::MOST_PROCESSORS;
-use journal::{Event, Kind};
-use judge::sources::ReadableSources;
+use journal::Event;
+use judge::{FlatStore, KeptStores};
 use lrc_script::script::Script;
 use std::alloc::{AllocError, Global};
 
@@ -22,28 +21,18 @@ pub fn allowed_answer_sources(
     alloc: Global,
     script: &Script,
     events: &[Event],
-) -> Result<ReadableSources, AllocError>
+) -> Result<KeptStores, AllocError>
     requires lawful { IsLawful (plan_of script.now) }
     requires allowed { IsAllowedRunBeginning (plan_of script.now) events.now }
-    ensures tells { IfOk result (AreKeptSourcesOf events.now) }
+    ensures tells { IfOk result (AreKeptStoresOf events.now) }
     ensures processors { IfOk result (λ x. x.processors ≡ script.now.processors) }
     ensures addresses { IfOk result (λ x. x.addresses ≡ plan_addresses (plan_of script.now)) }
 {
-    let mut sources = ReadableSources::new(alloc, script.processors, script.pages * script.words)?;
+    let mut sources = KeptStores::new(alloc, script.processors, script.pages * script.words)?;
     for place in 0..events.len() {
-        sources.note(events, place)?;
+        sources.note(events[place])?;
     }
     Ok(sources)
-}
-
-/// The value that the event stores, 0 if it doesn't.
-fn allowed_answer_stored(event: Event) -> u32
-    ensures { result ≡ allowed_answer_stored event.kind }
-{
-    match event.kind {
-        Kind::Store(_, value) => value,
-        _ => 0,
-    }
 }
 
 /// Whether the value is among these answers.
@@ -68,42 +57,34 @@ fn add_allowed_answer(answers: &mut Vec<u32>, value: u32) -> Result<(), AllocErr
     Ok(())
 }
 
-/// The values that the events at these places store, each once.
-fn allowed_answers_stored(
-    alloc: Global,
-    events: &[Event],
-    places: &[Option<usize>; MOST_PROCESSORS],
-) -> Result<Vec<u32>, AllocError>
-    requires { (q i : ℕ) → slice_get places.now q ≡ Some (Some i) → i < length events.now }
-    ensures { IfOk result (λ v. AreAllowedAnswersStoredAt events.now places.now (length places.now) v.items) }
+/// The values of these stores, each once.
+fn allowed_answers_of(alloc: Global, stores: &[FlatStore]) -> Result<Vec<u32>, AllocError>
+    ensures { IfOk result (λ v. AreAllowedAnswersOf stores.now v.items) }
 {
     let mut answers = Vec::new(alloc);
-    for by in 0..MOST_PROCESSORS {
-        if let Some(place) = places[by] {
-            add_allowed_answer(&mut answers, allowed_answer_stored(events[place]))?;
-        }
+    for store in stores {
+        add_allowed_answer(&mut answers, store.value)?;
     }
     Ok(answers)
 }
 
-/// What a load of the address by this processor may answer if it comes next, after these events: each value of a latest store of its past,
-/// or 0 if its past has none; each once. The only error is running out of memory.
+/// What a load of the address by this processor may answer if it comes next: each value of a latest store of its past, or 0 if its
+/// past has none; each once. The only error is running out of memory.
 pub fn allowed_answers(
     alloc: Global,
-    sources: &ReadableSources,
-    events: &[Event],
+    sources: &KeptStores,
     processor: usize,
     address: usize,
 ) -> Result<Vec<u32>, AllocError>
-    requires tells { AreKeptSourcesOf events.now sources.now }
+    requires tells { (j : List AnEvent) × AreKeptStoresOf j sources.now }
     requires processor { processor < sources.now.processors }
     requires address { address < sources.now.addresses }
     ensures once { IfOk result (λ v. IsOnce v.items) }
-    ensures each { IfOk result (λ v. (x : ℕ) → Has v.items x
-        ↔ IsAnswer (did events.now processor (Load address x)) (length events.now) address x) }
+    ensures each { IfOk result (λ v. (j : List AnEvent) → AreKeptStoresOf j sources.now → (x : ℕ) → Has v.items x
+        ↔ IsAnswer (did j processor (Load address x)) (length j) address x) }
 {
-    let latest = sources.before(processor, address);
-    let mut answers = allowed_answers_stored(alloc, events, &latest)?;
+    let latest = sources.latest(alloc, processor, address)?;
+    let mut answers = allowed_answers_of(alloc, &latest)?;
     if answers.is_empty() {
         answers.push(0)?;
     }

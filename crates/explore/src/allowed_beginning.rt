@@ -4,7 +4,7 @@ ghost use Rattle.base.specs.Prelude.{most_processors};
 ghost use Rattle.journal.specs.declared.event.Kind.{Kind as AKind};
 ghost use Rattle.journal.specs.declared.event.Kind.TheVariants.{Load};
 ghost use Rattle.journal.specs.Prelude.{did};
-ghost use Rattle.judge.specs.Sources.Prelude.{AreKeptSourcesOf};
+ghost use Rattle.judge.specs.Prelude.{AreKeptStoresOf};
 ghost use Rattle.lrc_script.specs.Prelude.{IsLawful, Plan};
 ghost use Rattle.lrc_script.specs.Lawful.{plan_addresses};
 ghost use Rattle.conformance.specs.Follows.{Follows};
@@ -25,7 +25,7 @@ use crate::prefixes::ScriptCall;
 use crate::waiting::Waiting;
 use base::MOST_PROCESSORS;
 use journal::{Event, Kind};
-use judge::sources::ReadableSources;
+use judge::KeptStores;
 use std::alloc::{AllocError, Global};
 
 /// A beginning of a run that the rules of the memory allow: each load answers a latest store of its past.
@@ -156,7 +156,7 @@ impl AllowedBeginning {
     fn follow_load(
         &self,
         alloc: Global,
-        sources: &ReadableSources,
+        sources: &KeptStores,
         processor: usize,
         address: usize,
         pending: &mut Vec<AllowedBeginning>,
@@ -165,7 +165,7 @@ impl AllowedBeginning {
         ensures { OnOk result ((s : Plan) → MayFollowAllowedBeginningCall s self.now sources.now processor (Load address 0)
             → IsAllowedBeginningCallFollowed s (allowed_beginning_events self.now) processor (Load address 0) pending.old.items pending.new.items) }
     {
-        let answers = allowed_answers(alloc, sources, &self.events, processor, address)?;
+        let answers = allowed_answers(alloc, sources, processor, address)?;
         for word in &answers {
             pending.push(self.lengthened(processor, Kind::Load(address, *word))?)?;
         }
@@ -176,7 +176,7 @@ impl AllowedBeginning {
     fn follow(
         &self,
         alloc: Global,
-        sources: &ReadableSources,
+        sources: &KeptStores,
         processor: usize,
         call: Kind,
         pending: &mut Vec<AllowedBeginning>,
@@ -199,7 +199,7 @@ impl AllowedBeginning {
     pub fn follow_all(
         &self,
         alloc: Global,
-        sources: &ReadableSources,
+        sources: &KeptStores,
         calls: &[Option<Kind>; MOST_PROCESSORS],
         pending: &mut Vec<AllowedBeginning>,
     ) -> Result<(), AllocError>

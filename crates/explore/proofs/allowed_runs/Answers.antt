@@ -1,19 +1,18 @@
 -- The values that a load may answer are those of its latest stores, or 0 if it has none.
-use Rattle.std.proofs.Common.{ℕ, ◌≡◌, ◌≢◌, ◌+◌, ◌⊎◌, ◌↔◌, inl, inr, List, [], ◌∷◌, ◌++◌, Option, Some, length, slice_get, refl, sym, ap, subst, ◌∙◌, arith}
-use Rattle.std.proofs.lemmas.Bool.{cases_eq}
-use Rattle.std.proofs.lemmas.Option.{same_Some, slice_get_within}
+use Rattle.std.proofs.Common.{ℕ, ◌≡◌, ◌≢◌, ◌↔◌, inl, inr, List, [], ◌∷◌, ◌++◌, length, refl, sym, ap, subst, ◌∙◌}
 use Rattle.base.specs.InOrderOnce.{Has, IsOnce}
-use Rattle.base.proofs.JoinedLists.{joined_list_has-append, joined_list_has-cons, joined_list_has-nil, joined_list_in_order-append, joined_list_in_order-nil, joined_list_in_order_single}
+use Rattle.base.proofs.JoinedLists.{joined_list_has-append, joined_list_has-cons, joined_list_has-nil, joined_list_in_order-append, joined_list_in_order_single}
 use Rattle.journal.specs.declared.event.Event.{Event}
 use Rattle.journal.specs.declared.event.Kind.TheVariants.{Load, Store}
 use Rattle.journal.specs.DidEvent.{did, event}
-use Rattle.journal.specs.Events.{EventAt}
-use Rattle.journal.specs.ExplainedAnswers.{IsAnswer, LatestExplainedAnswer}
-use Rattle.journal.proofs.Order.EventPlacesAndCounts.{event_place_same, event_place_shorter}
-use Rattle.journal.proofs.Order.HappensBefore.{happens_before_goes_forward}
+use Rattle.journal.specs.ExplainedAnswers.{IsAnswer}
+use Rattle.journal.specs.WellFormed.{Does}
+use Rattle.journal.proofs.Order.EventPlacesAndCounts.{event_place_longer}
+use Rattle.judge.specs.declared.flat_memory.FlatStore.{FlatStore}
+use Rattle.judge.specs.PermittedStores.{AreLatestStores}
 use Rattle.judge.specs.Sources.Latest.{IsLatest}
 use Rattle.judge.proofs.sources.Answering.{answering_store_at, answering_law}
-use Rattle.explore.specs.AllowedAnswers.{AreAllowedAnswersStoredAt, HasAllowedAnswerMore, IsAllowedAnswerStoredAt, allowed_answer_stored}
+use Rattle.explore.specs.AllowedAnswers.{AreAllowedAnswersOf, HasAllowedAnswerMore, IsAllowedAnswerOf}
 
 -- one more answer
 pub allowed_answer_there : (old new : List ℕ) (v : ℕ) → Has old v → new ≡ old → HasAllowedAnswerMore old new v
@@ -45,124 +44,72 @@ allowed_answer_pushed old new v hasnt is = record {
       ]));
 }
 
--- the values that are stored at the first places
-pub allowed_stored_start : (j : List Event) (places : List (Option ℕ)) → AreAllowedAnswersStoredAt j places 0 []
-allowed_stored_start j places = record {
-  each = λ x. ((λ has. absurd (joined_list_has-nil x has)), (λ is. absurd (let lt = is.within in omega arith)));
-  once = joined_list_in_order-nil (λ (a b : ℕ). a ≢ b);
-}
+-- of one store more, a value is the last one's, or one of the others'
+pub allowed_values_next : (stores : List FlatStore) (s : FlatStore) (old new : List ℕ) → AreAllowedAnswersOf stores old
+    → HasAllowedAnswerMore old new s.value → AreAllowedAnswersOf (stores ++ s ∷ []) new
+allowed_values_next stores s old new of more = record { each = λ x. (there x, back x); once = more.once of.once }
+  where
+    there : (x : ℕ) → Has new x → IsAllowedAnswerOf (stores ++ s ∷ []) x
+    there x has = elim ((more.each x).0 has) [
+      | inl was ↦
+          (let y = (of.each x).0 was in
+          record { store = y.store; has = (joined_list_has-append stores (s ∷ []) y.store).1 (inl y.has); is = y.is })
+      | inr now ↦
+          record { store = s; has = (joined_list_has-append stores (s ∷ []) s).1 (inr ((joined_list_has-cons s [] s).1 (inl refl))); is = sym now }
+    ]
 
-allowed_stored_more : (j : List Event) (places : List (Option ℕ)) (n x : ℕ) → IsAllowedAnswerStoredAt j places n x → IsAllowedAnswerStoredAt j places (n + 1) x
-allowed_stored_more j places n x is = record {
-  by = is.by;
-  within = (let lt = is.within in omega arith);
-  place = is.place;
-  is_place = is.is_place;
-  event = is.event;
-  at = is.at;
-  stores = is.stores;
-}
+    back : (x : ℕ) → IsAllowedAnswerOf (stores ++ s ∷ []) x → Has new x
+    back x y = elim ((joined_list_has-append stores (s ∷ []) y.store).0 y.has) [
+      | inl was ↦ (more.each x).1 (inl ((of.each x).1 (record { store = y.store; has = was; is = y.is })))
+      | inr now ↦ elim ((joined_list_has-cons s [] y.store).0 now) [
+        | inl own ↦ (more.each x).1 (inr (sym y.is ∙ ap (λ (z : FlatStore). z.value) (sym own)))
+        | inr none ↦ absurd (joined_list_has-nil y.store none)
+      ]
+    ]
 
--- of those of one place more, the last one, or one of the old ones
-allowed_stored_cases : (j : List Event) (places : List (Option ℕ)) (n x : ℕ) (is : IsAllowedAnswerStoredAt j places (n + 1) x)
-    → (is.by ≡ n) ⊎ IsAllowedAnswerStoredAt j places n x
-allowed_stored_cases j places n x is = elim (cases_eq is.by n) [
-  | inl own ↦ inl own
-  | inr isnt ↦ inr (record {
-    by = is.by;
-    within = (let lt = is.within in omega arith);
-    place = is.place;
-    is_place = is.is_place;
-    event = is.event;
-    at = is.at;
-    stores = is.stores;
-  })
-]
-
-pub allowed_stored_some : (j : List Event) (places : List (Option ℕ)) (n i : ℕ) (e : Event) (old new : List ℕ)
-    → slice_get places n ≡ Some (Some i) → EventAt j i e → AreAllowedAnswersStoredAt j places n old → HasAllowedAnswerMore old new (allowed_answer_stored e.kind)
-    → AreAllowedAnswersStoredAt j places (n + 1) new
-allowed_stored_some j places n i e old new place at stored more = record {
-  each = λ x. (
-    λ has. elim ((more.each x).0 has) [
-      | inl was ↦ allowed_stored_more j places n x ((stored.each x).0 was)
-      | inr now ↦ record { by = n; within = omega arith; place = i; is_place = place; event = e; at = at; stores = sym now }
-    ],
-    λ is. (more.each x).1 (elim (allowed_stored_cases j places n x is) [
-      | inl own ↦
-          (let there = subst (λ b. slice_get places b ≡ Some (Some is.place)) own is.is_place in
-          let both = same_Some (Some i) (Some is.place) (sym place ∙ there) in
-          let same = same_Some i is.place both in
-          let one = event_place_same j i e is.event at (subst (λ k. EventAt j k is.event) (sym same) is.at) in
-          inr (sym (ap (λ (y : Event). allowed_answer_stored y.kind) one ∙ is.stores)))
-      | inr old_one ↦ inl ((stored.each x).1 old_one)
-    ]),
-  );
-  once = more.once stored.once;
-}
-
-pub allowed_stored_none : (j : List Event) (places : List (Option ℕ)) (n : ℕ) (old : List ℕ)
-    → ((i : ℕ) → slice_get places n ≢ Some (Some i)) → AreAllowedAnswersStoredAt j places n old → AreAllowedAnswersStoredAt j places (n + 1) old
-allowed_stored_none j places n old none stored = record {
-  each = λ x. (
-    λ has. allowed_stored_more j places n x ((stored.each x).0 has),
-    λ is. elim (allowed_stored_cases j places n x is) [
-      | inl own ↦ absurd (none is.place (subst (λ b. slice_get places b ≡ Some (Some is.place)) own is.is_place))
-      | inr old_one ↦ (stored.each x).1 old_one
-    ],
-  );
-  once = stored.once;
-}
-
--- the places of the latest stores tell what a load may answer
-module _ (j : List Event) (p a : ℕ) (latest : List (Option ℕ)) (found : List ℕ)
-    (tells : (v q i : ℕ) → (slice_get latest q ≡ Some (Some i)) ↔ IsLatest (did j p (Load a v)) (length j) a q i)
-    (stored : AreAllowedAnswersStoredAt j latest (length latest) found) where
+-- the values of the latest stores are what a load may answer
+module _ (j : List Event) (p a : ℕ) (latest : List FlatStore) (found : List ℕ)
+    (tells : (w : ℕ) → AreLatestStores (did j p (Load a w)) (length j) a latest) (of : AreAllowedAnswersOf latest found) where
   abbrev IsAllowedNext : ℕ → Type 0
   IsAllowedNext x = IsAnswer (did j p (Load a x)) (length j) a x
 
   -- a value that was found is one of a latest store
-  allowed_found_answer : (x : ℕ) → Has found x → IsAllowedNext x
-  allowed_found_answer x has =
-      let is = (stored.each x).0 has in
-      let l = (tells x is.by is.place).0 is.is_place in
-      let there = answering_store_at j p a x is.by is.place l in
-      let same = event_place_same j is.place (event is.by (Store a l.value)) is.event there is.at in
-      let value : l.value ≡ x = ap (λ (y : Event). allowed_answer_stored y.kind) same ∙ is.stores in
-      inr (subst (λ v. LatestExplainedAnswer (did j p (Load a x)) (length j) a v) value l.store)
+  allowed_found_latest : (x y : ℕ) → Has found y
+      → (q : ℕ) × (i : ℕ) × IsLatest (did j p (Load a x)) (length j) a q i × Does (did j p (Load a x)) i q (Store a y)
+  allowed_found_latest x y has =
+      let is = (of.each y).0 has in
+      let l = ((tells x).has is.store).0 is.has in (
+        is.store.by,
+        is.store.place,
+        l.latest,
+        subst (λ v. Does (did j p (Load a x)) is.store.place is.store.by (Store a v)) is.is l.stores,
+      )
 
-  allowed_answer_found : (x q i : ℕ) → IsLatest (did j p (Load a x)) (length j) a q i → EventAt (did j p (Load a x)) i (event q (Store a x)) → Has found x
-  allowed_answer_found x q i l at =
-      let place = (tells x q i).1 l in
-      let lt = happens_before_goes_forward (did j p (Load a x)) l.store.before in
-      let is = l.place in
-      let here : EventAt j i (event q (Store a x)) = event_place_shorter j (event p (Load a x) ∷ []) i (event q (Store a x)) (omega arith) at in
-      (stored.each x).1 (record {
-        by = q;
-        within = slice_get_within latest q (Some i) place;
-        place = i;
-        is_place = place;
-        event = event q (Store a x);
-        at = here;
-        stores = refl;
+  allowed_latest_found : (x y q i : ℕ) → IsLatest (did j p (Load a x)) (length j) a q i → Does (did j p (Load a x)) i q (Store a y)
+      → Has found y
+  allowed_latest_found x y q i l does =
+      (of.each y).1 (record {
+        store = record { by = q; place = i; value = y };
+        has = ((tells x).has (record { by = q; place = i; value = y })).1 (record { stores = does; latest = l });
+        is = refl;
       })
 
   -- some were found: they are what it may answer
   pub allowed_answers_some : found ≢ [] → (x : ℕ) → Has found x ↔ IsAllowedNext x
-  allowed_answers_some some x = (allowed_found_answer x, back)
+  allowed_answers_some some x = (
+    λ has. (answering_law (did j p (Load a x)) (length j) a x).1 (inr (allowed_found_latest x x has)),
+    λ answer. elim ((answering_law (did j p (Load a x)) (length j) a x).0 answer) [
+      | inl none ↦
+          (let one = first_of found some in
+          let l = allowed_found_latest x one.0 one.1 in
+          absurd (none.1 l.0 l.1 l.2))
+      | inr l ↦ allowed_latest_found x x l.0 l.1 l.2 l.3
+    ],
+  )
     where
       first_of : (ys : List ℕ) → ys ≢ [] → (y : ℕ) × Has ys y
       first_of [] not_empty = absurd (not_empty refl)
       first_of (y ∷ ys) not_empty = (y, (0, refl))
-
-      back : IsAllowedNext x → Has found x
-      back answer = elim ((answering_law (did j p (Load a x)) (length j) a x).0 answer) [
-        | inl none ↦
-            (let one = first_of found some in
-            let is = (stored.each one.0).0 one.1 in
-            absurd (none.1 is.by is.place ((tells x is.by is.place).0 is.is_place)))
-        | inr l ↦ allowed_answer_found x l.0 l.1 l.2 l.3
-      ]
 
   -- none was: it answers 0
   pub allowed_answers_none : found ≡ [] → (x : ℕ) → Has (0 ∷ []) x ↔ IsAllowedNext x
@@ -170,17 +117,8 @@ module _ (j : List Event) (p a : ℕ) (latest : List (Option ℕ)) (found : List
     where
       nothing : (q i : ℕ) → ¬ IsLatest (did j p (Load a x)) (length j) a q i
       nothing q i l =
-          let at = answering_store_at j p a x q i l in
-          let place = (tells x q i).1 l in
-          joined_list_has-nil l.value (subst (λ xs. Has xs l.value) none ((stored.each l.value).1 (record {
-            by = q;
-            within = slice_get_within latest q (Some i) place;
-            place = i;
-            is_place = place;
-            event = event q (Store a l.value);
-            at = at;
-            stores = refl;
-          })))
+          let at = event_place_longer j (event p (Load a x) ∷ []) i (event q (Store a l.value)) (answering_store_at j p a x q i l) in
+          joined_list_has-nil l.value (subst (λ xs. Has xs l.value) none (allowed_latest_found x l.value q i l at))
 
       there : Has (0 ∷ []) x → IsAllowedNext x
       there has = elim ((joined_list_has-cons 0 [] x).0 has) [

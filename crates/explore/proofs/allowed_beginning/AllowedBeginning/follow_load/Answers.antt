@@ -6,7 +6,8 @@ use Rattle.journal.specs.declared.event.Event.{Event}
 use Rattle.journal.specs.declared.event.Kind.TheVariants.{Load}
 use Rattle.journal.specs.DidEvent.{did}
 use Rattle.journal.specs.ExplainedAnswers.{IsAnswer}
-use Rattle.judge.specs.declared.sources.readable.ReadableSources.{ReadableSources}
+use Rattle.judge.specs.declared.kept_stores.KeptStores.{KeptStores}
+use Rattle.judge.specs.KeptStores.{AreKeptStoresOf}
 use Rattle.lrc_script.specs.Plan.{Plan}
 use Rattle.explore.specs.declared.allowed_beginning.AllowedBeginning.{AllowedBeginning}
 use Rattle.explore.specs.AllowedRuns.{IsAllowedRunBeginning}
@@ -16,13 +17,12 @@ use Rattle.explore.proofs.allowed_runs.NextAllowed.{next_allowed_load}
 use Rattle.explore.proofs.allowed_beginning.AllowedBeginning.follow_load.Goals as goal
 
 -- by which replies the load may come next
-module _ (s : Plan) (b : AllowedBeginning) (sources : ReadableSources) (p a : ℕ) (may : MayFollowAllowedBeginningCall s b sources p (Load a 0)) (events : List Event)
-    (same : events ≡ allowed_beginning_events b) (answers : List ℕ)
-    (each : (x : ℕ) → Has answers x ↔ IsAnswer (did events p (Load a x)) (length events) a x) where
+module _ (s : Plan) (b : AllowedBeginning) (sources : KeptStores) (p a : ℕ) (may : MayFollowAllowedBeginningCall s b sources p (Load a 0)) (answers : List ℕ)
+    (each : (j : List Event) → AreKeptStoresOf j sources → (x : ℕ) → Has answers x ↔ IsAnswer (did j p (Load a x)) (length j) a x) where
   answer_next : (v : ℕ) → Has answers v ↔ IsAllowedRunBeginning s (did (allowed_beginning_events b) p (Load a v))
   answer_next v =
       let next = next_allowed_load s (allowed_beginning_events b) p a v may.tells.beginning may.may in
-      let here = subst (λ h. Has answers v ↔ IsAnswer (did h p (Load a v)) (length h) a v) same (each v) in
+      let here = each (allowed_beginning_events b) may.sources_tell v in
       ((λ has. next.1 (here.0 has)), (λ allowed. here.1 (next.0 allowed)))
 
   -- the word that is read is one of them
@@ -37,7 +37,7 @@ module _ (s : Plan) (b : AllowedBeginning) (sources : ReadableSources) (p a : �
 pub lengthened-requires : goal.lengthened-requires
 lengthened-requires c = (
   c.requires.0,
-  word_next c.requires.0 c.args.self.now c.args.sources.now c.args.processor c.args.address c.requires.1 c.deref.result.now c.deref.ensures.value
+  word_next c.requires.0 c.args.self.now c.args.sources.now c.args.processor c.args.address c.requires.1
       c.in_ok-answers.answers.items c.in_ok-answers.ensures.each c.deref-word-items.result.now c.loop-word.word-index
       c.deref-word-items.ensures.value c.loop-word-test.true,
 )
@@ -52,7 +52,7 @@ loop-word-preserved c = λ s may.
     let p = c.args.processor in
     let a = c.args.address in
     let v = slice_index_or words n 0 in
-    let next = word_next s c.args.self.now c.args.sources.now p a may c.deref.result.now c.deref.ensures.value
+    let next = word_next s c.args.self.now c.args.sources.now p a may
     c.in_ok-answers.answers.items c.in_ok-answers.ensures.each words n c.deref-word-items.ensures.value c.loop-word-test.true in
     lengthened_by_loads_next s (allowed_beginning_events c.args.self.now) p a words n v c.args.pending.now.items c.loop-word.pending.items c.push.new.self.items
     (slice_get-get_or words n 0 c.loop-word-test.true) (c.loop-word.invariant s may)
@@ -69,6 +69,6 @@ returns c = λ s may.
     let over = c.loop-word-test.false in
     let all : take n words ≡ c.in_ok-answers.answers.items = take_all n words (omega arith) ∙ c.deref-word-items.ensures.value in
     lengthened_by_loads_all s g p a c.in_ok-answers.answers.items c.args.pending.now.items c.loop-word.pending.items c.in_ok-answers.ensures.once
-    (answer_next s c.args.self.now c.args.sources.now p a may c.deref.result.now c.deref.ensures.value c.in_ok-answers.answers.items
+    (answer_next s c.args.self.now c.args.sources.now p a may c.in_ok-answers.answers.items
     c.in_ok-answers.ensures.each)
     (subst (λ xs. AreLengthenedByLoads s g p a xs c.args.pending.now.items c.loop-word.pending.items) all (c.loop-word.invariant s may))

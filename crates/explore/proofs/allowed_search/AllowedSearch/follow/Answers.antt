@@ -1,6 +1,6 @@
 use Rattle.std.proofs.Common.{refl, subst}
 use Rattle.std.proofs.lemmas.Result.{on_ok_weaker}
-use Rattle.judge.specs.Sources.KeptSources.{AreKeptSourcesOf}
+use Rattle.judge.specs.KeptStores.{AreKeptStoresOf}
 use Rattle.lrc_script.specs.Plan.{plan_of}
 use Rattle.explore.specs.AllowedBeginnings.{allowed_beginning_events}
 use Rattle.explore.proofs.allowed_runs.SearchByRules.{rules_search_choice_may, rules_search_choice_plain, rules_search_followed}
@@ -15,7 +15,7 @@ follow_all-requires c =
       record {
         lawful = c.requires.steps.lawful;
         tells = c.requires.told;
-        sources_tell = subst (λ j. AreKeptSourcesOf j c.in_ok-sources.sources) c.events.ensures c.in_ok-sources.ensures.tells;
+        sources_tell = subst (λ j. AreKeptStoresOf j c.in_ok-sources.sources) c.events.ensures c.in_ok-sources.ensures.tells;
         processors = c.in_ok-sources.ensures.processors;
         addresses = c.in_ok-sources.ensures.addresses;
         long = c.allowed_choice-chosen.ensures.long;
@@ -35,7 +35,7 @@ returns c = on_ok_weaker c.follow_all.result (λ followed detail.
     (followed s (record {
       lawful = c.requires.steps.lawful;
       tells = c.requires.told;
-      sources_tell = subst (λ j. AreKeptSourcesOf j c.in_ok-sources.sources) c.events.ensures c.in_ok-sources.ensures.tells;
+      sources_tell = subst (λ j. AreKeptStoresOf j c.in_ok-sources.sources) c.events.ensures c.in_ok-sources.ensures.tells;
       processors = c.in_ok-sources.ensures.processors;
       addresses = c.in_ok-sources.ensures.addresses;
       long = c.allowed_choice-chosen.ensures.long;
