@@ -11,7 +11,7 @@ pub mod LikeMachines
 pub mod MachineSteps
 pub mod MadeEvents
 pub mod Clones
-pub mod call_tables
+pub mod CallTables
 pub mod Equals
 pub mod NotedOutcomes
 pub mod FreeRuns
@@ -24,11 +24,11 @@ pub mod SearchedStates
 pub mod ShownRuns
 pub mod GivenUpRuns
 pub mod SearchGoals
-pub mod locksets
-pub mod text_walks
-pub mod ranked_locks
-pub mod reduced
-pub mod allowed_runs
+pub mod Locksets
+pub mod TextWalks
+pub mod RankedLocks
+pub mod Reduced
+pub mod AllowedRuns
 pub mod Determined
 pub mod KeptStates
 pub mod TrimmedWords
@@ -37,3 +37,4 @@ pub mod CountedStates
 pub mod CutScripts
 pub mod MemoryOutcomes
 pub mod ReportedWords
+pub mod PrefixRuns

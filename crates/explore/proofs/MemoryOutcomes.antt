@@ -7,7 +7,7 @@ use Rattle.base.specs.InOrderOnce.{Has}
 use Rattle.base.proofs.JoinedLists.{joined_list_has-cons, joined_list_has-nil}
 use Rattle.indexmap.specs.IndexMap.{insert_entry}
 use Rattle.conformance.specs.declared.schedule.Schedule.{Schedule}
-use Rattle.explore.specs.declared.explored.ScriptOutcome.{ScriptOutcome}
+use Rattle.explore.specs.declared.outcomes.answer.ScriptOutcome.{ScriptOutcome}
 use Rattle.explore.specs.Explored.{explored_outcome}
 use Rattle.explore.proofs.Equals.{equal_outcome_same, equal_rows, outcome_equal}
 

@@ -12,16 +12,16 @@ use Rattle.lrc_script.specs.Plan.{Plan}
 use Rattle.lrc_report.specs.declared.report.Report.{Report}
 use Rattle.conformance.specs.Follows.{Follows, calls_of, load_of}
 use Rattle.conformance.specs.ScriptReports.{ScriptReportHasHistory}
-use Rattle.explore.specs.declared.outcome_telling.Detail.TheVariants as detail
-use Rattle.explore.specs.declared.outcome_telling.OutcomeTelling.{OutcomeTelling}
+use Rattle.explore.specs.declared.outcomes.telling.Detail.TheVariants as detail
+use Rattle.explore.specs.declared.outcomes.telling.OutcomeTelling.{OutcomeTelling}
 use Rattle.explore.specs.declared.prefixes.script_call.ScriptCall.{ScriptCall}
 use Rattle.explore.specs.OutcomeTelling.{is_told_by_outcome_telling, outcome_telling_of_script, outcome_telling_replies, outcome_telling_reply, outcome_telling_steps, outcome_telling_words}
 use Rattle.explore.specs.Machines.{machine_rows}
 use Rattle.explore.specs.Prefixes.ScriptCalls.{script_calls_of_section, script_calls_shown_by}
 use Rattle.explore.proofs.MachineReplies.{machine_reply_row_push}
 use Rattle.explore.proofs.ToldReplies.{told_replies_end_shown}
-use Rattle.explore.proofs.prefixes.Beginnings.{prefix_beginning_of_followed}
-use Rattle.explore.proofs.prefixes.SectionCalls.{section_calls_follows_length}
+use Rattle.explore.proofs.PrefixRuns.Beginnings.{prefix_beginning_of_followed}
+use Rattle.explore.proofs.PrefixRuns.SectionCalls.{section_calls_follows_length}
 
 reported_words_untold : (k : Kind) → outcome_telling_reply false k ++ [] ≡ []
 reported_words_untold k = refl

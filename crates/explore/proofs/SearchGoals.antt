@@ -6,11 +6,11 @@ use Rattle.std.proofs.lemmas.Option.{slice_get_within}
 use Rattle.journal.specs.declared.event.Event.{Event}
 use Rattle.lrc_script.specs.Plan.{Plan}
 use Rattle.explore.specs.declared.prefixes.script_call.ScriptCall.{ScriptCall}
-use Rattle.explore.specs.declared.flat_state.FlatState.{FlatState}
+use Rattle.explore.specs.declared.state.flat_state.FlatState.{FlatState}
 use Rattle.explore.specs.declared.search.Search.{Search}
 use Rattle.explore.specs.declared.search.SearchEnd.{SearchEnd}
-use Rattle.explore.specs.declared.showing.Showing.{Showing}
-use Rattle.explore.specs.declared.showing.Showing.TheVariants.{Shown, Never, Racy, Undecided}
+use Rattle.explore.specs.declared.outcomes.showing.Showing.{Showing}
+use Rattle.explore.specs.declared.outcomes.showing.Showing.TheVariants.{Shown, Never, Racy, Undecided}
 use Rattle.explore.specs.FoundStates.{AreFoundStates, KeepsFoundStates, found_states}
 use Rattle.explore.specs.Machines.{AreLawfulMachineSteps, MachineKnows}
 use Rattle.explore.specs.EndingWords.{IsRunEndingWithWords, NoRunEndsWithWords, are_ending_words_settled}
@@ -18,7 +18,7 @@ use Rattle.explore.specs.FlatSearchEnds.{FlatSearchedWithout, IsFlatSearchShowin
 use Rattle.explore.specs.SearchGoals.{IsGoalMetAt, IsGoalUnmet}
 use Rattle.explore.proofs.MachineSteps.{machine_step_some_at}
 use Rattle.explore.proofs.SearchedStates.{searched_states_reach_lasting, searched_state_was_at}
-use Rattle.explore.proofs.reduced.Ends.{reduced_ends_words_last}
+use Rattle.explore.proofs.Reduced.Ends.{reduced_ends_words_last}
 
 -- one more state isn't what is looked for, and others were found
 pub goal_unmet_next : (s : Plan) (P : List Event → Type 0) (old new : List FlatState) (n : ℕ) → KeepsFoundStates old new → n < length old

@@ -11,7 +11,7 @@ use Rattle.judge.specs.KeptStores.{AreKeptStoresOf}
 use Rattle.lrc_script.specs.Lawful.{IsLawful, plan_addresses}
 use Rattle.lrc_script.specs.Plan.{Plan}
 use Rattle.conformance.specs.Follows.{plan_sizes}
-use Rattle.explore.specs.declared.allowed_beginning.AllowedBeginning.{AllowedBeginning}
+use Rattle.explore.specs.declared.rules.beginning.AllowedBeginning.{AllowedBeginning}
 use Rattle.explore.specs.AllowedRuns.{IsAllowedRunBeginning}
 use Rattle.explore.specs.Prefixes.ScriptCalls.{ScriptCallsNext, replyless_script_call}
 use Rattle.explore.specs.KeptWaiting.{TellsKeptWaiting}

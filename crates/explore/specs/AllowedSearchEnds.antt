@@ -5,13 +5,13 @@ use Rattle.journal.specs.declared.event.Event.{Event}
 use Rattle.journal.specs.declared.event.Kind.{Kind}
 use Rattle.journal.specs.declared.event.Kind.TheVariants.{Load}
 use Rattle.lrc_script.specs.Plan.{Plan}
-use Rattle.explore.specs.declared.allowed_search.AllowedEnd.{AllowedEnd}
-use Rattle.explore.specs.declared.allowed_search.AllowedEnd.TheVariants.{Ending, Through, GivenUp}
-use Rattle.explore.specs.declared.allowed_search.AllowedLooked.{AllowedLooked}
-use Rattle.explore.specs.declared.allowed_search.AllowedSearch.{AllowedSearch}
+use Rattle.explore.specs.declared.rules.search.AllowedEnd.{AllowedEnd}
+use Rattle.explore.specs.declared.rules.search.AllowedEnd.TheVariants.{Ending, Through, GivenUp}
+use Rattle.explore.specs.declared.rules.search.AllowedLooked.{AllowedLooked}
+use Rattle.explore.specs.declared.rules.search.AllowedSearch.{AllowedSearch}
 use Rattle.explore.specs.declared.goal.Goal.{Goal}
 use Rattle.explore.specs.declared.goal.Goal.TheVariants.{All, Until}
-use Rattle.explore.specs.declared.outcome_telling.Detail.{Detail}
+use Rattle.explore.specs.declared.outcomes.telling.Detail.{Detail}
 use Rattle.explore.specs.AllowedBeginnings.{TellsAllowedBeginning, allowed_beginning_events}
 use Rattle.explore.specs.AllowedRuns.{HasAllowedRunBeginnings}
 use Rattle.explore.specs.AllowedSearch.{IsAllowedSearched, allowed_search_found}

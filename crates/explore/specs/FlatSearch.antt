@@ -12,15 +12,15 @@ use Rattle.lrc_script.specs.Plan.{Plan}
 use Rattle.conformance.specs.Follows.{Follows}
 use Rattle.explore.specs.declared.prefixes.script_call.ScriptCall.{ScriptCall}
 use Rattle.explore.specs.Prefixes.FlatBeginnings.{IsFlatBeginning, IsFlatBeginningHanging}
-use Rattle.explore.specs.declared.flat_state.FlatState.{FlatState}
-use Rattle.explore.specs.declared.neighbours.Neighbours.{Neighbours}
+use Rattle.explore.specs.declared.state.flat_state.FlatState.{FlatState}
+use Rattle.explore.specs.declared.search.neighbours.Neighbours.{Neighbours}
 use Rattle.explore.specs.declared.search.Met.{Met}
 use Rattle.explore.specs.declared.search.Search.{Search}
-use Rattle.explore.specs.declared.explored.Hanging.{Hanging}
-use Rattle.explore.specs.declared.explored.Hanging.TheVariants as hanging
-use Rattle.explore.specs.declared.explored.Verdict.{Verdict}
-use Rattle.explore.specs.declared.explored.Verdict.TheVariants as verdict
-use Rattle.explore.specs.declared.explored.ScriptOutcome.{ScriptOutcome}
+use Rattle.explore.specs.declared.outcomes.answer.Hanging.{Hanging}
+use Rattle.explore.specs.declared.outcomes.answer.Hanging.TheVariants as hanging
+use Rattle.explore.specs.declared.outcomes.answer.Verdict.{Verdict}
+use Rattle.explore.specs.declared.outcomes.answer.Verdict.TheVariants as verdict
+use Rattle.explore.specs.declared.outcomes.answer.ScriptOutcome.{ScriptOutcome}
 use Rattle.explore.specs.Explored.{explored_outcome}
 use Rattle.explore.specs.NotedOutcomes.{noted_outcomes}
 use Rattle.explore.specs.FreeChoice.{IsFreeForChoice}

@@ -4,14 +4,14 @@ use Rattle.std.specs.Global.{Vec}
 use Rattle.base.specs.Prelude.{most_processors}
 use Rattle.journal.specs.declared.event.Event.{Event}
 use Rattle.lrc_script.specs.Plan.{Plan}
-use Rattle.explore.specs.declared.outcome_telling.Detail.{Detail}
+use Rattle.explore.specs.declared.outcomes.telling.Detail.{Detail}
 use Rattle.explore.specs.declared.prefixes.script_call.ScriptCall.{ScriptCall}
 use Rattle.explore.specs.declared.search.Met.{Met}
 use Rattle.explore.specs.declared.search.Met.TheVariants.{Ending, Conflict}
 use Rattle.explore.specs.declared.search.Search.{Search}
 use Rattle.explore.specs.declared.search.SearchEnd.{SearchEnd}
-use Rattle.explore.specs.declared.showing.Showing.{Showing}
-use Rattle.explore.specs.declared.showing.Showing.TheVariants.{Undecided}
+use Rattle.explore.specs.declared.outcomes.showing.Showing.{Showing}
+use Rattle.explore.specs.declared.outcomes.showing.Showing.TheVariants.{Undecided}
 use Rattle.explore.specs.FlatSearch.{FlatSearchedUpTo, IsFlatSearched}
 use Rattle.explore.specs.FoundStates.{found_states}
 use Rattle.explore.specs.OutcomeTelling.{outcome_telling_of_script}

@@ -9,8 +9,8 @@ use Rattle.conformance.specs.declared.ended.Ended.TheVariants.{Whole}
 use Rattle.conformance.specs.declared.schedule.Schedule.{Schedule}
 use Rattle.conformance.specs.declared.schedule.ScheduleFault.{ScheduleFault}
 use Rattle.conformance.specs.ScriptReports.{ScriptReportHasHistory}
-use Rattle.explore.specs.declared.explored.ScriptOutcome.{ScriptOutcome}
-use Rattle.explore.specs.declared.outcome_telling.Detail.{Detail}
+use Rattle.explore.specs.declared.outcomes.answer.ScriptOutcome.{ScriptOutcome}
+use Rattle.explore.specs.declared.outcomes.telling.Detail.{Detail}
 use Rattle.explore.specs.Explored.{explored_outcome}
 use Rattle.explore.specs.OutcomeTelling.{AreOutcomeTellingReplies, outcome_telling_of_script}
 use Rattle.explore.specs.declared.memory.shown.MemoryShowing.{MemoryShowing}

@@ -2,7 +2,7 @@
 use Rattle.std.specs.Prelude.{ℕ, ◌<◌, List, Some, ◌≡◌, length, slice_get}
 use Rattle.journal.specs.declared.event.Event.{Event}
 use Rattle.lrc_script.specs.Plan.{Plan}
-use Rattle.explore.specs.declared.flat_state.FlatState.{FlatState}
+use Rattle.explore.specs.declared.state.flat_state.FlatState.{FlatState}
 use Rattle.explore.specs.declared.goal.Goal.{Goal}
 use Rattle.explore.specs.declared.goal.Goal.TheVariants.{All, Until}
 use Rattle.explore.specs.EndingWords.{IsRunEndingWithWords}

@@ -6,8 +6,8 @@ ghost use Rattle.explore.specs.Machines.{AreLawfulMachineSteps, IsMachineRunning
 ghost use Rattle.explore.specs.EndingWords.{IsRunEndingWithWords};
 ghost use Rattle.explore.specs.SearchGoals.{IsRunOfGoal};
 
-use crate::flat_state::FlatState;
 use crate::prefixes::ScriptCall;
+use crate::state::flat_state::FlatState;
 
 /// What a search looks for.
 #[derive(Clone, Copy)]

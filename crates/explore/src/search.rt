@@ -9,34 +9,44 @@ ghost use Rattle.explore.specs.Prefixes.Prelude.{AreFlatBeginningsRaceFree, IsFl
 ghost use Rattle.journal.specs.declared.event.Event.{Event as AnEvent};
 ghost use Rattle.explore.specs.FreeChoice.{AreFreeChoiceTextFacts};
 ghost use Rattle.explore.specs.Explored.{AreExploredOutcomes, IsExplored, IsExploredHang, IsExploredHanging, IsExploredVerdict, IsRunOfShownOutcome, explored_outcome, shown_outcome};
-ghost use Rattle.explore.specs.declared.explored.ShownOutcome.{ShownOutcome as AShownOutcome};
+ghost use Rattle.explore.specs.declared.outcomes.answer.ShownOutcome.{ShownOutcome as AShownOutcome};
 ghost use Rattle.base.specs.InOrderOnce.{Has};
 ghost use Rattle.explore.specs.FoundStates.{AreFoundStates, HasRoomForStates, IsFoundStateAt, KeepsFoundStates, found_states};
 ghost use Rattle.explore.specs.Origins.{most_state_origins};
 ghost use Rattle.explore.specs.Machines.{AreLawfulMachineSteps};
 ghost use Rattle.explore.specs.SearchGoals.{IsRunOfGoal};
 ghost use Rattle.explore.specs.StateRoom.{state_room_at_most};
-ghost use Rattle.explore.specs.declared.outcome_telling.Detail.{Detail as ADetail};
+ghost use Rattle.explore.specs.declared.outcomes.telling.Detail.{Detail as ADetail};
 ghost use Rattle.explore.specs.OutcomeTelling.{outcome_telling_of_script};
 ghost use Rattle.explore.specs.FlatSearch.{FlatSearchHasHang, IsFlatSearchedAt, AreFlatSearchNotes, FlatSearchedUpTo, HasMoreToFlatSearch};
 ghost use Rattle.explore.specs.FlatSearch.{AreFlatSearchPlaces, IsFlatSearchHangingOpen, IsFlatSearchVerdictOpen, IsFlatSearched, MayNoteInFlatSearch};
 ghost use Rattle.explore.specs.FlatSearchEnds.{IsFlatSearchEnd, IsFlatSearchedThrough, IsMetByFlatSearch};
 ghost use Rattle.explore.specs.NotedOutcomes.{IsNotedOutcome, noted_outcomes};
 
-use crate::explored::{Explored, Hang, Hanging, ScriptOutcome, ShownOutcome, Verdict};
-use crate::flat_state::FlatState;
-use crate::found_states::FoundStates;
-use crate::free_choice::free_choice;
+pub mod free_choice;
+pub mod free_run;
+pub mod neighbours;
+pub mod persistent_set;
+pub mod racing_history;
+pub mod until;
+pub mod whole_run;
+
 use crate::goal::Goal;
-use crate::guarded::are_all_guarded;
-use crate::neighbours::{Neighbours, are_neighbours_over, neighbour_nexts_of, neighbours_in};
-use crate::outcome_telling::Detail;
+use crate::outcomes::answer::{Explored, Hang, Hanging, ScriptOutcome, ShownOutcome, Verdict};
+use crate::outcomes::telling::Detail;
 use crate::prefixes::{ScriptCall, script_calls_of_all};
 use crate::progress::Progress;
-use crate::racing_history::racing_history;
-use crate::state_room::state_room_at_most;
-use crate::text_facts::{TextFacts, text_facts};
-use crate::whole_run::{never_gets_stuck_by_text, shown_whole_run};
+use crate::search::free_choice::free_choice;
+use crate::search::neighbours::{
+    Neighbours, are_neighbours_over, neighbour_nexts_of, neighbours_in,
+};
+use crate::search::racing_history::racing_history;
+use crate::search::whole_run::{never_gets_stuck_by_text, shown_whole_run};
+use crate::state::flat_state::FlatState;
+use crate::state::found_states::FoundStates;
+use crate::state::room::state_room_at_most;
+use crate::text::facts::{TextFacts, text_facts};
+use crate::text::guards::are_all_guarded;
 use indexmap::IndexMap;
 use lrc_script::script::Script;
 use std::alloc::{AllocError, Global};

@@ -9,13 +9,13 @@ use Rattle.conformance.specs.ScheduleTexts.{IsScheduleText, schedule_orders}
 use Rattle.lrc_script.specs.Plan.{Plan}
 use Rattle.explore.specs.Explored.{IsExplored}
 use Rattle.explore.specs.EndingWords.{IsExploredUntil}
-use Rattle.explore.specs.declared.explored.Explored.{Explored}
-use Rattle.explore.specs.declared.explored.RacyEvents.{RacyEvents}
-use Rattle.explore.specs.declared.explored.Verdict.{Verdict}
-use Rattle.explore.specs.declared.explored.Verdict.TheVariants.{RaceFree, Racy, Undecided}
-use Rattle.explore.specs.declared.showing.ExploredUntil.{ExploredUntil}
-use Rattle.explore.specs.declared.showing.Showing.{Showing}
-use Rattle.explore.specs.declared.showing.Showing.TheVariants as showing
+use Rattle.explore.specs.declared.outcomes.answer.Explored.{Explored}
+use Rattle.explore.specs.declared.outcomes.answer.RacyEvents.{RacyEvents}
+use Rattle.explore.specs.declared.outcomes.answer.Verdict.{Verdict}
+use Rattle.explore.specs.declared.outcomes.answer.Verdict.TheVariants.{RaceFree, Racy, Undecided}
+use Rattle.explore.specs.declared.outcomes.showing.ExploredUntil.{ExploredUntil}
+use Rattle.explore.specs.declared.outcomes.showing.Showing.{Showing}
+use Rattle.explore.specs.declared.outcomes.showing.Showing.TheVariants as showing
 use Rattle.lrc_explore.specs.Showings.{AreShowingWords}
 use Rattle.lrc_program.specs.Served.{IsServedWithoutScript, IsServedScriptRead}
 use Rattle.lrc_options.specs.declared.options.ExplainOptions.{ExplainOptions}

@@ -6,21 +6,21 @@ use Rattle.explore.specs.AllowedRuns.{AreAllowedRunOutcomes}
 use Rattle.explore.specs.AllowedUntil.{IsAllowedUntil, is_allowed_until_settled}
 use Rattle.explore.specs.Explored.{IsExplored, is_explored_settled}
 use Rattle.explore.specs.EndingWords.{IsExploredUntil, are_ending_words_settled}
-use Rattle.explore.specs.declared.allowed.AllowedOutcomes.{AllowedOutcomes}
-use Rattle.explore.specs.declared.allowed_showing.AllowedUntil.{AllowedUntil}
-use Rattle.explore.specs.declared.explored.Explored.{Explored}
-use Rattle.explore.specs.declared.explored.Verdict.{Verdict}
-use Rattle.explore.specs.declared.explored.Verdict.TheVariants.{Racy}
-use Rattle.explore.specs.declared.showing.ExploredUntil.{ExploredUntil}
-use Rattle.explore.specs.declared.showing.Showing.{Showing}
-use Rattle.explore.specs.declared.showing.Showing.TheVariants as showing
+use Rattle.explore.specs.declared.rules.showing.AllowedOutcomes.{AllowedOutcomes}
+use Rattle.explore.specs.declared.rules.showing.AllowedUntil.{AllowedUntil}
+use Rattle.explore.specs.declared.outcomes.answer.Explored.{Explored}
+use Rattle.explore.specs.declared.outcomes.answer.Verdict.{Verdict}
+use Rattle.explore.specs.declared.outcomes.answer.Verdict.TheVariants.{Racy}
+use Rattle.explore.specs.declared.outcomes.showing.ExploredUntil.{ExploredUntil}
+use Rattle.explore.specs.declared.outcomes.showing.Showing.{Showing}
+use Rattle.explore.specs.declared.outcomes.showing.Showing.TheVariants as showing
 use Rattle.lrc_explore.specs.AllowedShowings.{AllowedShowingWritten}
 use Rattle.lrc_explore.specs.AllowedTexts.{AllowedTextWritten}
 use Rattle.explore.specs.declared.memory.shown.MemoryUntil.{MemoryUntil}
 use Rattle.lrc_explore.specs.Showings.{AreShowingWords, ShowingWritten}
 use Rattle.lrc_explore.specs.ExploreTexts.{ExploreTextWritten}
-use Rattle.explore.specs.declared.outcome_telling.Detail.{Detail}
-use Rattle.explore.specs.declared.outcome_telling.Detail.TheVariants as detail
+use Rattle.explore.specs.declared.outcomes.telling.Detail.{Detail}
+use Rattle.explore.specs.declared.outcomes.telling.Detail.TheVariants as detail
 use Rattle.lrc_options.specs.declared.options.ExploreOptions.{ExploreOptions}
 use Rattle.lrc_options.specs.declared.options.OutcomeDetail.{OutcomeDetail}
 use Rattle.lrc_options.specs.declared.options.OutcomeDetail.TheVariants as outcomes

@@ -4,13 +4,13 @@ ghost use Rattle.journal.specs.declared.event.Event.{Event};
 ghost use Rattle.lrc_script.specs.Prelude.{IsLawful, plan_of};
 ghost use Rattle.conformance.specs.CutInstructions.{HasNoCutInstruction};
 ghost use Rattle.conformance.specs.ScriptReports.{IsScriptReport, ScriptReportHasHistory};
-ghost use Rattle.explore.specs.declared.outcome_telling.Detail.TheVariants as told;
+ghost use Rattle.explore.specs.declared.outcomes.telling.Detail.TheVariants as told;
 ghost use Rattle.explore.specs.Explored.{explored_outcome};
 ghost use Rattle.explore.specs.OutcomeTelling.{AreOutcomeTellingReplies, outcome_telling_of_script};
 
-use crate::explored::ScriptOutcome;
-use crate::outcome_telling::Detail;
-use crate::run_outcomes::outcome_of_run;
+use crate::outcomes::answer::ScriptOutcome;
+use crate::outcomes::of_run::outcome_of_run;
+use crate::outcomes::telling::Detail;
 use lrc_report::Report;
 use lrc_script::script::Script;
 use std::alloc::{AllocError, Global};

@@ -5,15 +5,15 @@ ghost use Rattle.conformance.specs.CutInstructions.{HasCutInstruction, HasNoCutI
 ghost use Rattle.lrc_script.specs.declared.script.Instruction.TheVariants.{Cut};
 ghost use Rattle.lrc_script.specs.Prelude.{IsLawful, plan_of};
 ghost use Rattle.base.specs.InOrderOnce.{Has};
-ghost use Rattle.explore.specs.declared.outcome_telling.Detail.TheVariants as told;
+ghost use Rattle.explore.specs.declared.outcomes.telling.Detail.TheVariants as told;
 ghost use Rattle.explore.specs.Explored.{explored_outcome};
 ghost use Rattle.explore.specs.MemoryShown.{IsMemoryShowing, IsMemoryShown, IsMemoryShownMore, IsMemoryUntil, IsShownBySchedule};
 
-use crate::explored::{ScriptOutcome, explored_outcome_parts};
 use crate::memory::orders::Order;
 use crate::memory::reported_outcome::outcome_of_report;
 use crate::memory::uses::ScriptUses;
-use crate::outcome_telling::Detail;
+use crate::outcomes::answer::{ScriptOutcome, explored_outcome_parts};
+use crate::outcomes::telling::Detail;
 use book::Refused;
 use conformance::{Cause, Ended, LockChoice, RunFault, Schedule, ScheduleFault, ScriptRunner};
 use indexmap::IndexMap;

@@ -5,9 +5,9 @@ use Rattle.lrc_report.specs.declared.report.Report.{Report}
 use Rattle.conformance.specs.CutInstructions.{HasNoCutInstruction}
 use Rattle.conformance.specs.Follows.{Follows}
 use Rattle.conformance.specs.ScriptReports.{IsScriptReport, ScriptReportHasHistory}
-use Rattle.explore.specs.declared.explored.ScriptOutcome.{ScriptOutcome}
-use Rattle.explore.specs.declared.outcome_telling.Detail.{Detail}
-use Rattle.explore.specs.declared.outcome_telling.Detail.TheVariants.{Words}
+use Rattle.explore.specs.declared.outcomes.answer.ScriptOutcome.{ScriptOutcome}
+use Rattle.explore.specs.declared.outcomes.telling.Detail.{Detail}
+use Rattle.explore.specs.declared.outcomes.telling.Detail.TheVariants.{Words}
 use Rattle.explore.specs.Explored.{explored_outcome}
 use Rattle.explore.specs.OutcomeTelling.{AreOutcomeTellingReplies, outcome_telling_of_script}
 use Rattle.explore.proofs.Clones.{clone_if_ok}

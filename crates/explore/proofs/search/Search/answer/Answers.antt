@@ -9,9 +9,9 @@ use Rattle.explore.specs.TextGuards.{AreGuardedByText}
 use Rattle.explore.specs.Machines.{AreLawfulMachineSteps}
 use Rattle.explore.specs.Prefixes.FlatBeginnings.{AreFlatBeginningsRaceFree}
 use Rattle.lrc_script.specs.Lawful.{plan_addresses}
-use Rattle.explore.proofs.locksets.TextGuardLaw.{text_guard_law}
-use Rattle.explore.proofs.locksets.Noted.{lockset_noted_address_within, lockset_noted_rows_within, lockset_noted_unused_guarded}
-use Rattle.explore.proofs.prefixes.Neighbours.NoNeighbours.{no_neighbours_law}
+use Rattle.explore.proofs.Locksets.TextGuardLaw.{text_guard_law}
+use Rattle.explore.proofs.Locksets.Noted.{lockset_noted_address_within, lockset_noted_rows_within, lockset_noted_unused_guarded}
+use Rattle.explore.proofs.PrefixRuns.Neighbours.NoNeighbours.{no_neighbours_law}
 use Rattle.explore.specs.FlatSearch.{IsFlatSearched}
 use Rattle.explore.proofs.SearchedStates.{searched_states_all_outcomes, searched_states_without_neighbours, searched_states_open_only, searched_states_some_outcomes}
 use Rattle.explore.proofs.search.Search.answer.Goals as goal

@@ -1,6 +1,0 @@
-use Rattle.std.proofs.Common.{take}
-use Rattle.explore.specs.AllowedAnswers.{AreAllowedAnswersOf}
-use Rattle.explore.proofs.allowed_answers.allowed_answers_of.Given as goal
-
-abbrev pub invariant-loop-store : goal.invariant-loop-store
-invariant-loop-store l = AreAllowedAnswersOf (take l.store-index l.stores) l.answers.items
