@@ -22,6 +22,7 @@ mod check_fault;
 mod checked;
 mod checking_traces;
 mod history_judge;
+mod kept_lists;
 mod labelled_accesses;
 mod telling_traces;
 mod told_events;
