@@ -15,8 +15,8 @@ loop-store-preserved c =
     let stores = c.args.stores.now in
     let n = c.loop-store.store-index in
     let s = slice_index_or stores n none in
-    let new = c.add_allowed_answer.new.answers.items in
+    let new = c.add_answer.new.answers.items in
     let one : suc n ≡ n + 1 = omega arith in
     let front = sym (ap (λ k. take k stores) one) ∙ slice_take-suc_at stores n s (slice_get-get_or stores n none c.loop-store-test.true) in
     subst (λ xs. AreAllowedAnswersOf xs new) (sym front)
-    (allowed_values_next (take n stores) s c.loop-store.answers.items new c.loop-store.invariant c.in_ok-add_allowed_answer.ensures)
+    (allowed_values_next (take n stores) s c.loop-store.answers.items new c.loop-store.invariant c.in_ok-add_answer.ensures)
