@@ -6,8 +6,8 @@ use Rattle.lrc_script.specs.Lawful.{IsLawful}
 use Rattle.lrc_script.specs.ScriptFaults.{IsScriptFault}
 use Rattle.lrc_script.specs.Plan.{Plan}
 use Rattle.lrc_script.specs.ScriptLines.{text}
-use Rattle.explore.specs.declared.explored.Explored.{Explored}
-use Rattle.explore.specs.declared.outcome_telling.Detail.TheVariants as detail
+use Rattle.explore.specs.declared.outcomes.answer.Explored.{Explored}
+use Rattle.explore.specs.declared.outcomes.telling.Detail.TheVariants as detail
 use Rattle.explore.specs.Explored.{IsExplored}
 use Rattle.c_library.specs.declared.call_fault.CallFault.{CallFault}
 use Rattle.c_library.specs.declared.call_fault.CallFault.TheVariants.{BadScript, NoMemory}

@@ -4,11 +4,11 @@ use Rattle.std.specs.List.{range_with_len}
 use Rattle.journal.specs.declared.event.Event.{Event}
 use Rattle.journal.specs.declared.event.Kind.{Kind}
 use Rattle.journal.specs.declared.event.Kind.TheVariants.{Load, Store, Fetch, Ask, Acquire, Release, Arrive, Depart, Set, Watch, Await}
-use Rattle.explore.specs.declared.explored.Explored.{Explored}
-use Rattle.explore.specs.declared.explored.Hanging.{Hanging}
-use Rattle.explore.specs.declared.explored.Hanging.TheVariants as hanging
-use Rattle.explore.specs.declared.explored.Verdict.{Verdict}
-use Rattle.explore.specs.declared.explored.Verdict.TheVariants as verdict
+use Rattle.explore.specs.declared.outcomes.answer.Explored.{Explored}
+use Rattle.explore.specs.declared.outcomes.answer.Hanging.{Hanging}
+use Rattle.explore.specs.declared.outcomes.answer.Hanging.TheVariants as hanging
+use Rattle.explore.specs.declared.outcomes.answer.Verdict.{Verdict}
+use Rattle.explore.specs.declared.outcomes.answer.Verdict.TheVariants as verdict
 use Rattle.c_library.specs.declared.told_verdict.TheConstants.{NONE}
 use Rattle.c_library.specs.declared.told_exploration.ToldAccess.{ToldAccess}
 use Rattle.c_library.specs.declared.told_exploration.ToldConflict.{ToldConflict}

@@ -47,7 +47,7 @@ fn judge_given(
     ensures refused { IfErr result (IsGivenJudgedFault sizes rules events.now) }
 {
     let history = given_judged_events(alloc, sizes, rules, events)?;
-    let found = judge_history(alloc, sizes.sizes(), &history, rules.rules())?;
+    let (found, _) = judge_history(alloc, sizes.sizes(), &history, rules.rules())?;
     Ok(told_verdict(&found))
 }
 

@@ -8,7 +8,7 @@ use crate::given_judged::given_judged_events;
 use crate::told_verdict::told_verdict;
 use crate::told_words::{ToldLocksets, ToldWord, write_told_words};
 use judge::locksets::{LocksetWords, Unprotected};
-use lrc_check::{Checked, Rules, judge_whole_history};
+use lrc_check::{Checked, Rules, judge_history};
 use std::alloc::Global;
 
 /// The words that the number names.
@@ -45,7 +45,7 @@ fn judge_given_locksets(
         locksets: Some(given_lockset_words(which)),
         ..rules.rules()
     };
-    let found = judge_whole_history(alloc, judged, &history, rules)?;
+    let found = judge_history(alloc, judged, &history, rules)?;
     Ok(found)
 }
 

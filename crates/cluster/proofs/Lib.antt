@@ -1,4 +1,5 @@
 pub mod MayAccessAndFetch
+pub mod ReadyAccess
 pub mod Access
 pub mod NotedEvents
 pub mod CountedGapStores

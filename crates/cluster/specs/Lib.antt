@@ -5,6 +5,7 @@ pub mod KeptViews
 pub mod Entering
 pub mod Covers
 pub mod ProcessorCalls
+pub mod ReadyAccess
 pub mod CatchingUp
 pub mod ClosingCalls
 pub mod TakingCalls

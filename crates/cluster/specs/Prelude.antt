@@ -1,6 +1,6 @@
 -- The words that contracts name, passed on from one place. Declares nothing.
 pub use Rattle.cluster.specs.SeatedProcessor.{IsChairOfSeatedProcessor, seated_processor}
-pub use Rattle.cluster.specs.ProcessorRefusals.{processor_refusal_of_access, processor_refusal_of_arrival, processor_refusal_of_ask, processor_refusal_of_closing, processor_refusal_of_event}
+pub use Rattle.cluster.specs.ProcessorRefusals.{processor_refusal_at_once, processor_refusal_of_access, processor_refusal_of_arrival, processor_refusal_of_ask, processor_refusal_of_closing, processor_refusal_of_event}
 pub use Rattle.cluster.specs.ProcessorRefusals.{processor_refusal_of_fetch, processor_refusal_of_flag, processor_refusal_has_valid, processor_refusal_is_waiting, processor_refusal_page_of, processor_refusal_of_release}
 pub use Rattle.cluster.specs.ProcessorRefusals.{processor_refusal_of_take}
 pub use Rattle.cluster.specs.AccessDone.{LoadAccessDone, FetchAccessDone, StoreAccessDone}

@@ -53,6 +53,10 @@ processor_refusal_of_access m a = first_processor_refusal_due (
     ∷ (processor_refusal_is_waiting m, Waiting)
     ∷ (processor_refusal_block_full m, BlockFull) ∷ [])
 
+-- why an access of this address is refused, whatever copy and block it finds
+abbrev pub processor_refusal_at_once : Local → ℕ → Option Refused
+processor_refusal_at_once m a = first_processor_refusal_due ((processor_refusal_is_waiting m, Waiting) ∷ (nat_le (addresses m.sizes) a, OutOfRange) ∷ [])
+
 -- why a fetch of this page is refused
 abbrev pub processor_refusal_of_fetch : Local → ℕ → Option Refused
 processor_refusal_of_fetch m n = first_processor_refusal_due (

@@ -5,6 +5,7 @@ ghost use Rattle.cluster.specs.Copies.Prelude.{AreSoundSizes};
 ghost use Rattle.cluster.specs.Prelude.{AreNewClusterParts, AreNewClusterChairs, IsNewClusterSeated, IsNewCluster, HasClusterCoverage};
 ghost use Rattle.cluster.specs.Prelude.{HasNewClusterChairs, IsClusterLockOf};
 
+mod accessing;
 mod calls;
 mod catching_up;
 mod closing_calls;
@@ -15,6 +16,7 @@ mod flush_and_audit;
 mod taking;
 mod waiting;
 
+pub use self::accessing::WordAccess;
 use self::finishing::FinishingRoom;
 use crate::bells::Bells;
 use crate::keeper::{BookTurn, Rule};

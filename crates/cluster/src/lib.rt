@@ -24,7 +24,7 @@ mod processor;
 mod shape;
 mod waited;
 
-pub use cluster::Cluster;
+pub use cluster::{Cluster, WordAccess};
 pub use keeper::{BookLock, BookTurn, Rule, TicketBookLock, View};
 pub use processor::Processor;
 pub use shape::Shape;

@@ -11,11 +11,11 @@ use Rattle.journal.specs.DidEvent.{did, event}
 use Rattle.lrc_script.specs.Plan.{Plan}
 use Rattle.std.specs.Global.{Vec}
 use Rattle.explore.specs.declared.prefixes.script_call.ScriptCall.{ScriptCall}
-use Rattle.explore.specs.declared.found_states.FoundStates.{FoundStates}
-use Rattle.explore.specs.declared.flat_state.FlatState.{FlatState}
-use Rattle.explore.specs.declared.kept_state.KeptState.{KeptState}
-use Rattle.explore.specs.declared.kept_state.StateParts.{StateParts}
-use Rattle.explore.specs.declared.wait_code.ProcessorNumber.{ProcessorNumber}
+use Rattle.explore.specs.declared.state.found_states.FoundStates.{FoundStates}
+use Rattle.explore.specs.declared.state.flat_state.FlatState.{FlatState}
+use Rattle.explore.specs.declared.state.kept_state.KeptState.{KeptState}
+use Rattle.explore.specs.declared.state.kept_state.StateParts.{StateParts}
+use Rattle.explore.specs.declared.state.wait_code.ProcessorNumber.{ProcessorNumber}
 use Rattle.explore.specs.FoundStates.{AreFoundStates, AreFoundStatesKept, IsFoundStateOrigin, FoundStateAdded, IsFoundState, KeepsFoundStates, FoundStateWasPushed, FoundStateWasThere, found_states}
 use Rattle.explore.specs.Origins.{AreOriginsInOrder, StateOrigin, state_origins}
 use Rattle.explore.specs.KeptStates.{AreFewStateParts, AreOfOneSearch, AreStatePartsOnce, AreTrimmedMemories, IsKeptStateWithin, IsStateKept, opened_state}

@@ -18,8 +18,8 @@ use Rattle.journal.proofs.Journals.WellFormedStays.{well_formed_stays_last_uniqu
 use Rattle.judge.specs.Why.{WhyWaitsFor}
 use Rattle.explore.specs.KeptWaiting.{KeptWaitingAsksAt, IsKeptWaitingForLock, IsFirstKeptWaiting, TellsKeptWaiting}
 use Rattle.explore.specs.WaitCodes.{WaitCodesAreKept, wait_code_ending, wait_code_holder, wait_code_nobody}
-use Rattle.explore.specs.declared.wait_code.WaitCode.{WaitCode}
-use Rattle.explore.specs.declared.waiting.Waiting.{Waiting}
+use Rattle.explore.specs.declared.state.wait_code.WaitCode.{WaitCode}
+use Rattle.explore.specs.declared.state.waits.Waiting.{Waiting}
 use Rattle.explore.proofs.WaitCodes.{wait_code_ending_lock}
 
 -- who asks for a lock waits for it

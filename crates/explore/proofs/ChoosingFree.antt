@@ -10,8 +10,8 @@ use Rattle.journal.specs.declared.event.Kind.TheVariants.{Ask, Set}
 use Rattle.lrc_script.specs.Plan.{Plan}
 use Rattle.explore.specs.declared.prefixes.script_call.ScriptCall.{ScriptCall}
 use Rattle.explore.specs.declared.prefixes.script_call.ScriptCall.TheVariants.{Call}
-use Rattle.explore.specs.declared.text_facts.NumberedCalls.{NumberedCalls}
-use Rattle.explore.specs.declared.text_facts.NumberedCalls.TheVariants.{Asks, Sets}
+use Rattle.explore.specs.declared.text.facts.NumberedCalls.{NumberedCalls}
+use Rattle.explore.specs.declared.text.facts.NumberedCalls.TheVariants.{Asks, Sets}
 use Rattle.explore.specs.FreeChoice.{AreFreeChoiceEnds, AreFreeChoiceNumbersSmall, AreFreeChoiceAmongNexts, IsFreeChoiceNumberSmall, IsFreeChoice, IsFreeForChoice, IsFreeForChoiceByWords, free_choice_numbered_call}
 use Rattle.explore.specs.TextGuards.{AreGuardedByText}
 use Rattle.explore.specs.Machines.{AreLawfulMachineSteps, IsProperMachineStep}

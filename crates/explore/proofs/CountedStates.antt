@@ -6,9 +6,9 @@ use Rattle.std.proofs.lemmas.Bool.{false≢true}
 use Rattle.std.proofs.lemmas.Option.{none-some, same_Some}
 use Rattle.journal.specs.declared.event.Event.{Event}
 use Rattle.lrc_script.specs.Plan.{Plan}
-use Rattle.explore.specs.declared.found_states.FoundStates.{FoundStates}
-use Rattle.explore.specs.declared.flat_state.FlatState.{FlatState}
-use Rattle.explore.specs.declared.outcome_telling.Detail.{Detail}
+use Rattle.explore.specs.declared.state.found_states.FoundStates.{FoundStates}
+use Rattle.explore.specs.declared.state.flat_state.FlatState.{FlatState}
+use Rattle.explore.specs.declared.outcomes.telling.Detail.{Detail}
 use Rattle.explore.specs.OutcomeTelling.{outcome_telling_of_script}
 use Rattle.explore.specs.FoundStates.{AreFoundStates, found_states}
 use Rattle.explore.specs.KeptStates.{opened_state}

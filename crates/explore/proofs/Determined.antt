@@ -10,8 +10,8 @@ use Rattle.base.specs.InOrderOnce.{Has, InOrder}
 use Rattle.base.proofs.JoinedLists.{joined_list_has-cons, joined_list_has-nil}
 use Rattle.journal.specs.declared.event.Event.{Event}
 use Rattle.lrc_script.specs.Plan.{Plan}
-use Rattle.explore.specs.declared.flat_state.FlatState.{FlatState}
-use Rattle.explore.specs.declared.waiting.Waiting.{Waiting}
+use Rattle.explore.specs.declared.state.flat_state.FlatState.{FlatState}
+use Rattle.explore.specs.declared.state.waits.Waiting.{Waiting}
 use Rattle.explore.specs.Machines.{MachinesInSameState, MachineKnows, machine_rows}
 use Rattle.explore.specs.OutcomeTelling.{AreOutcomeTellingKept, outcome_telling_kept, outcome_telling_steps}
 use Rattle.conformance.specs.Follows.{calls_of}

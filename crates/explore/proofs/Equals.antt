@@ -5,11 +5,11 @@ use Rattle.std.specs.Global.{Vec}
 use Rattle.std.specs.Cmp.Lexicographic.{pointwise, same_text}
 use Rattle.std.proofs.lemmas.Bool.{and_from, and_parts, eqb-true, false≢true}
 use Rattle.std.proofs.lemmas.Cmp.{nat_list_eq_equiv}
-use Rattle.explore.specs.declared.kept_state.KeptState.{KeptState}
-use Rattle.explore.specs.declared.kept_state.StateAsks.{StateAsks}
-use Rattle.explore.specs.declared.kept_state.StateMemory.{StateMemory}
-use Rattle.explore.specs.declared.kept_state.StateReplies.{StateReplies}
-use Rattle.explore.specs.declared.explored.ScriptOutcome.{ScriptOutcome}
+use Rattle.explore.specs.declared.state.kept_state.KeptState.{KeptState}
+use Rattle.explore.specs.declared.state.kept_state.StateAsks.{StateAsks}
+use Rattle.explore.specs.declared.state.kept_state.StateMemory.{StateMemory}
+use Rattle.explore.specs.declared.state.kept_state.StateReplies.{StateReplies}
+use Rattle.explore.specs.declared.outcomes.answer.ScriptOutcome.{ScriptOutcome}
 use Rattle.explore.specs.Explored.{explored_outcome}
 use Rattle.explore.specs.KeptStates.{AreLikeStateAsks, AreLikeStateMemories, AreLikeStateReplies}
 use Rattle.explore.specs.Machines.{machine_rows}

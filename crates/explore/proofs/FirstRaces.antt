@@ -9,7 +9,7 @@ use Rattle.journal.proofs.Order.HappensBefore.{happens_before_shorter}
 use Rattle.journal.proofs.Order.EventPlacesAndCounts.{event_place_longer, event_place_inside}
 use Rattle.lrc_script.specs.Plan.{Plan}
 use Rattle.explore.specs.Prefixes.FlatBeginnings.{IsFlatBeginning}
-use Rattle.explore.proofs.prefixes.Beginnings.{prefix_beginning_front}
+use Rattle.explore.proofs.PrefixRuns.Beginnings.{prefix_beginning_front}
 
 -- a race of a front is one of the whole
 first_part_race_longer : (c j : List Event) (i k : ℕ) → Race c i k → Race (c ++ j) i k

@@ -8,8 +8,8 @@ use Rattle.std.proofs.lemmas.Option.{same_Some, slice_get_within}
 use Rattle.journal.specs.declared.event.Kind.{Kind}
 use Rattle.journal.specs.DidEvent.{did}
 use Rattle.lrc_script.specs.Plan.{Plan}
-use Rattle.explore.specs.declared.found_states.FoundStates.{FoundStates}
-use Rattle.explore.specs.declared.flat_state.FlatState.{FlatState}
+use Rattle.explore.specs.declared.state.found_states.FoundStates.{FoundStates}
+use Rattle.explore.specs.declared.state.flat_state.FlatState.{FlatState}
 use Rattle.explore.specs.FollowedStates.{AreFollowedStates, IsFollowedState, MayBeFollowedStateByEach, MayBeFollowedState}
 use Rattle.explore.specs.FreeRun.{IsFoundByFreeRun}
 use Rattle.explore.specs.FoundStates.{FoundStateMayDo, KeepsFoundStates, found_states}

@@ -8,9 +8,9 @@ use Rattle.journal.specs.declared.event.Event.{Event}
 use Rattle.journal.specs.DidEvent.{did}
 use Rattle.lrc_script.specs.Plan.{Plan}
 use Rattle.explore.specs.declared.prefixes.script_call.ScriptCall.{ScriptCall}
-use Rattle.explore.specs.declared.flat_state.FlatState.{FlatState}
+use Rattle.explore.specs.declared.state.flat_state.FlatState.{FlatState}
 use Rattle.explore.specs.FreeChoice.{IsFreeForChoice}
-use Rattle.explore.specs.declared.wait_code.ProcessorNumber.{ProcessorNumber}
+use Rattle.explore.specs.declared.state.wait_code.ProcessorNumber.{ProcessorNumber}
 use Rattle.explore.specs.FreeRun.{IsFreeRun, IsFreeRunNoted}
 use Rattle.explore.specs.WaitCodes.{wait_code_seated}
 use Rattle.explore.specs.Machines.{AreLawfulMachineSteps, MachineKnows}

@@ -5,8 +5,8 @@ use Rattle.std.proofs.lemmas.List.{map-append}
 use Rattle.base.specs.InOrderOnce.{Has}
 use Rattle.base.proofs.JoinedLists.{joined_list_has-append, joined_list_has-cons, joined_list_has-nil, joined_list_in_order-append, joined_list_in_order_single}
 use Rattle.lrc_script.specs.Plan.{Plan}
-use Rattle.explore.specs.declared.explored.ShownOutcome.{ShownOutcome}
-use Rattle.explore.specs.declared.outcome_telling.Detail.{Detail}
+use Rattle.explore.specs.declared.outcomes.answer.ShownOutcome.{ShownOutcome}
+use Rattle.explore.specs.declared.outcomes.telling.Detail.{Detail}
 use Rattle.explore.specs.Explored.{AreExploredOutcomes, IsRunOfShownOutcome, shown_outcome}
 use Rattle.explore.specs.FlatOutcomes.{IsFlatOutcome}
 use Rattle.explore.proofs.ShownRuns.{shown_run_pushed}

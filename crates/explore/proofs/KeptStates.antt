@@ -9,13 +9,13 @@ use Rattle.base.proofs.SlicesAndCounts.{slice_get-append_left, slice_push_cases}
 use Rattle.std.specs.Cmp.Lexicographic.{pointwise}
 use Rattle.std.proofs.lemmas.Bool.{and_from, cases_lt, eq-eqb, false≢true}
 use Rattle.std.proofs.lemmas.Option.{same_Some, slice_get-get_or, slice_get_within}
-use Rattle.explore.specs.declared.flat_state.FlatState.{FlatState}
-use Rattle.explore.specs.declared.kept_state.KeptState.{KeptState}
-use Rattle.explore.specs.declared.kept_state.StateParts.{StateParts}
-use Rattle.explore.specs.declared.kept_state.StateAsks.{StateAsks}
-use Rattle.explore.specs.declared.kept_state.StateMemory.{StateMemory}
-use Rattle.explore.specs.declared.kept_state.StateReplies.{StateReplies}
-use Rattle.explore.specs.declared.call_table.CallTable.{CallTable}
+use Rattle.explore.specs.declared.state.flat_state.FlatState.{FlatState}
+use Rattle.explore.specs.declared.state.kept_state.KeptState.{KeptState}
+use Rattle.explore.specs.declared.state.kept_state.StateParts.{StateParts}
+use Rattle.explore.specs.declared.state.kept_state.StateAsks.{StateAsks}
+use Rattle.explore.specs.declared.state.kept_state.StateMemory.{StateMemory}
+use Rattle.explore.specs.declared.state.kept_state.StateReplies.{StateReplies}
+use Rattle.explore.specs.declared.state.call_table.CallTable.{CallTable}
 use Rattle.explore.specs.CallTables.{HasCallsMade, IsStateOfCalls, call_waiting}
 use Rattle.explore.specs.KeptStates.{AreFewStateParts, AreOfOneSearch, AreTrimmedMemories, IsTrimmedMemory, trimmed_words, vector_with_words_over, words_over, AreLikeStateAsks, AreLikeStateMemories, AreLikeStateReplies, AreStatePartsGrown, AreStatePartsKept, AreStatePartsOnce, HasStatePartsOnce, IsStateMemoryPlaced, IsStatePartPlaced, IsKeptStateWithin, KeepsStateParts, kept_state_asks, kept_state_memory, kept_state_replies, opened_state, state_asks_of, state_memory_of, state_replies_of}
 use Rattle.explore.specs.KeptWaiting.{IsLikeKeptWaiting, kept_waiting_asked}
@@ -26,7 +26,7 @@ use Rattle.explore.proofs.Determined.{determined_apart_at}
 use Rattle.explore.proofs.MachineSteps.{machine_step_memory_long, machine_step_some_at}
 use Rattle.explore.proofs.Equals.{equal_rows, equal_state_memory_like, kept_state_equal, state_asks_equal, state_memory_equal, state_replies_equal}
 use Rattle.explore.proofs.TrimmedWords.{trimmed_words_again, trimmed_words_back, trimmed_words_over, trimmed_words_short}
-use Rattle.explore.proofs.call_tables.Told.{call_told_asked, call_told_like}
+use Rattle.explore.proofs.CallTables.Told.{call_told_asked, call_told_like}
 
 -- a list is found equal to itself
 kept_state_equal_lists : {A : Type 0} (E : A → A → Bool) → ((a : A) → E a a ≡ true) → (xs ys : List A) → ys ≡ xs

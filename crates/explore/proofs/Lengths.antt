@@ -21,7 +21,7 @@ use Rattle.conformance.specs.FlatRuns.{FlatRunHasNoFetch}
 use Rattle.conformance.proofs.FollowedCalls.{followed_calls-own, followed_calls-others}
 use Rattle.explore.specs.Prefixes.FlatBeginnings.{IsFlatBeginning}
 use Rattle.explore.specs.Prefixes.ScriptCalls.{script_call_loads, script_calls_of_section, script_calls_shown_by, script_calls_of_one, script_calls_of_all}
-use Rattle.explore.proofs.prefixes.SectionCalls.{section_calls_follows_length}
+use Rattle.explore.proofs.PrefixRuns.SectionCalls.{section_calls_follows_length}
 
 -- steps of instructions
 step_length_two : (i : Instruction) → length (script_calls_of_one i) ≤ 2

@@ -7,15 +7,15 @@ use Rattle.journal.specs.WellFormed.{Holds}
 use Rattle.judge.specs.FrontTells.{FrontTellsFlagSet}
 use Rattle.lrc_script.specs.Plan.{Plan}
 use Rattle.conformance.specs.Follows.{calls_of}
-use Rattle.explore.specs.declared.flat_state.FlatState.{FlatState}
-use Rattle.explore.specs.declared.waiting.Waiting.{Waiting}
-use Rattle.explore.specs.declared.outcome_telling.OutcomeTelling.{OutcomeTelling}
+use Rattle.explore.specs.declared.state.flat_state.FlatState.{FlatState}
+use Rattle.explore.specs.declared.state.waits.Waiting.{Waiting}
+use Rattle.explore.specs.declared.outcomes.telling.OutcomeTelling.{OutcomeTelling}
 use Rattle.explore.specs.Machines.{MachinesInSameState, MachineKnows, machine_rows}
 use Rattle.explore.specs.OutcomeTelling.{AreOutcomeTellingKept}
 use Rattle.explore.specs.KeptWaiting.{AreKeptWaitingAsks, IsLikeKeptWaiting, TellsKeptWaiting}
 use Rattle.explore.specs.WaitCodes.{WaitCodesAreKept, wait_code_arrivals_open, wait_code_holder, wait_code_nobody}
-use Rattle.explore.specs.declared.wait_code.WaitCode.{WaitCode}
-use Rattle.explore.specs.declared.wait_code.LockHolder.{LockHolder}
+use Rattle.explore.specs.declared.state.wait_code.WaitCode.{WaitCode}
+use Rattle.explore.specs.declared.state.wait_code.LockHolder.{LockHolder}
 
 pub like_machine_waiting_tells : (g : List Event) (x y : Waiting) → IsLikeKeptWaiting x y → TellsKeptWaiting g x → TellsKeptWaiting g y
 like_machine_waiting_tells g x y like tells = record {

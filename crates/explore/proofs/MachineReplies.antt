@@ -14,7 +14,7 @@ use Rattle.journal.specs.DidEvent.{did}
 use Rattle.lrc_script.specs.Plan.{Plan}
 use Rattle.conformance.specs.Follows.{calls_of, is_fetch}
 use Rattle.conformance.proofs.FollowedCalls.{followed_calls-own, followed_calls-others}
-use Rattle.explore.specs.declared.outcome_telling.OutcomeTelling.{OutcomeTelling}
+use Rattle.explore.specs.declared.outcomes.telling.OutcomeTelling.{OutcomeTelling}
 use Rattle.explore.specs.Prefixes.ScriptCalls.{last_reply_of_script_calls}
 use Rattle.explore.specs.Machines.{machine_rows, machine_last_or}
 use Rattle.explore.specs.FlatOutcomes.{flat_outcome_replies_in}

@@ -25,12 +25,12 @@ use Rattle.judge.specs.JudgedSizes.{AreJudgedSizesSmall}
 use Rattle.conformance.proofs.Script.SectionSteps.{section_step_told, section_step_load_told, is_load_of_section_steps}
 use Rattle.explore.specs.declared.prefixes.script_call.ScriptCall.{ScriptCall}
 use Rattle.explore.specs.declared.prefixes.script_call.ScriptCall.TheVariants.{Call, Adds}
-use Rattle.explore.specs.declared.flat_state.FlatState.{FlatState}
+use Rattle.explore.specs.declared.state.flat_state.FlatState.{FlatState}
 use Rattle.explore.specs.Prefixes.FlatBeginnings.{IsFlatBeginning}
 use Rattle.explore.specs.Prefixes.ScriptCalls.{AreScriptCallRows, IsScriptCallNext, FitsScriptCall, last_reply_of_script_calls, replyless_script_call, script_calls_of_section, script_calls_shown_by}
 use Rattle.explore.specs.OutcomeTelling.{is_sum_for_outcome_telling, outcome_telling_steps}
 use Rattle.explore.specs.Machines.{AreLawfulMachineSteps, MachineReadsWithin, IsProperMachineStep, MachineKnows}
-use Rattle.explore.proofs.prefixes.Beginnings.{prefix_beginning_next}
+use Rattle.explore.proofs.PrefixRuns.Beginnings.{prefix_beginning_next}
 use Rattle.explore.proofs.Proper.{proper_section}
 
 -- a load with the word of the memory is the one that the step says

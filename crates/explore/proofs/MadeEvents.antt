@@ -9,9 +9,9 @@ use Rattle.journal.specs.declared.event.Kind.{Kind}
 use Rattle.journal.specs.DidEvent.{did}
 use Rattle.lrc_script.specs.Plan.{Plan}
 use Rattle.explore.specs.declared.prefixes.script_call.ScriptCall.{ScriptCall}
-use Rattle.explore.specs.declared.flat_state.FlatState.{FlatState}
-use Rattle.explore.specs.declared.found_states.FoundStates.{FoundStates}
-use Rattle.explore.specs.declared.wait_code.ProcessorNumber.{ProcessorNumber}
+use Rattle.explore.specs.declared.state.flat_state.FlatState.{FlatState}
+use Rattle.explore.specs.declared.state.found_states.FoundStates.{FoundStates}
+use Rattle.explore.specs.declared.state.wait_code.ProcessorNumber.{ProcessorNumber}
 use Rattle.explore.specs.FoundStates.{AreEventsOfMakers, AreFoundStateMakers, AreFoundStates}
 use Rattle.explore.specs.Machines.{AreLawfulMachineSteps, MachinesInSameState}
 use Rattle.explore.specs.Prefixes.FlatBeginnings.{IsFlatBeginning}

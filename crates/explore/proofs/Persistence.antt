@@ -2,36 +2,24 @@
 use Rattle.std.proofs.Common.{ℕ, zero, suc, ◌≡◌, ◌+◌, ◌<◌, inl, inr, Bool, true, false, List, [], Option, Some, length, slice_index, slice_index_or, slice_set, replicate, refl, sym, ap, subst, ◌∙◌, get_or-set_other, get_or-set_same, arith}
 use Rattle.std.specs.Prelude.{None}
 use Rattle.std.specs.Global.{Vec}
-use Rattle.std.proofs.lemmas.Bool.{cases_eq, cases_lt, false≢true}
-use Rattle.std.proofs.lemmas.List.{get_or_past}
+use Rattle.std.proofs.lemmas.Bool.{cases_eq}
 use Rattle.std.proofs.lemmas.Option.{slice_get_within}
 use Rattle.journal.specs.declared.event.Event.{Event}
 use Rattle.journal.specs.declared.event.Kind.{Kind}
 use Rattle.journal.specs.declared.event.Kind.TheVariants.{Ask, Depart}
 use Rattle.judge.specs.Why.{WhyWaitsFor}
 use Rattle.lrc_script.specs.Plan.{Plan}
-use Rattle.explore.specs.declared.flat_state.FlatState.{FlatState}
+use Rattle.explore.specs.declared.state.flat_state.FlatState.{FlatState}
 use Rattle.explore.specs.declared.prefixes.script_call.ScriptCall.{ScriptCall}
-use Rattle.explore.specs.declared.text_facts.NumberedCalls.{NumberedCalls}
-use Rattle.explore.specs.declared.text_facts.TextFacts.{TextFacts}
-use Rattle.explore.specs.declared.waiting.Waiting.{Waiting}
+use Rattle.explore.specs.declared.text.facts.NumberedCalls.{NumberedCalls}
+use Rattle.explore.specs.declared.text.facts.TextFacts.{TextFacts}
+use Rattle.explore.specs.declared.state.waits.Waiting.{Waiting}
 use Rattle.explore.specs.FreeChoice.{AreFreeChoiceEndsOfAll, IsFreeChoiceGiven, free_choice_numbered_call}
 use Rattle.explore.specs.KeptWaiting.{TellsKeptWaiting}
 use Rattle.explore.specs.PersistentSets.{HasAllYetToCall, HasLateMember, HasLockHolder, IsPersistentMember, IsYetToCall, KeepsPersistentMembers, PersistentMember}
 use Rattle.explore.specs.PersistentSets.PersistentMember.{absent, ended, asks, asks_in_vain, waits_for_lock, waits_for_others, waits_for_flag}
 use Rattle.explore.proofs.MachineSteps.{machine_step_rows_few}
 use Rattle.explore.proofs.WaitCodes.{wait_code_open_barrier}
-
--- one more member
-pub persistence_added : (members : List Bool) (p : ℕ) → KeepsPersistentMembers members (slice_set members p true)
-persistence_added members p q member = elim (cases_eq q p) [
-  | inl is ↦ elim (cases_lt p (length members)) [
-    | inl lt ↦ ap (λ r. slice_index_or (slice_set members p true) r false) is ∙ get_or-set_same members p true false lt
-    | inr past ↦
-        absurd (false≢true (sym (get_or_past members p false past) ∙ ap (λ r. slice_index_or members r false) (sym is) ∙ member))
-  ]
-  | inr isnt ↦ get_or-set_other members p q true false isnt ∙ member
-]
 
 -- all of so many are members
 pub persistence_everybody : (n p : ℕ) → p < n → IsPersistentMember (replicate n true) p

@@ -18,16 +18,16 @@ use Rattle.conformance.specs.Follows.{Follows, calls_of}
 use Rattle.explore.specs.declared.prefixes.script_call.ScriptCall.{ScriptCall}
 use Rattle.explore.specs.Prefixes.FlatBeginnings.{IsFlatBeginning, IsFlatBeginningHanging}
 use Rattle.explore.specs.Prefixes.PrefixLaws.{PrefixHasNoNeighbours}
-use Rattle.explore.proofs.prefixes.Beginnings.{prefix_beginning_next, prefix_beginning_whole_done}
-use Rattle.explore.specs.declared.flat_state.FlatState.{FlatState}
-use Rattle.explore.specs.declared.found_states.FoundStates.{FoundStates}
-use Rattle.explore.specs.declared.neighbours.Neighbours.{Neighbours}
+use Rattle.explore.proofs.PrefixRuns.Beginnings.{prefix_beginning_next, prefix_beginning_whole_done}
+use Rattle.explore.specs.declared.state.flat_state.FlatState.{FlatState}
+use Rattle.explore.specs.declared.state.found_states.FoundStates.{FoundStates}
+use Rattle.explore.specs.declared.search.Met.{Met}
 use Rattle.explore.specs.declared.search.Search.{Search}
-use Rattle.explore.specs.declared.explored.Hanging.{Hanging}
-use Rattle.explore.specs.declared.explored.ScriptOutcome.{ScriptOutcome}
-use Rattle.explore.specs.declared.explored.Hanging.TheVariants as hanging
-use Rattle.explore.specs.declared.explored.Verdict.{Verdict}
-use Rattle.explore.specs.declared.explored.Verdict.TheVariants as verdict
+use Rattle.explore.specs.declared.outcomes.answer.Hanging.{Hanging}
+use Rattle.explore.specs.declared.outcomes.answer.ScriptOutcome.{ScriptOutcome}
+use Rattle.explore.specs.declared.outcomes.answer.Hanging.TheVariants as hanging
+use Rattle.explore.specs.declared.outcomes.answer.Verdict.{Verdict}
+use Rattle.explore.specs.declared.outcomes.answer.Verdict.TheVariants as verdict
 use Rattle.explore.specs.Explored.{AreAllOutcomesExplored, AreExploredOutcomes, explored_outcome, explored_settles}
 use Rattle.explore.specs.FollowedStates.{AreFollowedStates}
 use Rattle.explore.specs.FreeChoice.{IsFreeChoice}
@@ -35,7 +35,7 @@ use Rattle.explore.specs.FoundStates.{AreFoundStates, IsFoundState, KeepsFoundSt
 use Rattle.explore.specs.FreeRun.{IsFoundByFreeRun}
 use Rattle.explore.specs.Machines.{AreLawfulMachineSteps, MachineKnows, machine_rows}
 use Rattle.explore.specs.Nexts.{AreNexts, AreNextInConflict}
-use Rattle.explore.specs.declared.outcome_telling.Detail.{Detail}
+use Rattle.explore.specs.declared.outcomes.telling.Detail.{Detail}
 use Rattle.explore.specs.OutcomeTelling.{AreOutcomeTellingReplies, outcome_telling_of_script, outcome_telling_kept, outcome_telling_replies, outcome_telling_steps}
 use Rattle.explore.proofs.ToldReplies.{told_reply_kept_whole, told_replies_rows_like, told_replies_same_rows}
 use Rattle.explore.specs.FlatSearch.{AreFlatSearchOutcomes, AreFlatSearchPlaces, FlatSearchFollows, FlatSearchHasHang, IsAskFollowed, IsFlatSearchReduced, AreFlatSearchNotes, IsFlatSearchHangingOpen, IsFlatSearchVerdictOpen, IsFlatSearchQuiet, FlatSearchedUpTo, IsShownAtFlatSearchPlace, IsShownByFlatSearch, HasMoreToFlatSearch, MayNoteInFlatSearch, FlatSearchHasNoHang}
@@ -43,10 +43,10 @@ use Rattle.explore.specs.NotedOutcomes.{IsNotedOutcome, noted_outcomes}
 use Rattle.explore.proofs.AddedStates.{added_state_found_soon_kept}
 use Rattle.explore.proofs.MachineSteps.{machine_step_some_at}
 use Rattle.explore.proofs.NotedOutcomes.{IsAmongNotedOutcomes, noted_outcome_among, noted_outcome_each}
-use Rattle.explore.proofs.reduced.Ends.{ReducedEndsInConflict, ReducedEndsShowing, reduced_ends_conflict_lasts, reduced_ends_whole, reduced_ends_hang_lasts, reduced_ends_shows_last}
-use Rattle.explore.proofs.reduced.Chosen.{chosen_follows}
-use Rattle.explore.proofs.reduced.Reaching.{IsReached, IsReachingLasting, reached}
-use Rattle.explore.proofs.reduced.Soon.{soon_followed, soon_now, soon_reached}
+use Rattle.explore.proofs.Reduced.Ends.{ReducedEndsInConflict, ReducedEndsShowing, reduced_ends_conflict_lasts, reduced_ends_whole, reduced_ends_hang_lasts, reduced_ends_shows_last}
+use Rattle.explore.proofs.Reduced.Chosen.{chosen_follows}
+use Rattle.explore.proofs.Reduced.Reaching.{IsReached, IsReachingLasting, reached}
+use Rattle.explore.proofs.Reduced.Soon.{soon_followed, soon_now, soon_reached}
 
 -- the state that has done nothing was found
 searched_states_first_found : (s : Plan) (x : FoundStates) → AreFoundStates s x → IsFoundState s (found_states x) []
@@ -537,7 +537,7 @@ searched_states_some_outcomes s d x steps n tells searched = record {
 }
 
 -- what is open is so where no two events conflict and not all states were looked at
-pub searched_states_open_only : (o : Option Neighbours) (race_free through : Bool) (v : Verdict) (h : Hanging) → IsFlatSearchVerdictOpen o race_free v
+pub searched_states_open_only : (o : Option Met) (race_free through : Bool) (v : Verdict) (h : Hanging) → IsFlatSearchVerdictOpen o race_free v
     → IsFlatSearchHangingOpen through h → (race_free ≡ false → through ≡ false) → explored_settles v h through ≡ false
     → (o ≡ None) × (through ≡ false)
 searched_states_open_only o race_free through verdict.RaceFree hanging.Never none opens both is = (none, is)

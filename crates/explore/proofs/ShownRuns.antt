@@ -3,10 +3,10 @@ use Rattle.std.proofs.Common.{ℕ, ◌≡◌, inl, inr, List, [], ◌∷◌, ◌
 use Rattle.base.specs.InOrderOnce.{Has}
 use Rattle.base.proofs.JoinedLists.{joined_list_has-append, joined_list_has-cons, joined_list_has-nil}
 use Rattle.lrc_script.specs.Plan.{Plan}
-use Rattle.explore.specs.declared.explored.ShownOutcome.{ShownOutcome}
-use Rattle.explore.specs.declared.flat_state.FlatState.{FlatState}
-use Rattle.explore.specs.declared.found_states.FoundStates.{FoundStates}
-use Rattle.explore.specs.declared.outcome_telling.Detail.{Detail}
+use Rattle.explore.specs.declared.outcomes.answer.ShownOutcome.{ShownOutcome}
+use Rattle.explore.specs.declared.state.flat_state.FlatState.{FlatState}
+use Rattle.explore.specs.declared.state.found_states.FoundStates.{FoundStates}
+use Rattle.explore.specs.declared.outcomes.telling.Detail.{Detail}
 use Rattle.explore.specs.Explored.{IsRunOfShownOutcome, shown_outcome}
 use Rattle.explore.specs.FlatSearch.{IsShownAtFlatSearchPlace}
 use Rattle.explore.specs.FoundStates.{AreFoundStateMakers, AreFoundStates, found_states}

@@ -1,8 +1,8 @@
 -- Where states come from: the makers of each stand between two ends.
 use Rattle.std.proofs.Common.{ℕ, zero, suc, ◌≡◌, ◌+◌, ◌-◌, ◌*◌, ◌≤◌, List, [], ◌∷◌, ◌++◌, Some, drop, length, slice_get, slice_index_or, take, map, refl, sym, ap, ap₂, subst, ◌∙◌, length-append, arith}
 use Rattle.std.proofs.lemmas.Option.{none-some, same_Some}
-use Rattle.explore.specs.declared.origins.Origin.{Origin}
-use Rattle.explore.specs.declared.wait_code.ProcessorNumber.{ProcessorNumber}
+use Rattle.explore.specs.declared.state.origins.Origin.{Origin}
+use Rattle.explore.specs.declared.state.wait_code.ProcessorNumber.{ProcessorNumber}
 use Rattle.explore.specs.Origins.{AreOriginsInOrderFrom, StateOrigin, state_origins_from}
 
 -- the ends are no more than the makers

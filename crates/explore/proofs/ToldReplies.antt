@@ -18,9 +18,9 @@ use Rattle.conformance.proofs.Script.SectionSteps.{section_step_load_told}
 use Rattle.explore.proofs.Lengths.{length_of_load_steps}
 use Rattle.explore.specs.declared.prefixes.script_call.ScriptCall.{ScriptCall}
 use Rattle.explore.specs.declared.prefixes.script_call.ScriptCall.TheVariants.{Call, Adds}
-use Rattle.explore.specs.declared.outcome_telling.Detail.{Detail}
-use Rattle.explore.specs.declared.outcome_telling.Detail.TheVariants as detail
-use Rattle.explore.specs.declared.outcome_telling.OutcomeTelling.{OutcomeTelling}
+use Rattle.explore.specs.declared.outcomes.telling.Detail.{Detail}
+use Rattle.explore.specs.declared.outcomes.telling.Detail.TheVariants as detail
+use Rattle.explore.specs.declared.outcomes.telling.OutcomeTelling.{OutcomeTelling}
 use Rattle.explore.specs.FlatOutcomes.{flat_outcome_replies_in}
 use Rattle.explore.specs.Prefixes.ScriptCalls.{FitsScriptCall, script_call_loads, script_calls_of_section, script_calls_of_all, last_reply_of_script_calls, script_call_reply_after}
 use Rattle.explore.specs.OutcomeTelling.{AreOutcomeTellingRows, is_told_by_outcome_telling, is_sum_for_outcome_telling, outcome_telling_of_script, outcome_telling_kept, outcome_telling_pending, outcome_telling_replies, outcome_telling_reply, outcome_telling_steps, outcome_telling_words}

@@ -5,7 +5,7 @@ use Rattle.conformance.specs.Follows.{calls_of}
 use Rattle.conformance.specs.ScriptBegins.{BeginsScript}
 use Rattle.journal.specs.declared.event.Event.{Event}
 use Rattle.lrc_script.specs.Plan.{Plan}
-use Rattle.explore.specs.declared.outcome_telling.OutcomeTelling.{OutcomeTelling}
+use Rattle.explore.specs.declared.outcomes.telling.OutcomeTelling.{OutcomeTelling}
 use Rattle.explore.specs.declared.prefixes.script_call.ScriptCall.{ScriptCall}
 use Rattle.explore.specs.Machines.{AreLawfulMachineSteps, machine_rows}
 use Rattle.explore.specs.Prefixes.ScriptCalls.{script_calls_shown_by}

@@ -11,9 +11,9 @@ use Rattle.journal.specs.Events.{event_count, event_arrives, event_departs}
 use Rattle.journal.specs.AwaitedNext.{awaited_next}
 use Rattle.journal.proofs.Order.EventPlacesAndCounts.{event_count-append}
 use Rattle.judge.specs.Why.{WhyWaitsFor}
-use Rattle.explore.specs.declared.wait_code.WaitCode.{WaitCode}
-use Rattle.explore.specs.declared.wait_code.WaitCode.TheVariants.{Lock, Barrier, Flag}
-use Rattle.explore.specs.declared.wait_code.LockHolder.{LockHolder}
+use Rattle.explore.specs.declared.state.wait_code.WaitCode.{WaitCode}
+use Rattle.explore.specs.declared.state.wait_code.WaitCode.TheVariants.{Lock, Barrier, Flag}
+use Rattle.explore.specs.declared.state.wait_code.LockHolder.{LockHolder}
 use Rattle.explore.specs.WaitCodes.{WaitCodesAreKept, wait_code_arrivals_open, wait_code_end_of, wait_code_ending, wait_code_holder, wait_code_holder_of}
 
 -- who waits for a lock is kept as that

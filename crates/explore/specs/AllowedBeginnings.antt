@@ -6,12 +6,12 @@ use Rattle.journal.specs.declared.event.Kind.{Kind}
 use Rattle.journal.specs.declared.event.Kind.TheVariants.{Ask, Set, Await}
 use Rattle.journal.specs.DidEvent.{did, event}
 use Rattle.journal.specs.WellFormed.{WellFormedNext}
-use Rattle.judge.specs.declared.sources.readable.ReadableSources.{ReadableSources}
-use Rattle.judge.specs.Sources.KeptSources.{AreKeptSourcesOf}
+use Rattle.judge.specs.declared.kept_stores.KeptStores.{KeptStores}
+use Rattle.judge.specs.KeptStores.{AreKeptStoresOf}
 use Rattle.lrc_script.specs.Lawful.{IsLawful, plan_addresses}
 use Rattle.lrc_script.specs.Plan.{Plan}
 use Rattle.conformance.specs.Follows.{plan_sizes}
-use Rattle.explore.specs.declared.allowed_beginning.AllowedBeginning.{AllowedBeginning}
+use Rattle.explore.specs.declared.rules.beginning.AllowedBeginning.{AllowedBeginning}
 use Rattle.explore.specs.AllowedRuns.{IsAllowedRunBeginning}
 use Rattle.explore.specs.Prefixes.ScriptCalls.{ScriptCallsNext, replyless_script_call}
 use Rattle.explore.specs.KeptWaiting.{TellsKeptWaiting}
@@ -100,20 +100,20 @@ pub record AreAllowedBeginningCallsFollowed (s : Plan) (g : List Event) (calls :
   pub lengthened : AreAllowedBeginningsPutBehind s g events old new
 
 -- after a beginning of a lawful script, of which the sources are these, p may make this call next
-pub record MayFollowAllowedBeginningCall (s : Plan) (b : AllowedBeginning) (sources : ReadableSources) (p : ℕ) (call : Kind) : Type 0 where
+pub record MayFollowAllowedBeginningCall (s : Plan) (b : AllowedBeginning) (sources : KeptStores) (p : ℕ) (call : Kind) : Type 0 where
   pub lawful : IsLawful s
   pub tells : TellsAllowedBeginning s b
-  pub sources_tell : AreKeptSourcesOf (allowed_beginning_events b) sources
+  pub sources_tell : AreKeptStoresOf (allowed_beginning_events b) sources
   pub processors : sources.processors ≡ s.processors
   pub addresses : sources.addresses ≡ plan_addresses s
   pub plain : replyless_script_call call ≡ call
   pub may : AllowedBeginningMayCall s (allowed_beginning_events b) p call
 
 -- and each of these calls
-pub record MayFollowAllowedBeginningCalls (s : Plan) (b : AllowedBeginning) (sources : ReadableSources) (calls : List (Option Kind)) : Type 0 where
+pub record MayFollowAllowedBeginningCalls (s : Plan) (b : AllowedBeginning) (sources : KeptStores) (calls : List (Option Kind)) : Type 0 where
   pub lawful : IsLawful s
   pub tells : TellsAllowedBeginning s b
-  pub sources_tell : AreKeptSourcesOf (allowed_beginning_events b) sources
+  pub sources_tell : AreKeptStoresOf (allowed_beginning_events b) sources
   pub processors : sources.processors ≡ s.processors
   pub addresses : sources.addresses ≡ plan_addresses s
   pub long : length calls ≡ 16

@@ -8,11 +8,11 @@ use Rattle.lrc_script.specs.Plan.{Plan}
 use Rattle.conformance.specs.ScriptBegins.{BeginsScript}
 use Rattle.conformance.specs.FlatRuns.{FlatRunHasNoFetch}
 use Rattle.conformance.specs.Follows.{Follows, plan_sizes}
-use Rattle.explore.specs.declared.allowed.AllowedOutcomes.{AllowedOutcomes}
+use Rattle.explore.specs.declared.rules.showing.AllowedOutcomes.{AllowedOutcomes}
 use Rattle.explore.specs.AllowedRoom.{allowed_room_at_most}
 use Rattle.explore.specs.Explored.{explored_outcome}
-use Rattle.explore.specs.declared.outcome_telling.Detail.{Detail}
-use Rattle.explore.specs.declared.showing.ShownRun.{ShownRun}
+use Rattle.explore.specs.declared.outcomes.telling.Detail.{Detail}
+use Rattle.explore.specs.declared.outcomes.showing.ShownRun.{ShownRun}
 use Rattle.explore.specs.OutcomeTelling.{AreOutcomeTellingReplies, outcome_telling_of_script}
 
 -- processors have begun the script, each load answers a latest store of its past, and nothing is fetched

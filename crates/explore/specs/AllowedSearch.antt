@@ -5,12 +5,12 @@ use Rattle.base.specs.InOrderOnce.{Has, InOrder, IsOnce}
 use Rattle.journal.specs.declared.event.Event.{Event}
 use Rattle.lrc_script.specs.Plan.{Plan}
 use Rattle.conformance.specs.Follows.{Follows}
-use Rattle.explore.specs.declared.allowed_beginning.AllowedBeginning.{AllowedBeginning}
-use Rattle.explore.specs.declared.allowed_search.AllowedSearch.{AllowedSearch}
-use Rattle.explore.specs.declared.outcome_telling.Detail.{Detail}
+use Rattle.explore.specs.declared.rules.beginning.AllowedBeginning.{AllowedBeginning}
+use Rattle.explore.specs.declared.rules.search.AllowedSearch.{AllowedSearch}
+use Rattle.explore.specs.declared.outcomes.telling.Detail.{Detail}
 use Rattle.explore.specs.AllowedRuns.{IsAllowedRunBeginning, IsAllowedRunOutcome, IsAllowedRun, IsAllowedRunShowing}
 use Rattle.explore.specs.AllowedBeginnings.{AreAllowedBeginningsPutBehind, TellsAllowedBeginning, allowed_beginning_events}
-use Rattle.explore.specs.declared.explored.ScriptOutcome.{ScriptOutcome}
+use Rattle.explore.specs.declared.outcomes.answer.ScriptOutcome.{ScriptOutcome}
 use Rattle.explore.specs.Explored.{explored_outcome}
 use Rattle.explore.specs.NotedOutcomes.{noted_outcomes}
 use Rattle.explore.specs.OutcomeTelling.{AreOutcomeTellingReplies, outcome_telling_of_script}

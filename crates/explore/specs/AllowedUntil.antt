@@ -5,11 +5,11 @@ use Rattle.journal.specs.declared.event.Event.{Event}
 use Rattle.lrc_script.specs.Plan.{Plan}
 use Rattle.conformance.specs.Follows.{calls_of}
 use Rattle.conformance.specs.ScriptReports.{AreRepliesOfScriptReport}
-use Rattle.explore.specs.declared.allowed_showing.AllowedShowing.{AllowedShowing}
-use Rattle.explore.specs.declared.allowed_showing.AllowedShowing.TheVariants.{Shown, Never, Undecided}
-use Rattle.explore.specs.declared.allowed_showing.AllowedUntil.{AllowedUntil}
-use Rattle.explore.specs.declared.outcome_telling.Detail.{Detail}
-use Rattle.explore.specs.declared.showing.ShownRun.{ShownRun}
+use Rattle.explore.specs.declared.rules.showing.AllowedShowing.{AllowedShowing}
+use Rattle.explore.specs.declared.rules.showing.AllowedShowing.TheVariants.{Shown, Never, Undecided}
+use Rattle.explore.specs.declared.rules.showing.AllowedUntil.{AllowedUntil}
+use Rattle.explore.specs.declared.outcomes.telling.Detail.{Detail}
+use Rattle.explore.specs.declared.outcomes.showing.ShownRun.{ShownRun}
 use Rattle.explore.specs.AllowedRoom.{allowed_room_at_most}
 use Rattle.explore.specs.AllowedRuns.{HasAllowedRunBeginnings, IsAllowedRun}
 use Rattle.explore.specs.Explored.{explored_outcome}

@@ -9,13 +9,13 @@ use Rattle.journal.specs.AwaitedNext.{awaited_next}
 use Rattle.journal.specs.Events.{event_arrives}
 use Rattle.lrc_script.specs.Plan.{Plan}
 use Rattle.lrc_script.specs.Lawful.{IsLawful}
-use Rattle.explore.specs.declared.call_table.CallRow.{CallRow}
-use Rattle.explore.specs.declared.call_table.CallTable.{CallTable}
-use Rattle.explore.specs.declared.call_table.CallsMade.{CallsMade}
-use Rattle.explore.specs.declared.flat_state.FlatState.{FlatState}
+use Rattle.explore.specs.declared.state.call_table.CallRow.{CallRow}
+use Rattle.explore.specs.declared.state.call_table.CallTable.{CallTable}
+use Rattle.explore.specs.declared.state.call_table.CallsMade.{CallsMade}
+use Rattle.explore.specs.declared.state.flat_state.FlatState.{FlatState}
 use Rattle.explore.specs.declared.prefixes.script_call.ScriptCall.{ScriptCall}
 use Rattle.explore.specs.declared.prefixes.script_call.ScriptCall.TheVariants.{Call, Adds}
-use Rattle.explore.specs.declared.waiting.Waiting.{Waiting}
+use Rattle.explore.specs.declared.state.waits.Waiting.{Waiting}
 use Rattle.explore.specs.KeptWaiting.{kept_waiting_asked, kept_waiting_told, kept_waiting_without}
 use Rattle.explore.specs.WaitCodes.{wait_code_ending}
 use Rattle.explore.specs.Machines.{AreLawfulMachineSteps, IsProperMachineStep, MachineKnows, machine_rows}

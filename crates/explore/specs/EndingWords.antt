@@ -6,11 +6,11 @@ use Rattle.journal.specs.ReplayMemory.{memory_after}
 use Rattle.journal.specs.Races.{RaceFree}
 use Rattle.lrc_script.specs.Plan.{Plan}
 use Rattle.lrc_script.specs.Lawful.{plan_addresses}
-use Rattle.explore.specs.declared.showing.ExploredUntil.{ExploredUntil}
-use Rattle.explore.specs.declared.showing.Showing.{Showing}
-use Rattle.explore.specs.declared.showing.Showing.TheVariants.{Shown, Never, Racy, Undecided}
-use Rattle.explore.specs.declared.showing.ShownRun.{ShownRun}
-use Rattle.explore.specs.declared.outcome_telling.Detail.{Detail}
+use Rattle.explore.specs.declared.outcomes.showing.ExploredUntil.{ExploredUntil}
+use Rattle.explore.specs.declared.outcomes.showing.Showing.{Showing}
+use Rattle.explore.specs.declared.outcomes.showing.Showing.TheVariants.{Shown, Never, Racy, Undecided}
+use Rattle.explore.specs.declared.outcomes.showing.ShownRun.{ShownRun}
+use Rattle.explore.specs.declared.outcomes.telling.Detail.{Detail}
 use Rattle.explore.specs.Explored.{IsExploredRacy, explored_outcome}
 use Rattle.explore.specs.Prefixes.FlatBeginnings.{AreFlatBeginningsRaceFree, IsFlatBeginningWhole}
 use Rattle.explore.specs.StateRoom.{state_room_at_most}

@@ -5,17 +5,17 @@ use Rattle.base.specs.InOrderOnce.{Has, IsOnce}
 use Rattle.journal.specs.declared.event.Event.{Event}
 use Rattle.journal.specs.Races.{IsFirstRace}
 use Rattle.lrc_script.specs.Plan.{Plan}
-use Rattle.explore.specs.declared.explored.Explored.{Explored}
-use Rattle.explore.specs.declared.explored.Hang.{Hang}
-use Rattle.explore.specs.declared.explored.Hanging.{Hanging}
-use Rattle.explore.specs.declared.explored.Hanging.TheVariants as hanging
-use Rattle.explore.specs.declared.explored.ScriptOutcome.{ScriptOutcome}
-use Rattle.explore.specs.declared.explored.ShownOutcome.{ShownOutcome}
-use Rattle.explore.specs.declared.wait_code.ProcessorNumber.{ProcessorNumber}
-use Rattle.explore.specs.declared.explored.RacyEvents.{RacyEvents}
-use Rattle.explore.specs.declared.explored.Verdict.{Verdict}
-use Rattle.explore.specs.declared.explored.Verdict.TheVariants as verdict
-use Rattle.explore.specs.declared.outcome_telling.Detail.{Detail}
+use Rattle.explore.specs.declared.outcomes.answer.Explored.{Explored}
+use Rattle.explore.specs.declared.outcomes.answer.Hang.{Hang}
+use Rattle.explore.specs.declared.outcomes.answer.Hanging.{Hanging}
+use Rattle.explore.specs.declared.outcomes.answer.Hanging.TheVariants as hanging
+use Rattle.explore.specs.declared.outcomes.answer.ScriptOutcome.{ScriptOutcome}
+use Rattle.explore.specs.declared.outcomes.answer.ShownOutcome.{ShownOutcome}
+use Rattle.explore.specs.declared.state.wait_code.ProcessorNumber.{ProcessorNumber}
+use Rattle.explore.specs.declared.outcomes.answer.RacyEvents.{RacyEvents}
+use Rattle.explore.specs.declared.outcomes.answer.Verdict.{Verdict}
+use Rattle.explore.specs.declared.outcomes.answer.Verdict.TheVariants as verdict
+use Rattle.explore.specs.declared.outcomes.telling.Detail.{Detail}
 use Rattle.explore.specs.Prefixes.FlatBeginnings.{IsFlatBeginning, AreFlatBeginningsRaceFree, IsFlatBeginningHanging, IsFlatBeginningWhole}
 use Rattle.explore.specs.FlatOutcomes.{IsFlatOutcome}
 use Rattle.explore.specs.OutcomeTelling.{AreOutcomeTellingReplies, outcome_telling_of_script}

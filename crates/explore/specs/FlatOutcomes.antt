@@ -5,8 +5,8 @@ use Rattle.journal.specs.declared.event.Kind.{Kind}
 use Rattle.journal.specs.declared.event.Kind.TheVariants.{Load}
 use Rattle.lrc_script.specs.Plan.{Plan}
 use Rattle.conformance.specs.Follows.{calls_of}
-use Rattle.explore.specs.declared.outcome_telling.Detail.{Detail}
-use Rattle.explore.specs.declared.outcome_telling.Detail.TheVariants as detail
+use Rattle.explore.specs.declared.outcomes.telling.Detail.{Detail}
+use Rattle.explore.specs.declared.outcomes.telling.Detail.TheVariants as detail
 use Rattle.explore.specs.Prefixes.FlatBeginnings.{IsFlatBeginningWhole}
 use Rattle.explore.specs.OutcomeTelling.{AreOutcomeTellingReplies, outcome_telling_of_script}
 

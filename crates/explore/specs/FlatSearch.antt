@@ -12,14 +12,15 @@ use Rattle.lrc_script.specs.Plan.{Plan}
 use Rattle.conformance.specs.Follows.{Follows}
 use Rattle.explore.specs.declared.prefixes.script_call.ScriptCall.{ScriptCall}
 use Rattle.explore.specs.Prefixes.FlatBeginnings.{IsFlatBeginning, IsFlatBeginningHanging}
-use Rattle.explore.specs.declared.flat_state.FlatState.{FlatState}
-use Rattle.explore.specs.declared.neighbours.Neighbours.{Neighbours}
+use Rattle.explore.specs.declared.state.flat_state.FlatState.{FlatState}
+use Rattle.explore.specs.declared.search.neighbours.Neighbours.{Neighbours}
+use Rattle.explore.specs.declared.search.Met.{Met}
 use Rattle.explore.specs.declared.search.Search.{Search}
-use Rattle.explore.specs.declared.explored.Hanging.{Hanging}
-use Rattle.explore.specs.declared.explored.Hanging.TheVariants as hanging
-use Rattle.explore.specs.declared.explored.Verdict.{Verdict}
-use Rattle.explore.specs.declared.explored.Verdict.TheVariants as verdict
-use Rattle.explore.specs.declared.explored.ScriptOutcome.{ScriptOutcome}
+use Rattle.explore.specs.declared.outcomes.answer.Hanging.{Hanging}
+use Rattle.explore.specs.declared.outcomes.answer.Hanging.TheVariants as hanging
+use Rattle.explore.specs.declared.outcomes.answer.Verdict.{Verdict}
+use Rattle.explore.specs.declared.outcomes.answer.Verdict.TheVariants as verdict
+use Rattle.explore.specs.declared.outcomes.answer.ScriptOutcome.{ScriptOutcome}
 use Rattle.explore.specs.Explored.{explored_outcome}
 use Rattle.explore.specs.NotedOutcomes.{noted_outcomes}
 use Rattle.explore.specs.FreeChoice.{IsFreeForChoice}
@@ -144,21 +145,13 @@ abbrev pub IsFlatSearchedAt : Plan → Search → List (Vec ScriptCall) → ℕ 
 IsFlatSearchedAt s x steps n o =
     MatchOption o (FlatSearchedUpTo s x steps (n + 1)) (λ ns. FlatSearchedUpTo s x steps n × AreRacing s x.found steps ns)
 
--- some states have been looked at, and all if they are no more than this; or of one two next events conflict
-pub record IsFlatSearchedThrough (s : Plan) (x : Search) (steps : List (Vec ScriptCall)) (most : ℕ) (o : Option Neighbours)
-    : Type 0 where
-  pub some : (n : ℕ) × FlatSearchedUpTo s x steps n
-  pub end :
-      MatchOption o (length (found_states x.found) ≤ most → FlatSearchedUpTo s x steps (length (found_states x.found)))
-      (AreRacing s x.found steps)
-
 -- some states have been looked at, or all
 pub record IsFlatSearched (s : Plan) (x : Search) (steps : List (Vec ScriptCall)) (through : Bool) : Type 0 where
   pub some : (n : ℕ) × FlatSearchedUpTo s x steps n
   pub all : IsTrue through → FlatSearchedUpTo s x steps (length (found_states x.found))
 
--- the verdict is open only if no two events conflict and not all states were looked at
-abbrev pub IsFlatSearchVerdictOpen : Option Neighbours → Bool → Verdict → Type 0
+-- the verdict is open only if nothing was met and not all states were looked at
+abbrev pub IsFlatSearchVerdictOpen : Option Met → Bool → Verdict → Type 0
 IsFlatSearchVerdictOpen o through verdict.RaceFree = o ≡ None
 IsFlatSearchVerdictOpen o through (verdict.Racy racy) = ⊤
 IsFlatSearchVerdictOpen o through verdict.Undecided = (o ≡ None) × (through ≡ false)

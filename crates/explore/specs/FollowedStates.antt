@@ -7,8 +7,8 @@ use Rattle.lrc_script.specs.Plan.{Plan}
 use Rattle.std.specs.Global.{Vec}
 use Rattle.explore.specs.declared.prefixes.script_call.ScriptCall.{ScriptCall}
 use Rattle.explore.specs.FreeRun.{IsFoundByFreeRun}
-use Rattle.explore.specs.declared.found_states.FoundStates.{FoundStates}
-use Rattle.explore.specs.declared.flat_state.FlatState.{FlatState}
+use Rattle.explore.specs.declared.state.found_states.FoundStates.{FoundStates}
+use Rattle.explore.specs.declared.state.flat_state.FlatState.{FlatState}
 use Rattle.explore.specs.FoundStates.{AreFoundStates, KeepsFoundStates, FoundStateMayDo, found_states}
 use Rattle.explore.specs.Machines.{AreLawfulMachineSteps, MachineKnows}
 

@@ -5,10 +5,10 @@ use Rattle.journal.specs.declared.event.Kind.{Kind}
 use Rattle.journal.specs.DidEvent.{did}
 use Rattle.lrc_script.specs.Plan.{Plan}
 use Rattle.explore.specs.Prefixes.FlatBeginnings.{IsFlatBeginning}
-use Rattle.explore.specs.declared.found_states.FoundStates.{FoundStates}
-use Rattle.explore.specs.declared.flat_state.FlatState.{FlatState}
-use Rattle.explore.specs.declared.kept_state.KeptState.{KeptState}
-use Rattle.explore.specs.declared.wait_code.ProcessorNumber.{ProcessorNumber}
+use Rattle.explore.specs.declared.state.found_states.FoundStates.{FoundStates}
+use Rattle.explore.specs.declared.state.flat_state.FlatState.{FlatState}
+use Rattle.explore.specs.declared.state.kept_state.KeptState.{KeptState}
+use Rattle.explore.specs.declared.state.wait_code.ProcessorNumber.{ProcessorNumber}
 use Rattle.std.specs.Global.{Vec}
 use Rattle.explore.specs.declared.prefixes.script_call.ScriptCall.{ScriptCall}
 use Rattle.explore.specs.CallTables.{IsCallTableOf}

@@ -9,10 +9,10 @@ use Rattle.journal.specs.Events.{event_address}
 use Rattle.lrc_script.specs.Plan.{Plan}
 use Rattle.explore.specs.declared.prefixes.script_call.ScriptCall.{ScriptCall}
 use Rattle.explore.specs.declared.prefixes.script_call.ScriptCall.TheVariants.{Call}
-use Rattle.explore.specs.declared.text_facts.NumberedCalls.{NumberedCalls}
-use Rattle.explore.specs.declared.text_facts.NumberedCalls.TheVariants.{Asks, Sets}
-use Rattle.explore.specs.declared.text_facts.TextFacts.{TextFacts}
-use Rattle.explore.specs.declared.flat_state.FlatState.{FlatState}
+use Rattle.explore.specs.declared.text.facts.NumberedCalls.{NumberedCalls}
+use Rattle.explore.specs.declared.text.facts.NumberedCalls.TheVariants.{Asks, Sets}
+use Rattle.explore.specs.declared.text.facts.TextFacts.{TextFacts}
+use Rattle.explore.specs.declared.state.flat_state.FlatState.{FlatState}
 use Rattle.explore.specs.Machines.{AreLawfulMachineSteps, MachineKnows}
 use Rattle.explore.specs.PersistentSets.{AsksInPersistentSet, IsPersistentMember, IsPersistentSet, IsYetToCall}
 use Rattle.explore.specs.TextGuards.{AreGuardedByText, IsGuardedByText}

@@ -6,8 +6,8 @@ use Rattle.journal.specs.declared.event.Event.{Event}
 use Rattle.journal.specs.DidEvent.{did}
 use Rattle.lrc_script.specs.Plan.{Plan}
 use Rattle.explore.specs.declared.prefixes.script_call.ScriptCall.{ScriptCall}
-use Rattle.explore.specs.declared.flat_state.FlatState.{FlatState}
-use Rattle.explore.specs.declared.wait_code.ProcessorNumber.{ProcessorNumber}
+use Rattle.explore.specs.declared.state.flat_state.FlatState.{FlatState}
+use Rattle.explore.specs.declared.state.wait_code.ProcessorNumber.{ProcessorNumber}
 use Rattle.explore.specs.FreeChoice.{IsFreeForChoice, IsFreeForChoiceByWords}
 use Rattle.explore.specs.Prefixes.FlatBeginnings.{IsFlatBeginning}
 use Rattle.explore.specs.FoundStates.{IsFoundState}

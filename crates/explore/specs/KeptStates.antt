@@ -3,13 +3,13 @@ use Rattle.std.specs.Prelude.{ℕ, zero, suc, ◌≡◌, ◌+◌, ◌^◌, ◌<�
 use Rattle.std.proofs.Common.{sym, ap, ◌∙◌}
 use Rattle.std.specs.Global.{Vec}
 use Rattle.std.specs.List.{IsDistinct}
-use Rattle.explore.specs.declared.call_table.CallTable.{CallTable}
-use Rattle.explore.specs.declared.flat_state.FlatState.{FlatState}
-use Rattle.explore.specs.declared.kept_state.KeptState.{KeptState}
-use Rattle.explore.specs.declared.kept_state.StateAsks.{StateAsks}
-use Rattle.explore.specs.declared.kept_state.StateMemory.{StateMemory}
-use Rattle.explore.specs.declared.kept_state.StateParts.{StateParts}
-use Rattle.explore.specs.declared.kept_state.StateReplies.{StateReplies}
+use Rattle.explore.specs.declared.state.call_table.CallTable.{CallTable}
+use Rattle.explore.specs.declared.state.flat_state.FlatState.{FlatState}
+use Rattle.explore.specs.declared.state.kept_state.KeptState.{KeptState}
+use Rattle.explore.specs.declared.state.kept_state.StateAsks.{StateAsks}
+use Rattle.explore.specs.declared.state.kept_state.StateMemory.{StateMemory}
+use Rattle.explore.specs.declared.state.kept_state.StateParts.{StateParts}
+use Rattle.explore.specs.declared.state.kept_state.StateReplies.{StateReplies}
 use Rattle.explore.specs.CallTables.{HasCallsMade, call_waiting}
 use Rattle.explore.specs.Machines.{MachinesInSameState, machine_rows}
 

@@ -5,9 +5,9 @@ use Rattle.base.specs.InOrderOnce.{Has, InOrder}
 use Rattle.journal.specs.declared.event.Event.{Event}
 use Rattle.journal.specs.declared.event.Kind.{Kind}
 use Rattle.journal.specs.declared.event.Kind.TheVariants.{Ask, Acquire}
-use Rattle.explore.specs.declared.wait_code.LockHolder.{LockHolder}
-use Rattle.explore.specs.declared.wait_code.WaitCode.{WaitCode}
-use Rattle.explore.specs.declared.wait_code.WaitCode.TheVariants.{Lock}
+use Rattle.explore.specs.declared.state.wait_code.LockHolder.{LockHolder}
+use Rattle.explore.specs.declared.state.wait_code.WaitCode.{WaitCode}
+use Rattle.explore.specs.declared.state.wait_code.WaitCode.TheVariants.{Lock}
 use Rattle.base.specs.Limits.{most_held}
 use Rattle.journal.specs.DidEvent.{event}
 use Rattle.journal.specs.Sizes.{Sizes}
@@ -16,7 +16,7 @@ use Rattle.journal.specs.WellFormed.{Holds, WellFormedKindInRange, LastIs, WellF
 use Rattle.judge.specs.JudgedSizes.{AreJudgedSizesSmall}
 use Rattle.judge.specs.FrontTells.{FrontTellsFlagSet}
 use Rattle.judge.specs.Why.{WhyWaitsFor}
-use Rattle.explore.specs.declared.waiting.Waiting.{Waiting}
+use Rattle.explore.specs.declared.state.waits.Waiting.{Waiting}
 use Rattle.explore.specs.WaitCodes.{WaitCodesAreKept, wait_code_arrivals_open, wait_code_holder, wait_code_nobody}
 
 -- of each processor what it waits for, if it waits

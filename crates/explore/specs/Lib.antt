@@ -7,7 +7,7 @@ pub mod AllowedBeginnings
 pub mod AllowedRoom
 pub mod AllowedSearch
 pub mod AllowedUntil
-pub mod AllowedUntilSearch
+pub mod AllowedSearchEnds
 pub mod StateHashes
 pub mod StateRoom
 pub mod Explored
@@ -34,7 +34,8 @@ pub mod Racing
 pub mod FlatSearch
 pub mod FlatSearchEnds
 pub mod EndingWords
-pub mod UntilSearched
+pub mod SearchGoals
 pub mod Prelude
 pub mod Prefixes
 pub mod WholeRuns
+pub mod MemoryShown

@@ -12,7 +12,7 @@ use Rattle.lrc_script.specs.Lawful.{plan_addresses, IsLawful}
 use Rattle.conformance.specs.Follows.{calls_of, is_fetch, plan_sizes}
 use Rattle.explore.specs.declared.prefixes.script_call.ScriptCall.{ScriptCall}
 use Rattle.explore.specs.declared.prefixes.script_call.ScriptCall.TheVariants.{Call, Adds}
-use Rattle.explore.specs.declared.flat_state.FlatState.{FlatState}
+use Rattle.explore.specs.declared.state.flat_state.FlatState.{FlatState}
 use Rattle.explore.specs.Prefixes.FlatBeginnings.{IsFlatBeginning}
 use Rattle.explore.specs.Prefixes.ScriptCalls.{AreScriptCallRows}
 use Rattle.explore.specs.OutcomeTelling.{AreOutcomeTellingKept}

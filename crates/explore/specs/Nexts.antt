@@ -6,8 +6,8 @@ use Rattle.journal.specs.DidEvent.{did, event}
 use Rattle.journal.specs.Races.{Conflict}
 use Rattle.lrc_script.specs.Plan.{Plan}
 use Rattle.explore.specs.Prefixes.FlatBeginnings.{IsFlatBeginning}
-use Rattle.explore.specs.declared.flat_state.FlatState.{FlatState}
-use Rattle.explore.specs.declared.neighbours.Neighbours.{Neighbours}
+use Rattle.explore.specs.declared.state.flat_state.FlatState.{FlatState}
+use Rattle.explore.specs.declared.search.neighbours.Neighbours.{Neighbours}
 use Rattle.explore.specs.FoundStates.{FoundStateMayDo}
 use Rattle.explore.specs.Machines.{MachineKnows}
 

@@ -1,6 +1,6 @@
 -- A search that has kept no state yet.
 use Rattle.std.specs.Prelude.{◌≡◌, []}
-use Rattle.explore.specs.declared.found_states.FoundStates.{FoundStates}
+use Rattle.explore.specs.declared.state.found_states.FoundStates.{FoundStates}
 use Rattle.explore.specs.KeptStates.{AreNoStateParts}
 use Rattle.explore.specs.Origins.{AreOriginsInOrder, state_origins}
 

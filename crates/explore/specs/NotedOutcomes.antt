@@ -1,7 +1,7 @@
 -- Outcomes that a search has noted, each with what shows it.
 use Rattle.std.specs.Prelude.{ℕ, ◌≡◌, ◌++◌, ◌⊎◌, List, [], ◌∷◌, map}
 use Rattle.base.specs.InOrderOnce.{Has}
-use Rattle.explore.specs.declared.explored.ScriptOutcome.{ScriptOutcome}
+use Rattle.explore.specs.declared.outcomes.answer.ScriptOutcome.{ScriptOutcome}
 use Rattle.explore.specs.Explored.{explored_outcome}
 
 -- the outcomes alone

@@ -1,8 +1,8 @@
 -- Where the states of a search come from.
 use Rattle.std.specs.Prelude.{ℕ, ◌≡◌, ◌+◌, ◌-◌, ◌^◌, ◌≤◌, List, [], ◌∷◌, drop, length, map, slice_index_or, take}
-use Rattle.explore.specs.declared.origins.Origin.{Origin}
-use Rattle.explore.specs.declared.origins.Origins.{Origins}
-use Rattle.explore.specs.declared.wait_code.ProcessorNumber.{ProcessorNumber}
+use Rattle.explore.specs.declared.state.origins.Origin.{Origin}
+use Rattle.explore.specs.declared.state.origins.Origins.{Origins}
+use Rattle.explore.specs.declared.state.wait_code.ProcessorNumber.{ProcessorNumber}
 
 -- the most makers of one origin
 abbrev pub most_origin_makers : ℕ

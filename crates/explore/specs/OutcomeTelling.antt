@@ -7,9 +7,9 @@ use Rattle.lrc_script.specs.Plan.{Plan}
 use Rattle.conformance.specs.Follows.{calls_of}
 use Rattle.explore.specs.declared.prefixes.script_call.ScriptCall.{ScriptCall}
 use Rattle.explore.specs.declared.prefixes.script_call.ScriptCall.TheVariants.{Adds}
-use Rattle.explore.specs.declared.outcome_telling.Detail.{Detail}
-use Rattle.explore.specs.declared.outcome_telling.Detail.TheVariants as detail
-use Rattle.explore.specs.declared.outcome_telling.OutcomeTelling.{OutcomeTelling}
+use Rattle.explore.specs.declared.outcomes.telling.Detail.{Detail}
+use Rattle.explore.specs.declared.outcomes.telling.Detail.TheVariants as detail
+use Rattle.explore.specs.declared.outcomes.telling.OutcomeTelling.{OutcomeTelling}
 use Rattle.explore.specs.Prefixes.ScriptCalls.{script_calls_of_section, script_calls_shown_by, last_reply_of_script_calls}
 
 -- what outcomes of a script tell, by their detail

@@ -6,8 +6,8 @@ use Rattle.journal.specs.Races.{Race}
 use Rattle.lrc_script.specs.Plan.{Plan}
 use Rattle.explore.specs.declared.prefixes.script_call.ScriptCall.{ScriptCall}
 use Rattle.explore.specs.Prefixes.FlatBeginnings.{IsFlatBeginning}
-use Rattle.explore.specs.declared.found_states.FoundStates.{FoundStates}
-use Rattle.explore.specs.declared.neighbours.Neighbours.{Neighbours}
+use Rattle.explore.specs.declared.state.found_states.FoundStates.{FoundStates}
+use Rattle.explore.specs.declared.search.neighbours.Neighbours.{Neighbours}
 use Rattle.explore.specs.FoundStates.{AreFoundStates, found_states}
 use Rattle.explore.specs.Machines.{AreLawfulMachineSteps}
 use Rattle.explore.specs.Nexts.{AreNextNeighbours}

@@ -1,6 +1,6 @@
 -- What states are hashed to.
 use Rattle.std.specs.Prelude.{ℕ, ◌+◌, ◌*◌, ◌%◌, ◌^◌, List, [], ◌∷◌}
-use Rattle.explore.specs.declared.state_hasher.StateHasher.{StateHasher}
+use Rattle.explore.specs.declared.state.hasher.StateHasher.{StateHasher}
 
 -- the number that bytes are, the lowest one first
 abbrev pub state_hash_word : List ℕ → ℕ

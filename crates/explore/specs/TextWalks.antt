@@ -4,10 +4,10 @@ use Rattle.std.specs.Global.{Vec}
 use Rattle.journal.specs.declared.event.Kind.TheVariants.{Set, Await}
 use Rattle.explore.specs.declared.prefixes.script_call.ScriptCall.{ScriptCall}
 use Rattle.explore.specs.declared.prefixes.script_call.ScriptCall.TheVariants.{Call}
-use Rattle.explore.specs.declared.walked_rows.WalkedRow.{WalkedRow}
-use Rattle.explore.specs.declared.walked_flags.WalkedFlag.{WalkedFlag}
-use Rattle.explore.specs.declared.walked_words.WalkedWord.{WalkedWord}
-use Rattle.explore.specs.declared.text_walk.TextWalk.{TextWalk}
+use Rattle.explore.specs.declared.text.walked_rows.WalkedRow.{WalkedRow}
+use Rattle.explore.specs.declared.text.walked_flags.WalkedFlag.{WalkedFlag}
+use Rattle.explore.specs.declared.text.walked_words.WalkedWord.{WalkedWord}
+use Rattle.explore.specs.declared.text.walk.TextWalk.{TextWalk}
 use Rattle.explore.specs.TextGuards.{AreApartByText, ComesBeforeByText, IsTextCallAt, IsTextGuardedAccessAt, text_guard_departures_at, text_guard_held_at, text_guarded_step_address, text_guarded_step_stores}
 use Rattle.explore.specs.Users.{AreUserRowsFew, AreUserRowsWithin}
 use Rattle.explore.specs.WalkedWords.{HasWalkedUser, IsWalkedApart, walked_row_holds}

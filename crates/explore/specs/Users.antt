@@ -7,8 +7,8 @@ use Rattle.journal.specs.declared.event.Kind.{Kind}
 use Rattle.journal.specs.declared.event.Kind.TheVariants.{Acquire, Release, Set, Await}
 use Rattle.explore.specs.declared.prefixes.script_call.ScriptCall.{ScriptCall}
 use Rattle.explore.specs.declared.prefixes.script_call.ScriptCall.TheVariants.{Call, Adds}
-use Rattle.explore.specs.declared.guarded.GuardedUsers.{GuardedUsers}
-use Rattle.explore.specs.declared.guarded.GuardedWordUse.{GuardedWordUse}
+use Rattle.explore.specs.declared.text.guards.GuardedUsers.{GuardedUsers}
+use Rattle.explore.specs.declared.text.guards.GuardedWordUse.{GuardedWordUse}
 use Rattle.explore.specs.TextGuards.{text_guard_held_at, text_guard_departures_at, text_guarded_step_address, text_guarded_step_stores}
 
 -- p is among the users, who stores or not, and holds these locks

@@ -4,10 +4,10 @@ use Rattle.journal.specs.declared.event.Event.{Event}
 use Rattle.journal.specs.declared.event.Kind.{Kind}
 use Rattle.journal.specs.declared.event.Kind.TheVariants as kind
 use Rattle.judge.specs.Why.{WhyWaitsFor}
-use Rattle.explore.specs.declared.wait_code.WaitCode.{WaitCode}
-use Rattle.explore.specs.declared.wait_code.WaitCode.TheVariants.{Lock, Barrier, Flag}
-use Rattle.explore.specs.declared.wait_code.LockHolder.{LockHolder}
-use Rattle.explore.specs.declared.wait_code.ProcessorNumber.{ProcessorNumber}
+use Rattle.explore.specs.declared.state.wait_code.WaitCode.{WaitCode}
+use Rattle.explore.specs.declared.state.wait_code.WaitCode.TheVariants.{Lock, Barrier, Flag}
+use Rattle.explore.specs.declared.state.wait_code.LockHolder.{LockHolder}
+use Rattle.explore.specs.declared.state.wait_code.ProcessorNumber.{ProcessorNumber}
 
 -- the event that ends a wait
 abbrev pub wait_code_end_of : WaitCode → Kind

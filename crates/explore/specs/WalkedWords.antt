@@ -2,10 +2,10 @@
 use Rattle.std.specs.Prelude.{ℕ, ◌≡◌, ◌≢◌, ◌<◌, ◌⊎◌, Bool, false, IsTrue, Some, length, slice_get, slice_index, slice_index_or}
 use Rattle.std.specs.BTreeMap.{get}
 use Rattle.std.specs.Ordering.{nat_cmp}
-use Rattle.explore.specs.declared.walked_rows.WalkedRow.{WalkedRow}
-use Rattle.explore.specs.declared.walked_words.WalkedUser.{WalkedUser}
-use Rattle.explore.specs.declared.walked_words.WalkedUses.{WalkedUses}
-use Rattle.explore.specs.declared.walked_words.WalkedWord.{WalkedWord}
+use Rattle.explore.specs.declared.text.walked_rows.WalkedRow.{WalkedRow}
+use Rattle.explore.specs.declared.text.walked_words.WalkedUser.{WalkedUser}
+use Rattle.explore.specs.declared.text.walked_words.WalkedUses.{WalkedUses}
+use Rattle.explore.specs.declared.text.walked_words.WalkedWord.{WalkedWord}
 
 -- the user's accesses have one at place i, which stores or not, with these locks held
 pub record IsWalkedUser (u : WalkedUser) (i : ℕ) (store : Bool) (held : ℕ → Bool) : Type 0 where

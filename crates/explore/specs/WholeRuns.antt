@@ -2,8 +2,8 @@
 use Rattle.std.specs.Prelude.{◌≡◌, List, map}
 use Rattle.journal.specs.declared.event.Event.{Event}
 use Rattle.lrc_script.specs.Plan.{Plan}
-use Rattle.explore.specs.declared.wait_code.ProcessorNumber.{ProcessorNumber}
-use Rattle.explore.specs.declared.whole_run.RunSoFar.{RunSoFar}
+use Rattle.explore.specs.declared.state.wait_code.ProcessorNumber.{ProcessorNumber}
+use Rattle.explore.specs.declared.search.whole_run.RunSoFar.{RunSoFar}
 use Rattle.explore.specs.Machines.{MachineKnows}
 
 -- its events are these: its machine has done them, and its makers make them

@@ -1,4 +1,5 @@
-//! All schedules of a script on one flat memory: whether it races, whether it can hang, and what it can show.
+//! All schedules of a script on one flat memory: whether it races, whether it can hang, and what it can show. What its runs may
+//! show by the rules of the memory, and what this memory shows, if it races.
 //!
 //! **What contracts see.** `IsExplored` is what an answer says: no prefix races, or here is a race; this is a hang, or
 //! there is none; these are outcomes of whole runs, each once, and all of them or some, told by a `Detail`
@@ -10,6 +11,10 @@
 //! (`call_waiting`). `FoundStates` has the states, each once, with where it comes from (`AreFoundStates`); `Search` has looked
 //! at the first of them (`FlatSearchedUpTo`).
 //!
+//! Each search is for all that there is, or for a run that ends with some words (`Goal`). Module `search` goes through states on
+//! the flat memory, `rules` through beginnings of runs by the rules, `memory` through orders of turns on this memory. Module `text`
+//! has what the script's text shows, `state` what a state is, `outcomes` what is said of runs.
+//!
 //! `AreAllowedRunOutcomes` is what is said of what runs may show by the rules of the memory alone, whether the script races
 //! or not: each load answers a latest store of its past (`IsAllowedRunOutcome`). `IsAllowedUntil` says the same of whether
 //! such a run ends with some words (`IsAllowedUntilRun`).
@@ -18,63 +23,39 @@
 //! some of them if there are more beginnings of runs than were to be looked at. `allowed_until` answers what
 //! `IsAllowedUntil` says. `explore` answers what `IsExplored` says, and `explore_until` what `IsExploredUntil` says.
 //! `guarded_words` says of a word only if it is so that no two accesses of it race; `never_gets_stuck_by_text` says that no
-//! schedule hangs only if that is so; `free_choice` leaves out only what may as well come later (`proofs/reduced`).
+//! schedule hangs only if that is so; `free_choice` leaves out only what may as well come later (`proofs/Reduced`).
+//! `what_memory_shows` tells outcomes of a script on this memory, each with a schedule: a whole run comes by its turns, and its
+//! history shows the outcome (`IsMemoryShown`).
 //! `Waiting` tells exactly whether an event may follow, also where it is put together of what the calls made tell.
+//!
+//! **What is only tested**: that no schedule shows an outcome which `what_memory_shows` says that none shows (module `memory`;
+//! `tests/exploring`).
 #![tactic(auto)]
 
-mod allowed;
-mod allowed_answers;
-mod allowed_beginning;
-mod allowed_calls;
-mod allowed_choice;
-mod allowed_room;
-mod allowed_search;
-mod allowed_showing;
-mod allowed_until_search;
-mod allowed_words;
-mod call_table;
-mod explored;
-mod flat_state;
-mod found_states;
-mod free_choice;
-mod free_run;
-mod guarded;
-mod kept_state;
-mod lock_ranks;
-mod neighbours;
-mod origins;
-mod outcome_telling;
-mod persistent_set;
+mod goal;
+mod memory;
+mod outcomes;
 pub mod prefixes;
 mod progress;
-mod racing_history;
-mod run_outcomes;
+mod rules;
 mod search;
-mod showing;
-mod state_hasher;
-mod state_room;
-mod text_facts;
-mod text_walk;
-mod told_replies;
-mod until;
-mod wait_code;
-mod waiting;
-mod walked_flags;
-mod walked_rows;
-mod walked_words;
-mod whole_run;
+mod state;
+mod text;
 
-pub use allowed::AllowedOutcomes;
-pub use allowed_search::allowed_outcomes;
-pub use allowed_showing::{AllowedShowing, AllowedUntil};
-pub use allowed_until_search::allowed_until;
-pub use explored::{Explored, Hang, Hanging, RacyEvents, ScriptOutcome, ShownOutcome, Verdict};
-pub use lock_ranks::ranked_locks_law;
-pub use outcome_telling::{Detail, full_outcome_telling_law};
+pub use memory::shown::{MemoryShowing, MemoryShown, MemoryUntil, what_memory_shows};
+pub use outcomes::answer::{
+    Explored, Hang, Hanging, RacyEvents, ScriptOutcome, ShownOutcome, Verdict,
+    explored_outcome_parts,
+};
+pub use outcomes::of_run::outcome_of_run;
+pub use outcomes::showing::{ExploredUntil, Showing, ShownRun};
+pub use outcomes::telling::{Detail, full_outcome_telling_law};
 pub use progress::{Progress, Silent};
-pub use run_outcomes::outcome_of_run;
+pub use rules::search::allowed_outcomes;
+pub use rules::showing::{AllowedOutcomes, AllowedShowing, AllowedUntil};
+pub use rules::until::allowed_until;
 pub use search::explore;
-pub use showing::{ExploredUntil, Showing, ShownRun};
-pub use until::explore_until;
-pub use wait_code::ProcessorNumber;
-pub use waiting::Waiting;
+pub use search::until::explore_until;
+pub use state::wait_code::ProcessorNumber;
+pub use state::waits::Waiting;
+pub use text::lock_ranks::ranked_locks_law;

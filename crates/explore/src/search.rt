@@ -9,33 +9,44 @@ ghost use Rattle.explore.specs.Prefixes.Prelude.{AreFlatBeginningsRaceFree, IsFl
 ghost use Rattle.journal.specs.declared.event.Event.{Event as AnEvent};
 ghost use Rattle.explore.specs.FreeChoice.{AreFreeChoiceTextFacts};
 ghost use Rattle.explore.specs.Explored.{AreExploredOutcomes, IsExplored, IsExploredHang, IsExploredHanging, IsExploredVerdict, IsRunOfShownOutcome, explored_outcome, shown_outcome};
-ghost use Rattle.explore.specs.declared.explored.ShownOutcome.{ShownOutcome as AShownOutcome};
+ghost use Rattle.explore.specs.declared.outcomes.answer.ShownOutcome.{ShownOutcome as AShownOutcome};
 ghost use Rattle.base.specs.InOrderOnce.{Has};
 ghost use Rattle.explore.specs.FoundStates.{AreFoundStates, HasRoomForStates, IsFoundStateAt, KeepsFoundStates, found_states};
 ghost use Rattle.explore.specs.Origins.{most_state_origins};
 ghost use Rattle.explore.specs.Machines.{AreLawfulMachineSteps};
-ghost use Rattle.explore.specs.Racing.{AreRacing};
+ghost use Rattle.explore.specs.SearchGoals.{IsRunOfGoal};
 ghost use Rattle.explore.specs.StateRoom.{state_room_at_most};
-ghost use Rattle.explore.specs.declared.outcome_telling.Detail.{Detail as ADetail};
+ghost use Rattle.explore.specs.declared.outcomes.telling.Detail.{Detail as ADetail};
 ghost use Rattle.explore.specs.OutcomeTelling.{outcome_telling_of_script};
-ghost use Rattle.explore.specs.FlatSearch.{FlatSearchHasHang, IsFlatSearchedAt, IsFlatSearchedThrough, AreFlatSearchNotes, FlatSearchedUpTo, HasMoreToFlatSearch};
+ghost use Rattle.explore.specs.FlatSearch.{FlatSearchHasHang, IsFlatSearchedAt, AreFlatSearchNotes, FlatSearchedUpTo, HasMoreToFlatSearch};
 ghost use Rattle.explore.specs.FlatSearch.{AreFlatSearchPlaces, IsFlatSearchHangingOpen, IsFlatSearchVerdictOpen, IsFlatSearched, MayNoteInFlatSearch};
-ghost use Rattle.explore.specs.FlatSearchEnds.{IsFlatSearchEnd};
+ghost use Rattle.explore.specs.FlatSearchEnds.{IsFlatSearchEnd, IsFlatSearchedThrough, IsMetByFlatSearch};
 ghost use Rattle.explore.specs.NotedOutcomes.{IsNotedOutcome, noted_outcomes};
 
-use crate::explored::{Explored, Hang, Hanging, ScriptOutcome, ShownOutcome, Verdict};
-use crate::flat_state::FlatState;
-use crate::found_states::FoundStates;
-use crate::free_choice::free_choice;
-use crate::guarded::are_all_guarded;
-use crate::neighbours::{Neighbours, are_neighbours_over, neighbour_nexts_of, neighbours_in};
-use crate::outcome_telling::Detail;
+pub mod free_choice;
+pub mod free_run;
+pub mod neighbours;
+pub mod persistent_set;
+pub mod racing_history;
+pub mod until;
+pub mod whole_run;
+
+use crate::goal::Goal;
+use crate::outcomes::answer::{Explored, Hang, Hanging, ScriptOutcome, ShownOutcome, Verdict};
+use crate::outcomes::telling::Detail;
 use crate::prefixes::{ScriptCall, script_calls_of_all};
 use crate::progress::Progress;
-use crate::racing_history::racing_history;
-use crate::state_room::state_room_at_most;
-use crate::text_facts::{TextFacts, text_facts};
-use crate::whole_run::{never_gets_stuck_by_text, shown_whole_run};
+use crate::search::free_choice::free_choice;
+use crate::search::neighbours::{
+    Neighbours, are_neighbours_over, neighbour_nexts_of, neighbours_in,
+};
+use crate::search::racing_history::racing_history;
+use crate::search::whole_run::{never_gets_stuck_by_text, shown_whole_run};
+use crate::state::flat_state::FlatState;
+use crate::state::found_states::FoundStates;
+use crate::state::room::state_room_at_most;
+use crate::text::facts::{TextFacts, text_facts};
+use crate::text::guards::are_all_guarded;
 use indexmap::IndexMap;
 use lrc_script::script::Script;
 use std::alloc::{AllocError, Global};
@@ -51,15 +62,24 @@ pub struct Search {
     hang: Option<usize>,
 }
 
+/// What ends a search before all states were looked at.
+#[derive(Clone, Copy)]
+pub enum Met {
+    /// The state at this place is what is looked for.
+    Ending(usize),
+    /// Two next events conflict.
+    Conflict(Neighbours),
+}
+
 /// How a search ended.
 #[derive(Clone, Copy)]
 pub struct SearchEnd {
     /// How many states were found.
-    states: usize,
-    /// Two next events that conflict, if the search met such.
-    neighbours: Option<Neighbours>,
+    pub states: usize,
+    /// What ended it, if that was met.
+    pub met: Option<Met>,
     /// Whether all states were looked at.
-    through: bool,
+    pub through: bool,
 }
 
 /// What a search has found but for outcomes.
@@ -84,17 +104,17 @@ fn note_search_outcome(
 }
 
 /// Whether more states were found than were to be looked at.
-pub(crate) fn is_search_past(states: usize, most: usize) -> bool
+fn is_search_past(states: usize, most: usize) -> bool
     ensures { IsTrue result ↔ (most < states) }
 {
     states > most
 }
 
-/// Whether all states were looked at: no two events conflict, and no more states were found than were to be looked at.
-fn is_search_through(neighbours: Option<Neighbours>, states: usize, most: usize) -> bool
-    ensures { IsTrue result ↔ ((neighbours ≡ None) × (states ≤ most)) }
+/// Whether all states were looked at: nothing was met that ends a search, and no more states were found than were to be looked at.
+fn is_search_through(met: Option<Met>, states: usize, most: usize) -> bool
+    ensures { IsTrue result ↔ ((met ≡ None) × (states ≤ most)) }
 {
-    match neighbours {
+    match met {
         Some(_) => false,
         None => states <= most,
     }
@@ -112,7 +132,7 @@ fn run_of_given_up(
     requires { AreLawfulMachineSteps (plan_of script.now) steps.now }
     ensures { IfOk result (λ o. IfSome o (IsRunOfShownOutcome (plan_of script.now) detail)) }
 {
-    match end.neighbours {
+    match end.met {
         None if !end.through => shown_whole_run(alloc, script, steps, detail),
         _ => Ok(None),
     }
@@ -215,7 +235,7 @@ impl Search {
 
     /// Looks at the state at this place, which is given: the two events that conflict, if there are such; else what comes
     /// next is found, by one event that is free, by asks, or by all, and what there is to note is noted.
-    pub(crate) fn look_at(
+    fn look_at(
         &mut self,
         state: FlatState,
         steps: &[Vec<ScriptCall>],
@@ -250,19 +270,21 @@ impl Search {
         Ok(None)
     }
 
-    /// Looks at each state that there is, until two events conflict or more than `most` states are found.
+    /// Looks at each state that there is, until one is what is looked for, two events conflict or more than `most` states are
+    /// found.
     fn look_at_all<P: Progress>(
         &mut self,
         steps: &[Vec<ScriptCall>],
         facts: &TextFacts,
+        goal: Goal<'_>,
         most: usize,
         progress: &mut P,
-    ) -> Result<Option<Neighbours>, AllocError>
+    ) -> Result<Option<Met>, AllocError>
         requires facts { AreFreeChoiceTextFacts steps.now facts.now }
         requires room { most + most_processors ≤ most_state_origins }
         requires searched { (s : Plan) × AreLawfulMachineSteps s steps.now × FlatSearchedUpTo s self.old steps.now 0 }
         ensures looked { IfOk result (λ o. (s : Plan) → AreLawfulMachineSteps s steps.now → FlatSearchedUpTo s self.old steps.now 0
-            → IsFlatSearchedThrough s self.new steps.now most o) }
+            → IsFlatSearchedThrough s self.new steps.now (IsRunOfGoal s goal.entry) most o) }
         ensures few { IfOk result (λ _. (s : Plan) → AreLawfulMachineSteps s steps.now → FlatSearchedUpTo s self.old steps.now 0
             → length (found_states self.old.found) ≤ 1 → length (found_states self.new.found) ≤ most + most_processors) }
         ensures telling { IfOk result (λ _. (s : Plan) → AreLawfulMachineSteps s steps.now → FlatSearchedUpTo s self.old steps.now 0
@@ -278,8 +300,11 @@ impl Search {
                 return Ok(None);
             }
             let state = self.found.at(place)?;
+            if goal.is_met_by(&state, steps) {
+                return Ok(Some(Met::Ending(place)));
+            }
             if let Some(neighbours) = self.look_at(state, steps, facts, place)? {
-                return Ok(Some(neighbours));
+                return Ok(Some(Met::Conflict(neighbours)));
             }
         }
         Ok(None)
@@ -327,27 +352,30 @@ impl Search {
         }
     }
 
-    /// Whether the script races: if these two events conflict it does; it may be known to be race-free. The only error is
-    /// running out of memory.
+    /// Whether the script races, if a search for all that there is met this: it does if two events conflict; it may be known to be
+    /// race-free. The only error is running out of memory.
     fn verdict(
         &self,
         alloc: Global,
         script: &Script,
         steps: &[Vec<ScriptCall>],
-        neighbours: Option<Neighbours>,
+        met: Option<Met>,
         race_free: bool,
     ) -> Result<Verdict, AllocError>
         requires lawful { IsLawful (plan_of script.now) }
         requires free { IsTrue race_free → AreFlatBeginningsRaceFree (plan_of script.now) }
-        requires racing { MatchOption neighbours ⊤ (AreRacing (plan_of script.now) self.now.found steps.now) }
+        requires found { AreFoundStates (plan_of script.now) self.now.found }
+        requires met { MatchOption met ⊤ (IsMetByFlatSearch (plan_of script.now) self.now steps.now (λ _. ⊥)) }
         ensures verdict { IfOk result (IsExploredVerdict (plan_of script.now)) }
-        ensures opens { IfOk result (IsFlatSearchVerdictOpen neighbours race_free) }
+        ensures opens { IfOk result (IsFlatSearchVerdictOpen met race_free) }
     {
-        match neighbours {
-            Some(neighbours) => {
+        match met {
+            Some(Met::Conflict(neighbours)) => {
                 let racy = racing_history(alloc, script, steps, &self.found, neighbours)?;
                 Ok(Verdict::Racy(racy))
             }
+            // No state ends a search for all that there is.
+            Some(Met::Ending(_)) => Ok(Verdict::Undecided),
             None if race_free => Ok(Verdict::RaceFree),
             None => Ok(Verdict::Undecided),
         }
@@ -367,22 +395,23 @@ impl Search {
         requires steps { AreLawfulMachineSteps (plan_of script.now) steps.now }
         requires free { IsTrue race_free → AreFlatBeginningsRaceFree (plan_of script.now) }
         requires never { IsTrue never → (g : List AnEvent) → ¬ IsFlatBeginningHanging (plan_of script.now) g }
-        requires ended { (most : ℕ) × IsFlatSearchEnd (plan_of script.now) self.now steps.now most end }
+        requires ended { (most : ℕ) × IsFlatSearchEnd (plan_of script.now) self.now steps.now (λ _. ⊥) most end }
         ensures verdict { IfOk result (λ found. IsExploredVerdict (plan_of script.now) found.verdict) }
         ensures hanging { IfOk result (λ found. IsExploredHanging (plan_of script.now) found.hanging) }
-        ensures verdict_opens { IfOk result (λ found. IsFlatSearchVerdictOpen end.neighbours race_free found.verdict) }
+        ensures verdict_opens { IfOk result (λ found. IsFlatSearchVerdictOpen end.met race_free found.verdict) }
         ensures hanging_opens { IfOk result (λ found. IsFlatSearchHangingOpen end.through found.hanging) }
     {
-        let verdict = self.verdict(alloc, script, steps, end.neighbours, race_free)?;
+        let verdict = self.verdict(alloc, script, steps, end.met, race_free)?;
         let hanging = self.hanging(alloc, script, steps, end.through, never)?;
         Ok(Findings { verdict, hanging })
     }
 
     /// Looks at each state that there is, as `look_at_all` does, and says how that ended.
-    fn look_to_the_end<P: Progress>(
+    pub(crate) fn look_to_the_end<P: Progress>(
         &mut self,
         steps: &[Vec<ScriptCall>],
         facts: &TextFacts,
+        goal: Goal<'_>,
         most: usize,
         progress: &mut P,
     ) -> Result<SearchEnd, AllocError>
@@ -390,16 +419,16 @@ impl Search {
         requires room { most + most_processors ≤ most_state_origins }
         requires searched { (s : Plan) × AreLawfulMachineSteps s steps.now × FlatSearchedUpTo s self.old steps.now 0 }
         ensures ended { IfOk result (λ end. (s : Plan) → AreLawfulMachineSteps s steps.now → FlatSearchedUpTo s self.old steps.now 0
-            → length (found_states self.old.found) ≤ 1 → IsFlatSearchEnd s self.new steps.now most end) }
+            → length (found_states self.old.found) ≤ 1 → IsFlatSearchEnd s self.new steps.now (IsRunOfGoal s goal.entry) most end) }
         ensures telling { IfOk result (λ _. (s : Plan) → AreLawfulMachineSteps s steps.now → FlatSearchedUpTo s self.old steps.now 0
             → self.new.found.first.telling ≡ self.old.found.first.telling) }
     {
-        let neighbours = self.look_at_all(steps, facts, most, progress)?;
+        let met = self.look_at_all(steps, facts, goal, most, progress)?;
         let states = self.found.len();
-        let through = is_search_through(neighbours, states, most);
+        let through = is_search_through(met, states, most);
         Ok(SearchEnd {
             states,
-            neighbours,
+            met,
             through,
         })
     }
@@ -443,10 +472,10 @@ impl Search {
         requires steps { AreLawfulMachineSteps (plan_of script.now) steps.now }
         requires long { length facts.now.guarded.items ≡ plan_addresses (plan_of script.now) }
         requires facts { AreFreeChoiceTextFacts steps.now facts.now }
-        requires ended { (most : ℕ) × IsFlatSearchEnd (plan_of script.now) self.old steps.now most end }
+        requires ended { (most : ℕ) × IsFlatSearchEnd (plan_of script.now) self.old steps.now (λ _. ⊥) most end }
         requires telling { self.old.found.first.telling ≡ outcome_telling_of_script (plan_of script.now) detail }
         ensures { IfOk result (λ answer. (most : ℕ)
-            → IsFlatSearchEnd (plan_of script.now) self.old steps.now (state_room_at_most (plan_of script.now) detail most) end
+            → IsFlatSearchEnd (plan_of script.now) self.old steps.now (λ _. ⊥) (state_room_at_most (plan_of script.now) detail most) end
             → IsExplored (plan_of script.now) detail most answer) }
     {
         let race_free = end.through | are_all_guarded(&facts.guarded);
@@ -484,7 +513,7 @@ impl Search {
         ensures { IfOk result (IsExplored (plan_of script.now) detail most) }
     {
         let most = state_room_at_most(script, detail, most);
-        let end = self.look_to_the_end(steps, facts, most, progress)?;
+        let end = self.look_to_the_end(steps, facts, Goal::All, most, progress)?;
         self.answer(alloc, script, steps, facts, detail, end)
     }
 }

@@ -1,6 +1,3 @@
 pub mod Latest
-pub mod KnownStores
-pub mod LastStores
-pub mod KeptSources
 pub mod LatestAnswers
 pub mod Prelude

@@ -4,17 +4,13 @@
 //! that past (`LatestExplainedAnswer` of journal's specs/Sources/Loads; `IsLatest` says it by processor and place). Happens-before is
 //! happens-before-1 of Adve and Hill. The histories need not be ones that a cluster can make.
 //!
-//! **What is proved.** `ReadableSources` takes a history an event at a time, and tells of any load that may come next exactly
-//! the places of the stores that it may answer. `latest_rows` does this of a whole history.
+//! **What is proved.** `latest_rows` has of each load of a history exactly the places of the stores that it may answer. Of a load
+//! that may come next `KeptStores` tells these stores, as a history goes on.
 //!
 //! **What is only tested**: that memory isn't refused needlessly, and that each refusal is answered.
 
 mod answer_laws;
-mod known;
-mod readable;
 mod rows_of_latest;
-mod stored_intervals;
 
 pub use self::answer_laws::{answer_stays_law, answers_law};
-pub use self::readable::ReadableSources;
 pub use self::rows_of_latest::latest_rows;

@@ -1,20 +1,16 @@
 //! `lrc`: runs scripts of a shared memory and prints the final words, a race verdict and the traffic; explains a run;
 //! samples the runs of a script; looks at all its schedules; or judges or tells a trace.
 //!
-//! Crate `lrc_program` says how a script is run, and what is proved of that; `lrc_commands` has the other commands.
-//! What runs scripts is handed in here.
+//! Crate `lrc_program` says how a script is run, and what is proved of that; `lrc_commands` and `lrc_exploring` have the other
+//! commands. What runs scripts is handed in here.
 #![tactic(auto)]
 
 mod studies;
 mod terminal;
 
-use crate::studies::{
-    study_by_check, study_by_explain, study_by_explore, study_by_sample, study_by_tell,
-};
+use crate::studies::study_file;
 use lrc_options::command_line::options;
-use lrc_options::options::Asked;
-use lrc_program::{answer_program_words, program_words_of, refuse_program_words, run_program_file};
-use lrc_run::OnCluster;
+use lrc_program::{answer_program_words, program_words_of, refuse_program_words};
 use std::process::ExitCode;
 use std::sync::Wait;
 use std::thread::Threads;
@@ -22,12 +18,7 @@ use std::thread::Threads;
 /// Does what the words ask for.
 fn start_lrc<R: Threads + Wait + Sync>(rt: &HostRuntime, handle: &R, words: &[String]) -> u8 {
     match options(rt.alloc(), words) {
-        Ok(Asked::Script(options)) => run_program_file(rt, handle, &OnCluster, &options),
-        Ok(Asked::Explain(options)) => study_by_explain(rt, handle, &options),
-        Ok(Asked::Tell(options)) => study_by_tell(rt, &options),
-        Ok(Asked::Sample(options)) => study_by_sample(rt, handle, &options),
-        Ok(Asked::Explore(options)) => study_by_explore(rt, handle, &options),
-        Ok(Asked::Trace(options)) => study_by_check(rt, &options),
+        Ok(asked) => study_file(rt, handle, &asked),
         Err(error) => answer_program_words(rt, &error),
     }
 }

@@ -1,157 +1,67 @@
-//! The files of the commands that study a script or a trace.
+//! Each command, with its file.
+ghost use Rattle.std.specs.Prelude.{◌≡◌, ◌<◌};
+ghost use Rattle.lrc_options.specs.declared.options.Asked.TheVariants.{Script};
+ghost use Rattle.lrc_options.specs.declared.options.Options.{Options};
 
-use crate::terminal::{TerminalCounted, TerminalFound};
+use crate::terminal::TerminalProgress;
+use lrc_commands::Study;
 use lrc_commands::checking::run_check_command;
 use lrc_commands::explaining::run_explain_command;
-use lrc_commands::exploring::run_explore_command;
 use lrc_commands::sampling::run_sample_command;
 use lrc_commands::telling::run_tell_command;
-use lrc_options::options::{
-    ExplainOptions, ExploreOptions, SampleOptions, TellOptions, TraceOptions,
-};
-use lrc_program::fault::ProgramFault;
-use lrc_program::program::program_says;
-use lrc_program::program_file_named;
-use lrc_program::reasons::{KeepsReason, say_reason};
+use lrc_exploring::exploring::run_explore_command;
+use lrc_options::options::Asked;
+use lrc_program::ProgramStreams;
+use lrc_program::program::program;
 use lrc_run::OnCluster;
-use std::fs::File;
 use std::sync::Wait;
+use std::thread::Threads;
 
-/// Judges the trace of the file, or of standard input if no file or `-` is given.
-pub(crate) fn study_by_check(rt: &HostRuntime, options: &TraceOptions) -> u8 {
-    let alloc = rt.alloc();
-    let (mut out, mut err) = (KeepsReason::new(rt.stdout()), rt.stderr());
-    let status = match program_file_named(&options.file) {
-        None => run_check_command(alloc, options, &mut rt.stdin(), &mut out, &mut err),
-        Some(path) => match File::open(rt, path) {
-            Ok(mut source) => run_check_command(alloc, options, &mut source, &mut out, &mut err),
-            Err(error) => program_says(alloc, Some(path), ProgramFault::from(error), &mut err),
-        },
-    };
-    say_reason(alloc, out.reason(), &mut err);
-    status
-}
-
-/// Explains a run of the file's script, or of that of standard input if no file or `-` is given.
-pub(crate) fn study_by_explain<R: Wait>(
+/// Does what is asked for with what the streams give, and answers the status. The handle is what threads are started by.
+fn study<R: Threads + Wait + Sync>(
     rt: &HostRuntime,
     handle: &R,
-    options: &ExplainOptions,
-) -> u8 {
+    asked: &Asked,
+    streams: &mut ProgramStreams,
+) -> u8
+    requires { (o : Options) → asked.now ≡ Script o → 0 < o.tries }
+{
     let alloc = rt.alloc();
-    let (mut out, mut err) = (KeepsReason::new(rt.stdout()), rt.stderr());
-    let status = match program_file_named(&options.file) {
-        None => run_explain_command(
-            &OnCluster,
-            handle,
-            alloc,
-            options,
-            &mut rt.stdin(),
-            &mut out,
-            &mut err,
-        ),
-        Some(path) => match File::open(rt, path) {
-            Ok(mut source) => run_explain_command(
-                &OnCluster,
-                handle,
-                alloc,
-                options,
-                &mut source,
-                &mut out,
-                &mut err,
-            ),
-            Err(error) => program_says(alloc, Some(path), ProgramFault::from(error), &mut err),
-        },
+    let ProgramStreams { source, out, err } = streams;
+    let study = Study {
+        runs: &OnCluster,
+        rt: handle,
+        alloc,
     };
-    say_reason(alloc, out.reason(), &mut err);
-    status
+    match asked {
+        Asked::Script(options) => program(&OnCluster, handle, alloc, options, source, out, err),
+        Asked::Explain(options) => run_explain_command(&study, options, source, out, err),
+        Asked::Tell(options) => run_tell_command(alloc, options, source, out, err),
+        Asked::Sample(options) => {
+            let mut progress = TerminalProgress::new(rt, u64::from(options.seeds) + 1);
+            run_sample_command(&study, options, source, out, err, &mut progress)
+        }
+        Asked::Explore(options) => {
+            let mut progress = TerminalProgress::new(rt, 0);
+            run_explore_command(&study, options, source, out, err, &mut progress)
+        }
+        Asked::Trace(options) => run_check_command(alloc, options, source, out, err),
+    }
 }
 
-/// Tells the trace of the file, or of standard input if no file or `-` is given.
-pub(crate) fn study_by_tell(rt: &HostRuntime, options: &TellOptions) -> u8 {
-    let alloc = rt.alloc();
-    let (mut out, mut err) = (KeepsReason::new(rt.stdout()), rt.stderr());
-    let status = match program_file_named(&options.file) {
-        None => run_tell_command(alloc, options, &mut rt.stdin(), &mut out, &mut err),
-        Some(path) => match File::open(rt, path) {
-            Ok(mut source) => run_tell_command(alloc, options, &mut source, &mut out, &mut err),
-            Err(error) => program_says(alloc, Some(path), ProgramFault::from(error), &mut err),
-        },
-    };
-    say_reason(alloc, out.reason(), &mut err);
-    status
-}
-
-/// Samples the file's script, or that of standard input if no file or `-` is given.
-pub(crate) fn study_by_sample<R: Wait>(
+/// Does what is asked for with the file that is named, or with standard input if no file or `-` is.
+pub(crate) fn study_file<R: Threads + Wait + Sync>(
     rt: &HostRuntime,
     handle: &R,
-    options: &SampleOptions,
-) -> u8 {
-    let alloc = rt.alloc();
-    let (mut out, mut err) = (KeepsReason::new(rt.stdout()), rt.stderr());
-    let runs = TerminalCounted::new(rt, OnCluster, u64::from(options.seeds) + 1);
-    let status = match program_file_named(&options.file) {
-        None => run_sample_command(
-            &runs,
-            handle,
-            alloc,
-            options,
-            &mut rt.stdin(),
-            &mut out,
-            &mut err,
-        ),
-        Some(path) => match File::open(rt, path) {
-            Ok(mut source) => run_sample_command(
-                &runs,
-                handle,
-                alloc,
-                options,
-                &mut source,
-                &mut out,
-                &mut err,
-            ),
-            Err(error) => program_says(alloc, Some(path), ProgramFault::from(error), &mut err),
-        },
+    asked: &Asked,
+) -> u8
+    requires { (o : Options) → asked.now ≡ Script o → 0 < o.tries }
+{
+    let mut streams = match ProgramStreams::open(rt, asked.file()) {
+        Ok(streams) => streams,
+        Err(status) => return status,
     };
-    say_reason(alloc, out.reason(), &mut err);
-    status
-}
-
-/// Looks at all schedules of the file's script, or of that of standard input if no file or `-` is given.
-pub(crate) fn study_by_explore<R: Wait>(
-    rt: &HostRuntime,
-    handle: &R,
-    options: &ExploreOptions,
-) -> u8 {
-    let alloc = rt.alloc();
-    let (mut out, mut err) = (KeepsReason::new(rt.stdout()), rt.stderr());
-    let mut found = TerminalFound::new(rt);
-    let status = match program_file_named(&options.file) {
-        None => run_explore_command(
-            &OnCluster,
-            handle,
-            alloc,
-            options,
-            &mut rt.stdin(),
-            &mut out,
-            &mut err,
-            &mut found,
-        ),
-        Some(path) => match File::open(rt, path) {
-            Ok(mut source) => run_explore_command(
-                &OnCluster,
-                handle,
-                alloc,
-                options,
-                &mut source,
-                &mut out,
-                &mut err,
-                &mut found,
-            ),
-            Err(error) => program_says(alloc, Some(path), ProgramFault::from(error), &mut err),
-        },
-    };
-    say_reason(alloc, out.reason(), &mut err);
+    let status = study(rt, handle, asked, &mut streams);
+    streams.say_reason(rt);
     status
 }

@@ -1,13 +1,12 @@
 -- Traces that are judged as they are read.
-use Rattle.std.proofs.Common.{◌≡◌, ℕ, ◌≤◌, List, true≢false, [], ◌∷◌, ◌++◌, Option, Some, drop, length, take, subst, sym, refl, ap, ◌∙◌, append_assoc, append-nil, arith, length-append}
+use Rattle.std.proofs.Common.{◌≡◌, ℕ, List, true≢false, [], ◌∷◌, ◌++◌, Option, Some, drop, length, take, subst, sym, refl, ap, ◌∙◌, append_assoc, append-nil, arith, length-append}
 use Rattle.std.specs.Prelude.{None, IfSome, MatchOption}
 use Rattle.std.proofs.lemmas.List.{take-append-drop}
-use Rattle.std.proofs.lemmas.Option.{get_or_from_slice_get, none-some, same_Some, slice_get_within}
+use Rattle.std.proofs.lemmas.Option.{none-some, same_Some}
 use Rattle.std.proofs.Math.Seq.{take-append_seam}
 use Rattle.journal.specs.declared.event.Event.{Event}
-use Rattle.journal.specs.EventsInRange.{EventProcessorsInRange}
 use Rattle.journal.specs.Races.{Race}
-use Rattle.judge.specs.JudgedSizes.{AreStreamedSizes, judged_sizes_of, most_judged_processors}
+use Rattle.judge.specs.JudgedSizes.{AreStreamedSizes, judged_sizes_of}
 use Rattle.lrc_check.specs.declared.checked.Checked.{Checked}
 use Rattle.lrc_check.specs.declared.checked.Rules.{Rules}
 use Rattle.lrc_check.specs.declared.history_judge.HistoryJudge.{HistoryJudge}
@@ -20,7 +19,7 @@ use Rattle.lrc_script.specs.ScriptFaults.{HasNoLineFeed}
 use Rattle.lrc_check.specs.FoundInBytes.{IsFoundInBytes, IsFoundInUnfinished}
 use Rattle.lrc_check.specs.Traces.FedText.{FedText, HasReadFedText, IsFedTextOf, IsFedTextWhole}
 use Rattle.lrc_check.specs.Traces.Labels.{without_trace_labels}
-use Rattle.lrc_check.specs.Traces.LawfulTraces.{IsLawfulTrace, IsWithinLawfulTrace}
+use Rattle.lrc_check.specs.Traces.LawfulTraces.{IsLawfulTrace}
 use Rattle.lrc_check.specs.Traces.Sizes.{trace_sizes_of}
 use Rattle.lrc_check.specs.Traces.TraceText.{trace_text}
 use Rattle.lrc_check.proofs.traces.Feeding.{feeding_unfinished}
@@ -187,20 +186,12 @@ pub stream_all_at_hand : (known : TraceSizes) (sizes : Option TraceSizes) (gone 
 stream_all_at_hand known None gone front es is none trace = absurd (none-some known is)
 stream_all_at_hand known (Some s) gone front es is none trace = stream_no_front front (trace.0 ∙ none)
 
--- and their processors are the trace's
-pub stream_processors : (known : TraceSizes) (sizes : Option TraceSizes) (gone : ℕ) (front es : List Event) → sizes ≡ Some known → front ≡ []
-    → IsTraceSoFar sizes gone front es → EventProcessorsInRange known.processors es
-stream_processors known sizes gone front es is none trace k e at =
-    let lawful = subst (λ xs. IsLawfulTrace (trace_sizes_of known) (xs ++ es)) none (stream_trace known sizes gone front es is trace) in
-    let within = subst (IsWithinLawfulTrace (trace_sizes_of known)) (get_or_from_slice_get es k e e at)
-    (lawful.events k e (slice_get_within es k e at)) in
-    within.processor
-
--- and it has no more processors than a history that is judged as it comes
-pub stream_few_processors : (known : TraceSizes) (sizes : Option TraceSizes) (gone : ℕ) (front es : List Event) → sizes ≡ Some known
-    → IsTraceSoFar sizes gone front es → known.processors ≤ most_judged_processors
-stream_few_processors known sizes gone front es is trace =
-    (stream_trace known sizes gone front es is trace).sizes.streamed.processors
+-- and are the trace's
+pub stream_trace_at_hand : (known : TraceSizes) (sizes : Option TraceSizes) (gone : ℕ) (front es : List Event) → sizes ≡ Some known → gone ≡ 0
+    → IsTraceSoFar sizes gone front es → IsLawfulTrace (trace_sizes_of known) es
+stream_trace_at_hand known sizes gone front es is none trace =
+    subst (λ xs. IsLawfulTrace (trace_sizes_of known) (xs ++ es)) (stream_all_at_hand known sizes gone front es is none trace)
+    (stream_trace known sizes gone front es is trace)
 
 -- the race that was found is one of the events that were read
 pub stream_race : (x : TraceStream) {front : List Event} (found : Checked) → IsFoundInStream front found x

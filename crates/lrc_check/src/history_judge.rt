@@ -130,13 +130,6 @@ impl HistoryJudge {
         })
     }
 
-    /// How many events were judged.
-    pub fn count(&self) -> usize
-        ensures { result ≡ self.now.count }
-    {
-        self.count
-    }
-
     /// The first race of the events so far, the nearest one: the places of the two accesses.
     pub fn race(&self) -> Option<(usize, usize)>
         ensures { result ≡ self.now.judge.race }
@@ -276,20 +269,10 @@ impl HistoryJudge {
         }
     }
 
-    /// Judges these events, which are the whole history: what is found of it. The only error is running out of memory.
+    /// Judges these events, which are the whole history: what is found of it, and the words that need a lock and have none, those
+    /// that are asked for, if it is faithful and has no race. The only error is running out of memory.
     // Who owns a judge makes this one call of it, which borrows it: so its drop is looked at once.
-    fn read_whole(&mut self, alloc: Global, events: &[Event]) -> Result<Checked, AllocError>
-        requires { IsNextPartOfHistory [] events.now self.old }
-        ensures { IfOk result (IsTrueCheckVerdict self.old.rules (judged_sizes_of self.old.judge.sizes) events.now) }
-    {
-        match self.read_all(alloc, events)? {
-            Some(found) => Ok(found),
-            None => Ok(self.finish()),
-        }
-    }
-
-    /// The same, and the words that need a lock and have none, those that are asked for, if it is faithful and has no race.
-    fn read_whole_and_words(
+    fn read_whole(
         &mut self,
         alloc: Global,
         events: &[Event],
@@ -357,9 +340,12 @@ impl HistoryJudge {
     }
 }
 
-/// What is found of a history, as by `judge_history`, and the words that need a lock and have none, those that are asked for, if
-/// it is faithful and has no race. Time and memory are those of `HistoryJudge`. The only error is running out of memory.
-pub fn judge_whole_history(
+/// What is found of a history: whether a memory of the model can make it, and if not, which event is the first that none
+/// makes, and why; and the words that need a lock and have none, those that are asked for, if it is faithful and has no race.
+///
+/// Nothing is asked of the events' own numbers, which may be out of range. Time and memory are those of `HistoryJudge`. The
+/// only error is running out of memory.
+pub fn judge_history(
     alloc: Global,
     sizes: Sizes,
     events: &[Event],
@@ -370,25 +356,6 @@ pub fn judge_whole_history(
     ensures found { IfOk result (λ x. IsTrueCheckVerdict rules (judged_sizes_of sizes) events.now x.0) }
     ensures unprotected { IfOk result (λ x. AreUnprotectedTold (unprotected_looked_for rules.locksets x.0)
         (judged_sizes_of sizes) events.now x.1.items) }
-{
-    let mut judge = HistoryJudge::new(alloc, sizes, rules)?;
-    judge.read_whole_and_words(alloc, events)
-}
-
-/// What is found of a history: whether a memory of the model can make it, and if not, which event is the first that none
-/// makes, and why.
-///
-/// Nothing is asked of the events' own numbers, which may be out of range. Time and memory are those of `HistoryJudge`. The
-/// only error is running out of memory.
-pub fn judge_history(
-    alloc: Global,
-    sizes: Sizes,
-    events: &[Event],
-    rules: Rules,
-) -> Result<Checked, AllocError>
-    requires sizes { AreStreamedSizes (judged_sizes_of sizes) }
-    requires few { length events.now ≤ most_judged_events }
-    ensures { IfOk result (IsTrueCheckVerdict rules (judged_sizes_of sizes) events.now) }
 {
     let mut judge = HistoryJudge::new(alloc, sizes, rules)?;
     judge.read_whole(alloc, events)

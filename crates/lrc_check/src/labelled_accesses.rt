@@ -1,5 +1,6 @@
 //! The accesses that have a label and may still be told, though they aren't at hand any more.
 
+use crate::kept_lists::KeptLists;
 use crate::told_events::KnownEvent;
 use crate::traces::reader::Reader;
 use indexmap::IndexMap;
@@ -10,6 +11,9 @@ use std::alloc::{AllocError, Global};
 /// Of how many words without a lock at most accesses are told that aren't at hand any more: each of those is looked for among all.
 const MOST_TOLD: usize = 256;
 
+/// Fewer labels than this are all kept.
+const FEW_LABELS: usize = 4096;
+
 /// A word, as one processor accesses it.
 #[derive(Clone, Copy, PartialEq, Eq, Hash)]
 struct AccessedWord {
@@ -18,21 +22,23 @@ struct AccessedWord {
 }
 
 /// An access with its label.
-#[derive(Drop)]
+#[derive(Clone, Copy)]
 struct LabelledAccess {
-    stores: bool,
-    /// The locks that its processor held, rising; none if they aren't kept.
-    locks: Vec<usize>,
+    /// The number of the list of locks that its processor held, rising; an empty one if they aren't kept.
+    locks: usize,
     place: usize,
+    /// The number of its label.
+    label: usize,
     value: u32,
-    label: Vec<u8>,
+    stores: bool,
 }
 
 /// The accesses that have a label, those that a finder may still tell: of each word, processor, kind and set of locks held the
 /// last one, which `NearestRaces` and `LocksetFinder` keep, too; those of words without a lock that were found; and of each word
 /// two that hold a lock in common, which are told if the word turns out to lack one at times.
 ///
-/// It takes memory for these accesses and their labels, however long the trace is.
+/// It takes memory for these accesses, 32 bytes each and up to twice that, and for their labels, of which equal ones are kept
+/// once, however long the trace is.
 #[derive(Drop)]
 pub(crate) struct LabelledAccesses {
     /// Whether it is kept which locks are held.
@@ -40,6 +46,12 @@ pub(crate) struct LabelledAccesses {
     /// Of each processor the locks that it holds, rising.
     held: Vec<Vec<usize>>,
     last: IndexMap<AccessedWord, Vec<LabelledAccess>>,
+    /// The locks that these have.
+    locks: KeptLists<usize>,
+    /// Their labels, and some that none of them has any more.
+    labels: KeptLists<u8>,
+    /// How many labels there were when the others were let go of.
+    labels_left: usize,
     /// By place the accesses of words without a lock, and those that hold a lock in common.
     found: IndexMap<usize, KnownEvent>,
     /// The places of those that are still at hand.
@@ -48,7 +60,7 @@ pub(crate) struct LabelledAccesses {
 
 impl LabelledAccess {
     /// The event that it is.
-    fn event(&self, word: AccessedWord) -> Event {
+    fn event(self, word: AccessedWord) -> Event {
         let AccessedWord { address, processor } = word;
         let kind = if self.stores {
             Kind::Store(address, self.value)
@@ -58,23 +70,9 @@ impl LabelledAccess {
         Event { processor, kind }
     }
 
-    /// The same as it is told. The only error is running out of memory.
-    fn known(&self, alloc: Global, word: AccessedWord) -> Result<KnownEvent, AllocError> {
-        KnownEvent::of(alloc, self.place, self.event(word), &self.label)
-    }
-
-    /// Whether it is an access of this kind with these locks held.
-    fn is_of(&self, stores: bool, locks: &[usize]) -> bool {
-        self.stores == stores && self.locks.as_slice() == locks
-    }
-
-    /// Takes the place of an access of its sort that comes later. The only error is running out of memory.
-    fn update(&mut self, place: usize, value: u32, label: &[u8]) -> Result<(), AllocError> {
-        self.label.clear();
-        self.label.extend_from_slice(label)?;
-        self.place = place;
-        self.value = value;
-        Ok(())
+    /// Whether it is of the kind of the other, with the same locks held.
+    fn is_of_sort(self, other: LabelledAccess) -> bool {
+        self.stores == other.stores && self.locks == other.locks
     }
 }
 
@@ -121,30 +119,55 @@ fn labelled_locks_of(held: &[Vec<usize>], processor: usize) -> &[usize] {
 
 /// Keeps an access in the place of the last one of its sort, if there is one. The only error is running out of memory.
 fn keep_labelled_access(
-    alloc: Global,
     accesses: &mut Vec<LabelledAccess>,
-    stores: bool,
-    locks: &[usize],
-    place: usize,
-    value: u32,
-    label: &[u8],
+    access: LabelledAccess,
 ) -> Result<(), AllocError> {
-    for access in accesses.iter_mut() {
-        if access.is_of(stores, locks) {
-            return access.update(place, value, label);
+    for kept in accesses.iter_mut() {
+        if kept.is_of_sort(access) {
+            *kept = access;
+            return Ok(());
         }
     }
-    let mut access = LabelledAccess {
-        stores,
-        locks: Vec::new(alloc),
-        place,
-        value,
-        label: Vec::new(alloc),
-    };
-    access.locks.extend_from_slice(locks)?;
-    access.label.extend_from_slice(label)?;
     accesses.push(access)?;
     Ok(())
+}
+
+/// The first access of a word. The only error is running out of memory.
+fn first_labelled_access(
+    alloc: Global,
+    access: LabelledAccess,
+) -> Result<Vec<LabelledAccess>, AllocError> {
+    let mut accesses = Vec::with_capacity(alloc, 1)?;
+    accesses.push(access)?;
+    Ok(accesses)
+}
+
+/// Has the accesses name their labels by numbers among those that are left. The only error is running out of memory.
+fn move_labels(
+    alloc: Global,
+    accesses: &mut [LabelledAccess],
+    labels: &KeptLists<u8>,
+    left: &mut KeptLists<u8>,
+) -> Result<(), AllocError> {
+    for access in accesses.iter_mut() {
+        access.label = left.number_of(alloc, labels.list(access.label))?;
+    }
+    Ok(())
+}
+
+/// The labels that these accesses have, which name them by their numbers then. The only error is running out of memory.
+fn labels_of_accesses(
+    alloc: Global,
+    last: &mut IndexMap<AccessedWord, Vec<LabelledAccess>>,
+    labels: &KeptLists<u8>,
+) -> Result<KeptLists<u8>, AllocError> {
+    let mut left = KeptLists::new(alloc);
+    for index in 0..last.len() {
+        if let Some(accesses) = last.get_index_mut(index) {
+            move_labels(alloc, accesses, labels, &mut left)?;
+        }
+    }
+    Ok(left)
 }
 
 impl LabelledAccesses {
@@ -154,6 +177,9 @@ impl LabelledAccesses {
             by_locks,
             held: Vec::new(alloc),
             last: IndexMap::new(alloc),
+            locks: KeptLists::new(alloc),
+            labels: KeptLists::new(alloc),
+            labels_left: 0,
             found: IndexMap::new(alloc),
             wanted: IndexMap::new(alloc),
         }
@@ -185,12 +211,28 @@ impl LabelledAccesses {
             return Ok(());
         };
         let locks = labelled_locks_of(&self.held, event.processor);
+        let access = LabelledAccess {
+            locks: self.locks.number_of(alloc, locks)?,
+            place,
+            label: self.labels.number_of(alloc, label)?,
+            value,
+            stores,
+        };
         if let Some(accesses) = self.last.get_mut(&word) {
-            return keep_labelled_access(alloc, accesses, stores, locks, place, value, label);
+            return keep_labelled_access(accesses, access);
         }
-        let mut accesses = Vec::new(alloc);
-        keep_labelled_access(alloc, &mut accesses, stores, locks, place, value, label)?;
+        let accesses = first_labelled_access(alloc, access)?;
         self.last.insert(word, accesses)?;
+        Ok(())
+    }
+
+    /// Lets go of the labels that no access has any more, if most labels may be such. The only error is running out of memory, after
+    /// which the labels may be those of no access.
+    fn let_go_of_labels(&mut self, alloc: Global) -> Result<(), AllocError> {
+        if self.labels.count() / 2 > self.labels_left.max(FEW_LABELS) {
+            self.labels = labels_of_accesses(alloc, &mut self.last, &self.labels)?;
+            self.labels_left = self.labels.count();
+        }
         Ok(())
     }
 
@@ -223,7 +265,7 @@ impl LabelledAccesses {
             self.note_locks(alloc, *event)?;
         }
         self.wanted.clear();
-        Ok(())
+        self.let_go_of_labels(alloc)
     }
 
     /// The processor's last access of a sort of this word, if it stands at this place. The only error is running out of memory.
@@ -236,7 +278,9 @@ impl LabelledAccesses {
         if let Some(accesses) = self.last.get(&word) {
             for access in accesses {
                 if access.place == place {
-                    return Ok(Some(access.known(alloc, word)?));
+                    let label = self.labels.list(access.label);
+                    let known = KnownEvent::of(alloc, place, access.event(word), label)?;
+                    return Ok(Some(known));
                 }
             }
         }

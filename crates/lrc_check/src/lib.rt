@@ -8,10 +8,10 @@
 //!
 //! **What is proved.** A `TraceJudge` takes an event at a time. It tells a lie as soon as that is read: what stands before
 //! it is faithful, and with it nothing is, however it goes on; and why. It tells the first race as soon as its second event
-//! is read, also if that is the lie. A `HistoryJudge` does this of a history by parts, `judge_history` of a whole one,
-//! `judge_trace` of a trace. A `TraceStream` does it of a trace as it is read, and lets go of what it has judged; it answers a
+//! is read, also if that is the lie. A `HistoryJudge` does this of a history by parts, `judge_history` of a whole one. A
+//! `TraceStream` does it of a trace as it is read, and lets go of what it has judged; it answers a
 //! fault of a line only if the bytes are no trace's. `tell_trace` answers which of a trace's events are told: all of a faithful one, else those up to the first lie and with it. If that
-//! is asked for, the words that need a lock and have none are told besides (`AreUnprotectedTold`), by `judge_trace` and by
+//! is asked for, the words that need a lock and have none are told besides (`AreUnprotectedTold`), by `judge_history` and by
 //! a `TraceStream`, which may have let go of their accesses.
 //!
 //! **What is only tested**, by whole runs of the program `lrc`. The text of what was found, and that no call allocates
@@ -22,6 +22,7 @@ mod check_fault;
 mod checked;
 mod checking_traces;
 mod history_judge;
+mod kept_lists;
 mod labelled_accesses;
 mod telling_traces;
 mod told_events;
@@ -35,12 +36,11 @@ mod waiting;
 
 pub use check_fault::CheckFault;
 pub use checked::{Checked, Lie, Rules, TraceVerdict, Unexplained, are_counts_judged};
-pub use checking_traces::{JudgedTrace, judge_trace, write_verdict};
-pub use history_judge::{HistoryJudge, judge_history, judge_whole_history};
+pub use checking_traces::{JudgedTrace, write_verdict};
+pub use history_judge::judge_history;
 pub use telling_traces::{ToldTrace, tell_trace};
 pub use told_events::{KnownEvent, ToldEvents};
 pub use trace_history::can_trace_be_held;
-pub use trace_judge::TraceJudge;
 pub use trace_stream::TraceStream;
 pub use verdict_text::{AnswersTold, verdict_reason_text, verdict_text_answers};
 pub use waiting::circle_of_waits;

@@ -1,14 +1,16 @@
 //! What of a trace is told: how far, and what is said of it.
 ghost use Rattle.std.specs.Prelude.{◌≡◌, IfOk, false, is_some};
-ghost use Rattle.lrc_check.specs.Traces.Prelude.{trace_sizes_of};
-ghost use Rattle.lrc_check.specs.Prelude.{IsHeldTrace, IsTraceTold, IsTrueCheckVerdict, is_told_trace_a_lie};
+ghost use Rattle.lrc_check.specs.Traces.Prelude.{IsLawfulTrace, trace_sizes_of};
+ghost use Rattle.lrc_check.specs.Prelude.{IsHeldTrace, IsTraceRaceApart, IsTraceTold, IsTrueCheckVerdict, is_told_trace_a_lie};
 
 use crate::checked::{Rules, TraceVerdict};
-use crate::checking_traces::{JudgedTrace, judge_trace};
+use crate::checking_traces::{JudgedTrace, trace_race_apart};
+use crate::history_judge::judge_history;
 use crate::told_events::ToldEvents;
-use crate::trace_history::trace_history_of;
+use crate::trace_history::{trace_history_of, trace_history_sizes};
 use crate::traces::trace::LabelledTrace;
 use crate::verdict_text::{verdict_lie_text, verdict_text_of};
+use crate::waiting::waits_at_end_of_trace;
 use journal::Event;
 use judge::{History, MemoryModel};
 use std::alloc::{AllocError, Global};
@@ -65,6 +67,32 @@ fn tell_judged_trace<'a>(
     })
 }
 
+/// Judges the trace by these rules. The only error is running out of memory.
+fn judge_told_trace(
+    alloc: Global,
+    labelled: &LabelledTrace,
+    rules: Rules,
+) -> Result<JudgedTrace, AllocError>
+    requires { IsLawfulTrace (trace_sizes_of labelled.now.trace.sizes) labelled.now.trace.events.items }
+    ensures found { IfOk result
+        (λ x. IsTrueCheckVerdict rules (trace_sizes_of labelled.now.trace.sizes) labelled.now.trace.events.items x.found) }
+    ensures race { IfOk result
+        (λ x. IsTraceRaceApart (trace_sizes_of labelled.now.trace.sizes) labelled.now.trace.events.items x.found.race x.race) }
+{
+    let sizes = labelled.trace.sizes;
+    let events: &[Event] = &labelled.trace.events;
+    let (found, unprotected) = judge_history(alloc, trace_history_sizes(sizes), events, rules)?;
+    let race = trace_race_apart(alloc, sizes, events, found.race)?;
+    let waits = waits_at_end_of_trace(alloc, sizes, events, &found.verdict)?;
+    Ok(JudgedTrace {
+        found,
+        race,
+        unprotected,
+        waits,
+        unfinished: labelled.unfinished,
+    })
+}
+
 /// What is told of the trace, which is judged by the model, lax or not. Whether it `can_trace_be_held` is to be asked before.
 /// The only error is running out of memory.
 pub fn tell_trace(
@@ -83,7 +111,6 @@ pub fn tell_trace(
         ends_at_race: false,
         locksets: None,
     };
-    let mut judged = judge_trace(alloc, &labelled.trace, rules)?;
-    judged.unfinished = labelled.unfinished;
+    let judged = judge_told_trace(alloc, labelled, rules)?;
     tell_judged_trace(alloc, labelled, &judged, rules)
 }

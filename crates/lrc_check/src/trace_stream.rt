@@ -8,7 +8,7 @@ ghost use Rattle.lrc_check.specs.Prelude.{AreUnprotectedTold, HasStreamReadOn, I
 
 use crate::check_fault::CheckFault;
 use crate::checked::{Checked, Lie, Rules, TraceVerdict};
-use crate::checking_traces::JudgedTrace;
+use crate::checking_traces::{JudgedTrace, trace_race_apart};
 use crate::history_judge::HistoryJudge;
 use crate::labelled_accesses::LabelledAccesses;
 use crate::told_events::{KnownEvent, ToldEvents};
@@ -18,8 +18,7 @@ use crate::traces::reader::Reader;
 use crate::traces::trace::TraceSizes;
 use crate::verdict_text::{AnswersTold, verdict_text_answers};
 use crate::waiting::waits_at_end_of_trace;
-use base::MOST_HELD;
-use causes::{RaceApart, Wait, race_accesses_apart};
+use causes::{RaceApart, Wait};
 use journal::{Event, Kind};
 use judge::FlatStore;
 use judge::locksets::Unprotected;
@@ -332,15 +331,12 @@ impl TraceStream {
             × IfSome race (λ r. Race (front ++ self.now.reader.events) r.0 r.1) }
         ensures none { IfOk result (λ o. race ≡ None → o ≡ None) }
     {
-        let (Some(race), Some(sizes)) = (race, self.reader.sizes()) else {
-            return Ok(None);
-        };
-        let events = self.reader.events();
-        if self.reader.gone() > 0 || events.len() > MOST_HELD {
-            return Ok(None);
+        match self.reader.sizes() {
+            Some(sizes) if self.reader.gone() == 0 => {
+                trace_race_apart(alloc, sizes, self.reader.events(), race)
+            }
+            _ => Ok(None),
         }
-        let apart = race_accesses_apart(alloc, sizes.processors, sizes.locks, events, race)?;
-        Ok(Some(apart))
     }
 
     /// Keeps the stores that the load of this lie may answer, those that are told: they may have been let go of. The only error is

@@ -1,5 +1,5 @@
 -- A trace that was read and judged.
-use Rattle.std.proofs.Common.{◌≡◌, ◌≢◌, ◌∙◌, ℕ, suc, Bool, true, false, List, [], ◌++◌, ◌≤◌, Option, Some, None, Result, Ok, Err, length, take, drop, refl, sym, ap, subst, append_assoc, append-nil, take-append-drop, arith}
+use Rattle.std.proofs.Common.{◌≡◌, ◌≢◌, ◌∙◌, ℕ, inl, suc, Bool, true, false, List, [], ◌++◌, ◌≤◌, Option, Some, None, Result, Ok, Err, length, take, drop, refl, sym, ap, subst, append_assoc, append-nil, take-append-drop, arith}
 use Rattle.std.proofs.lemmas.List.{take_all}
 use Rattle.std.specs.Prelude.{IfErr, IfOk, IfSome}
 use Rattle.std.specs.Io.KnownBytes.{Consumes, IsAtEnd}
@@ -21,12 +21,12 @@ use Rattle.lrc_check.specs.declared.traces.fault.TraceFault.TheVariants.{NoMemor
 use Rattle.lrc_check.proofs.FoundRaces.{found_race_of_front}
 use Rattle.lrc_check.specs.Traces.FedText.{FedTextBeginsTrace, IsFedTextOf, FedText}
 use Rattle.lrc_check.specs.Traces.Labels.{without_trace_labels}
-use Rattle.lrc_check.specs.Traces.LawfulTraces.{IsNoLawfulTrace, IsLawfulTrace}
+use Rattle.lrc_check.specs.Traces.LawfulTraces.{IsLawfulTrace}
 use Rattle.lrc_check.specs.Traces.TraceText.{trace_text}
 use Rattle.lrc_commands.specs.declared.checking.Judgement.{Judgement}
 use Rattle.lrc_commands.specs.declared.fault.CommandFault.{CommandFault}
 use Rattle.lrc_commands.specs.ExitStatus.{IsCommandExitStatusOfInput}
-use Rattle.lrc_commands.specs.TraceCommand.{BeginsWithTraceCommandText, HasTraceCommandText, IsTraceCommandFound, IsTraceCommandText, IsTraceCommandJudgedAs, IsTraceCommandOnNone, IsTraceCommandToldAs, IsTraceCommandReadSoFar, trace_command_judgement}
+use Rattle.lrc_commands.specs.TraceCommand.{BeginsWithTraceCommandText, HasNoTraceCommandFront, HasTraceCommandText, IsTraceCommandFound, IsTraceCommandText, IsTraceCommandJudgedAs, IsTraceCommandNoText, IsTraceCommandOnNone, IsTraceCommandToldAs, IsTraceCommandReadSoFar, trace_command_judgement}
 
 -- nothing was read yet
 pub judged_source_fed_none : (source : Option (List ℕ)) (x : FedText) → IsFedTextOf [] [] [] x → IsTraceCommandReadSoFar source source (Ok x)
@@ -58,10 +58,18 @@ judged_source_consumed_on (Some xs) (Some ys) (Some zs) fed piece had more =
     had ∙ ap (λ (x : List ℕ). fed ++ x) more ∙ sym (append_assoc fed piece zs)
 
 -- no trace begins with what the source had
-pub judged_source_no_trace : (source left : Option (List ℕ)) (fed : List ℕ) → Consumes source left fed → ¬ FedTextBeginsTrace fed → IsTraceCommandOnNone source
-judged_source_no_trace None left fed had none = tt
-judged_source_no_trace (Some xs) None fed had none = absurd had
-judged_source_no_trace (Some xs) (Some zs) fed had none = λ s es h text. none (s, es, h, zs, sym text ∙ ap without_trace_labels had)
+pub judged_source_no_front : (source left : Option (List ℕ)) (fed : List ℕ) → Consumes source left fed → ¬ FedTextBeginsTrace fed
+    → IfSome source HasNoTraceCommandFront
+judged_source_no_front None left fed had none = tt
+judged_source_no_front (Some xs) None fed had none = absurd had
+judged_source_no_front (Some xs) (Some zs) fed had none = (fed, zs, had, none)
+
+-- so it is none
+pub judged_source_no_trace : (unfinished : Bool) (source : Option (List ℕ)) → IfSome source HasNoTraceCommandFront
+    → IsTraceCommandOnNone unfinished source
+judged_source_no_trace unfinished None none = tt
+judged_source_no_trace true (Some xs) none = inl none
+judged_source_no_trace false (Some xs) none = λ s es h text. none.3 (s, es, h, none.1, sym text ∙ ap without_trace_labels none.2)
 
 -- what was read and the next piece
 pub judged_source_fed_on : (source left after : Option (List ℕ)) (x : FedText) (piece : List ℕ) (y : FedText)
@@ -76,7 +84,7 @@ pub judged_source_fed_refused : (source left after : Option (List ℕ)) (x : Fed
     → ¬ FedTextBeginsTrace (bytes ++ piece))
     → IsTraceCommandReadSoFar source left (Ok x) → Consumes left after piece → IsTraceCommandReadSoFar source after (Err e)
 judged_source_fed_refused source left after x piece e none had more =
-    λ ne. judged_source_no_trace source after (had.0 ++ piece) (judged_source_consumed_on source left after had.0 piece had.1 more) (none ne had.0 [] [] had.2)
+    λ ne. judged_source_no_front source after (had.0 ++ piece) (judged_source_consumed_on source left after had.0 piece had.1 more) (none ne had.0 [] [] had.2)
 
 -- all was read
 pub judged_source_consumed_fully : (source left : Option (List ℕ)) (fed : List ℕ) → Consumes source left fed → IsAtEnd left
@@ -90,10 +98,10 @@ pub judged_source_full_text : (unfinished : Bool) (source : Option (List ℕ)) (
 judged_source_full_text unfinished None fed s es same text = tt
 judged_source_full_text unfinished (Some xs) fed s es same text = subst (λ (x : List ℕ). IsTraceCommandText unfinished x s es) (sym same) text
 
-pub judged_source_full_refused : (source : Option (List ℕ)) (fed : List ℕ) → IfSome source (λ xs. xs ≡ fed) → IsNoLawfulTrace (without_trace_labels fed)
-    → IsTraceCommandOnNone source
-judged_source_full_refused None fed same none = tt
-judged_source_full_refused (Some xs) fed same none = subst (λ (x : List ℕ). IsNoLawfulTrace (without_trace_labels x)) (sym same) none
+pub judged_source_full_refused : (unfinished : Bool) (source : Option (List ℕ)) (fed : List ℕ) → IfSome source (λ xs. xs ≡ fed)
+    → IsTraceCommandNoText unfinished fed → IsTraceCommandOnNone unfinished source
+judged_source_full_refused unfinished None fed same none = tt
+judged_source_full_refused unfinished (Some xs) fed same none = subst (IsTraceCommandNoText unfinished) (sym same) none
 
 -- a history that begins with a lie isn't faithful
 no_judged_source_faithful : (m : MemoryModel) (lax : Bool) (s : Sizes) (j : List Event) (n : ℕ) (x : Lie)
@@ -220,10 +228,11 @@ judged_source_answered_by r m lax unfinished source (Ok a) model same judged =
 judged_source_answered_by r m lax unfinished source (Err e) model same judged = tt
 
 -- writing what was found refuses no trace
-pub judged_source_never_refused : {T : Type 0} (source : Option (List ℕ)) (x : Result T CommandFault)
-    → IfErr x (λ fault. IsCommandExitStatusOfInput fault → ⊥) → IfErr x (λ fault. IsCommandExitStatusOfInput fault → IsTraceCommandOnNone source)
-judged_source_never_refused source (Ok a) never = tt
-judged_source_never_refused source (Err fault) never = λ its. absurd (never its)
+pub judged_source_never_refused : {T : Type 0} (unfinished : Bool) (source : Option (List ℕ)) (x : Result T CommandFault)
+    → IfErr x (λ fault. IsCommandExitStatusOfInput fault → ⊥)
+    → IfErr x (λ fault. IsCommandExitStatusOfInput fault → IsTraceCommandOnNone unfinished source)
+judged_source_never_refused unfinished source (Ok a) never = tt
+judged_source_never_refused unfinished source (Err fault) never = λ its. absurd (never its)
 
 -- what was told of the trace that the source had is said of the source
 pub judged_source_told_as : (lies : Bool) (m : MemoryModel) (lax unfinished : Bool) (source : Option (List ℕ)) {s : Sizes} {es : List Event} (told : List Event)

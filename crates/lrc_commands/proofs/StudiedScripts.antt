@@ -1,5 +1,5 @@
 -- A script that was read and then studied.
-use Rattle.std.proofs.Common.{◌≡◌, ◌≢◌, ◌∙◌, ℕ, Bool, true, List, refl, sym, subst, Option, Some, None, Result, Ok, Err, OnOk}
+use Rattle.std.proofs.Common.{◌≡◌, ◌∙◌, ℕ, Bool, true, List, subst, Option, Some, None, Result, Ok, Err, OnOk}
 use Rattle.std.specs.Prelude.{IfErr, IfOk, is_some, option_map, string_bytes}
 use Rattle.std.proofs.lemmas.Option.{none-some, same_Some}
 use Rattle.conformance.specs.declared.ended.Ended.{Ended}
@@ -7,25 +7,14 @@ use Rattle.conformance.specs.declared.schedule.DrawnRun.{DrawnRun}
 use Rattle.conformance.specs.OrderedTurns.{IsEndByOrderedTurns, ordered_turns_of_seed}
 use Rattle.conformance.specs.ScheduleTexts.{IsScheduleText, schedule_orders}
 use Rattle.lrc_script.specs.Plan.{Plan}
-use Rattle.explore.specs.Explored.{IsExplored}
-use Rattle.explore.specs.EndingWords.{IsExploredUntil}
-use Rattle.explore.specs.declared.explored.Explored.{Explored}
-use Rattle.explore.specs.declared.explored.RacyEvents.{RacyEvents}
-use Rattle.explore.specs.declared.explored.Verdict.{Verdict}
-use Rattle.explore.specs.declared.explored.Verdict.TheVariants.{RaceFree, Racy, Undecided}
-use Rattle.explore.specs.declared.showing.ExploredUntil.{ExploredUntil}
-use Rattle.explore.specs.declared.showing.Showing.{Showing}
-use Rattle.explore.specs.declared.showing.Showing.TheVariants as showing
-use Rattle.lrc_explore.specs.Showings.{AreShowingWords}
 use Rattle.lrc_program.specs.Served.{IsServedWithoutScript, IsServedScriptRead}
 use Rattle.lrc_options.specs.declared.options.ExplainOptions.{ExplainOptions}
-use Rattle.lrc_options.specs.declared.options.ExploreOptions.{ExploreOptions}
 use Rattle.lrc_commands.specs.declared.fault.CommandFault.{CommandFault}
 use Rattle.lrc_commands.specs.ExplainCommand.{IsExplainCommandEnd, IsExplainCommandOnSource, IsExplainCommandRun}
+use Rattle.lrc_sample.specs.SampleRuns.{IsSampleOfRuns}
 use Rattle.lrc_sample.specs.declared.detail.SampleDetail.{SampleDetail}
-use Rattle.lrc_commands.specs.SampleCommand.{IsSampleCommandWritten, IsSampleCommandOnSource}
-use Rattle.lrc_commands.specs.ExploreCommand.{IsExploreCommandAllowedFound, IsExploreCommandFoundWritten, IsExploreCommandAsked, IsExploreCommandSearchWritten, IsExploreCommandVerdictWritten, ExploreCommandWritten, explore_command_detail}
-use Rattle.lrc_commands.specs.ExploreCommand.{IsExploreCommandAllowedShowing, IsExploreCommandShowingAsked, IsExploreCommandShowingFound, IsExploreCommandShowingTold}
+use Rattle.lrc_sample.specs.declared.sampling.Sampled.{Sampled}
+use Rattle.lrc_commands.specs.SampleCommand.{IsSampleCommandAnswer, IsSampleCommandWritten, IsSampleCommandOnSource}
 use Rattle.lrc_commands.specs.ExitStatus.{IsCommandExitStatusOfInput}
 
 -- it ended by a schedule's turns
@@ -45,6 +34,14 @@ pub studied_script_end : (o : ExplainOptions) (s : Plan) (e : Ended) → None �
 studied_script_end o s e given by =
     record { by_seed = λ _. by; by_schedule = λ other is. absurd (none-some other (given ∙ is)) }
 
+-- what its runs came to was written
+pub studied_script_sample_written : {A : Type 0} (came : Plan → Option ℕ → DrawnRun → Type 0) (d : SampleDetail) (runs : ℕ) (json : Bool)
+    (script : Plan) (old new : Option (List ℕ)) (sampled : Sampled) (result : Result A CommandFault) → IsSampleOfRuns came d script runs sampled
+    → OnOk result (IsSampleCommandAnswer json old new sampled) → OnOk result (IsSampleCommandWritten came d runs json script old new)
+studied_script_sample_written came d runs json script old new sampled (Ok x) tells written =
+    record { sampled = sampled; tells = tells; written = written }
+studied_script_sample_written came d runs json script old new sampled (Err fault) tells written = tt
+
 -- it was sampled
 pub studied_script_sampled : {A : Type 0} (came : Plan → Option ℕ → DrawnRun → Type 0) (d : SampleDetail) (runs : ℕ) (json : Bool) (script : Plan)
     (source old new : Option (List ℕ)) (result : Result A CommandFault) → IsServedScriptRead source script
@@ -62,73 +59,6 @@ pub studied_script_explained : {A : Type 0} (picture : Bool) (o : ExplainOptions
 studied_script_explained picture o script source old new (Ok line) read told =
     record { script = script; read = read; run = told }
 studied_script_explained picture o script source old new (Err fault) read told = tt
-
--- what the options ask for was looked for
-pub studied_script_searched : (o : ExploreOptions) (script : Plan) (source old new : Option (List ℕ)) (result : Result Bool CommandFault)
-    → IsServedScriptRead source script → IfOk result (λ decided. IsExploreCommandAsked o.outcomes o.until.items o.most decided o.json script old new)
-    → IfOk result (λ decided. ExploreCommandWritten o decided source old new)
-studied_script_searched o script source old new (Ok x) read written = record { script = script; read = read; search = written }
-studied_script_searched o script source old new (Err fault) read written = tt
-
--- of a racy script with what the rules allow
-pub studied_script_verdict : (o : ExploreOptions) (s : Plan) (explored : Explored) (old new : Option (List ℕ)) (result : Result Bool CommandFault)
-    → IsExplored s (explore_command_detail o.outcomes) o.most explored
-    → IfOk result (λ decided. IsExploreCommandVerdictWritten explored.verdict o.outcomes o.most decided o.json s explored old new)
-    → IfOk result (λ decided. IsExploreCommandSearchWritten o.outcomes o.most decided o.json s old new)
-studied_script_verdict o s explored old new (Ok x) is told = record { explored = explored; is = is; told = told }
-studied_script_verdict o s explored old new (Err fault) is told = tt
-
-pub studied_script_allowed : (o : ExploreOptions) (s : Plan) (explored : Explored) (racy : RacyEvents) (old new : Option (List ℕ))
-    (result : Result Bool CommandFault) → explored.verdict ≡ Racy racy
-    → IfOk result (λ decided. IsExploreCommandAllowedFound o.outcomes o.most decided o.json s explored old new)
-    → IfOk result (λ decided. IsExploreCommandVerdictWritten explored.verdict o.outcomes o.most decided o.json s explored old new)
-studied_script_allowed o s explored racy old new result is allowed =
-    subst (λ v. IfOk result (λ decided. IsExploreCommandVerdictWritten v o.outcomes o.most decided o.json s explored old new)) (sym is) allowed
-
--- of another one without
-studied_script_quiet : (v : Verdict) (o : ExploreOptions) (decided : Bool) (s : Plan) (explored : Explored) (old new : Option (List ℕ))
-    → ((racy : RacyEvents) → v ≢ Racy racy) → IsExploreCommandFoundWritten decided o.json explored old new
-    → IsExploreCommandVerdictWritten v o.outcomes o.most decided o.json s explored old new
-studied_script_quiet RaceFree o decided s explored old new isnt found = found
-studied_script_quiet (Racy racy) o decided s explored old new isnt found = absurd (isnt racy refl)
-studied_script_quiet Undecided o decided s explored old new isnt found = found
-
-pub studied_script_found : (o : ExploreOptions) (s : Plan) (explored : Explored) (old new : Option (List ℕ)) (result : Result Bool CommandFault)
-    → ((racy : RacyEvents) → explored.verdict ≢ Racy racy) → IfOk result (λ decided. IsExploreCommandFoundWritten decided o.json explored old new)
-    → IfOk result (λ decided. IsExploreCommandVerdictWritten explored.verdict o.outcomes o.most decided o.json s explored old new)
-studied_script_found o s explored old new (Ok decided) isnt found = studied_script_quiet explored.verdict o decided s explored old new isnt found
-studied_script_found o s explored old new (Err fault) isnt found = tt
-
--- and a run that ends with words, which the script shows
-pub studied_script_asked : (o : ExploreOptions) (s : Plan) (explored : ExploredUntil) (old new : Option (List ℕ)) (result : Result Bool CommandFault)
-    → IsExploredUntil s (explore_command_detail o.outcomes) o.until.items o.most explored → AreShowingWords s.shown o.until.items
-    → IfOk result (λ decided. IsExploreCommandShowingTold explored.showing o.outcomes o.until.items o.most decided o.json s explored old new)
-    → IfOk result (λ decided. IsExploreCommandShowingAsked o.outcomes o.until.items o.most decided o.json s old new)
-studied_script_asked o s explored old new (Ok x) is shown told = record { explored = explored; is = is; shown = shown; told = told }
-studied_script_asked o s explored old new (Err fault) is shown told = tt
-
--- of a racy script by the rules
-pub studied_script_asked_by_rules : (o : ExploreOptions) (s : Plan) (explored : ExploredUntil) (racy : RacyEvents) (old new : Option (List ℕ))
-    (result : Result Bool CommandFault) → explored.showing ≡ showing.Racy racy
-    → IfOk result (λ decided. IsExploreCommandAllowedShowing o.outcomes o.until.items o.most decided o.json s explored old new)
-    → IfOk result (λ decided. IsExploreCommandShowingTold explored.showing o.outcomes o.until.items o.most decided o.json s explored old new)
-studied_script_asked_by_rules o s explored racy old new result is allowed =
-    subst (λ v. IfOk result (λ decided. IsExploreCommandShowingTold v o.outcomes o.until.items o.most decided o.json s explored old new)) (sym is) allowed
-
--- of another one on one flat memory
-studied_script_shown_quiet : (v : Showing) (o : ExploreOptions) (decided : Bool) (s : Plan) (explored : ExploredUntil) (old new : Option (List ℕ))
-    → ((racy : RacyEvents) → v ≢ showing.Racy racy) → IsExploreCommandShowingFound decided o.json explored old new
-    → IsExploreCommandShowingTold v o.outcomes o.until.items o.most decided o.json s explored old new
-studied_script_shown_quiet (showing.Shown run) o decided s explored old new isnt found = found
-studied_script_shown_quiet showing.Never o decided s explored old new isnt found = found
-studied_script_shown_quiet (showing.Racy racy) o decided s explored old new isnt found = absurd (isnt racy refl)
-studied_script_shown_quiet showing.Undecided o decided s explored old new isnt found = found
-
-pub studied_script_asked_flat : (o : ExploreOptions) (s : Plan) (explored : ExploredUntil) (old new : Option (List ℕ)) (result : Result Bool CommandFault)
-    → ((racy : RacyEvents) → explored.showing ≢ showing.Racy racy) → IfOk result (λ decided. IsExploreCommandShowingFound decided o.json explored old new)
-    → IfOk result (λ decided. IsExploreCommandShowingTold explored.showing o.outcomes o.until.items o.most decided o.json s explored old new)
-studied_script_asked_flat o s explored old new (Ok decided) isnt found = studied_script_shown_quiet explored.showing o decided s explored old new isnt found
-studied_script_asked_flat o s explored old new (Err fault) isnt found = tt
 
 -- a fault on the way isn't the input's
 pub studied_script_not_at_fault : {A : Type 0} (source : Option (List ℕ)) (result : Result A CommandFault)

@@ -2,5 +2,5 @@ pub mod ExitStatus
 pub mod TraceCommand
 pub mod SampleCommand
 pub mod ExplainCommand
-pub mod ExploreCommand
+pub mod WhyUnshown
 pub mod Prelude

@@ -1,11 +1,11 @@
 -- What the program does with a trace.
-use Rattle.std.specs.Prelude.{◌≡◌, ◌≢◌, ℕ, Bool, true, false, List, [], ◌++◌, Option, Result, Ok, Err, IfSome}
+use Rattle.std.specs.Prelude.{◌≡◌, ◌≢◌, ◌⊎◌, ℕ, Bool, true, false, List, [], ◌++◌, Option, Result, Ok, Err, IfSome}
 use Rattle.std.specs.Io.KnownBytes.{Consumes}
 use Rattle.journal.specs.declared.event.Event.{Event}
 use Rattle.journal.specs.Sizes.{Sizes}
 use Rattle.lrc_check.specs.declared.traces.fault.TraceFault.{TraceFault}
 use Rattle.lrc_check.specs.declared.traces.fault.TraceFault.TheVariants.{NoMemory}
-use Rattle.lrc_check.specs.Traces.FedText.{IsFedTextOf, FedText, IsUnfinishedTrace}
+use Rattle.lrc_check.specs.Traces.FedText.{FedTextBeginsTrace, IsFedTextOf, FedText, IsNoUnfinishedTrace, IsUnfinishedTrace}
 use Rattle.lrc_check.specs.Traces.Labels.{without_trace_labels}
 use Rattle.lrc_check.specs.Traces.LawfulTraces.{IsNoLawfulTrace, IsLawfulTrace}
 use Rattle.lrc_check.specs.Traces.TraceText.{trace_text}
@@ -117,12 +117,22 @@ IsTraceCommandJudgedAs m lax unfinished source judgement.Faithful = IsTraceComma
 IsTraceCommandJudgedAs m lax unfinished source judgement.Unfaithful = IsTraceCommandOnLie m lax source
 IsTraceCommandJudgedAs m lax unfinished source judgement.Racy = IsTraceCommandOnRacy source
 
--- what the source had is no trace
-abbrev pub IsTraceCommandOnNone : Option (List ℕ) → Type 0
-IsTraceCommandOnNone source = IfSome source (λ xs. IsNoLawfulTrace (without_trace_labels xs))
+-- the text of no trace begins with the first of the bytes
+abbrev pub HasNoTraceCommandFront : List ℕ → Type 0
+HasNoTraceCommandFront bytes = (front rest : List ℕ) × (bytes ≡ front ++ rest) × (¬ FedTextBeginsTrace front)
 
--- of a source that has this left: a reader has what came before it, or a fault, unless it is of memory, says that what
--- the source had is no trace
+-- the bytes are, without labels, the text of no trace; if they may end in the midst of a line, a line that ends is refused, or
+-- they aren't the text of a trace and the beginning of a line either
+abbrev pub IsTraceCommandNoText : Bool → List ℕ → Type 0
+IsTraceCommandNoText true bytes = HasNoTraceCommandFront bytes ⊎ IsNoUnfinishedTrace bytes
+IsTraceCommandNoText false bytes = IsNoLawfulTrace (without_trace_labels bytes)
+
+-- so is what the source had
+abbrev pub IsTraceCommandOnNone : Bool → Option (List ℕ) → Type 0
+IsTraceCommandOnNone unfinished source = IfSome source (IsTraceCommandNoText unfinished)
+
+-- of a source that has this left: a reader has what came before it, or a fault, unless it is of memory, says that no trace
+-- begins as the source does
 abbrev pub IsTraceCommandReadSoFar : Option (List ℕ) → Option (List ℕ) → Result FedText (ℕ × TraceFault) → Type 0
 IsTraceCommandReadSoFar source left (Ok x) = (fed : List ℕ) × Consumes source left fed × IsFedTextOf fed [] [] x
-IsTraceCommandReadSoFar source left (Err e) = e.1 ≢ NoMemory → IsTraceCommandOnNone source
+IsTraceCommandReadSoFar source left (Err e) = e.1 ≢ NoMemory → IfSome source HasNoTraceCommandFront

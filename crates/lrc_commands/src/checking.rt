@@ -1,10 +1,10 @@
 //! The program that judges traces, over its reader and its writers.
 ghost use Rattle.std.specs.Prelude.{◌≡◌, ◌≢◌, ◌⊎◌, ℕ, ◌<◌, ◌≤◌, List, [], Option, IfErr, IfOk, length, option_map, take};
 ghost use Rattle.std.specs.Io.KnownBytes.{Consumes, IsAtEnd, Keeps};
-ghost use Rattle.lrc_check.specs.Traces.Prelude.{IsFedTextOf, IsLawfulTrace, IsNoLawfulTrace, trace_sizes_of, without_trace_labels};
+ghost use Rattle.lrc_check.specs.Traces.Prelude.{IsFedTextOf, IsLawfulTrace, trace_sizes_of};
 ghost use Rattle.journal.specs.declared.event.Event.{Event};
 ghost use Rattle.lrc_check.specs.Prelude.{IsFaultFoundInBytes, IsFoundInStream, IsTraceStream};
-ghost use Rattle.lrc_commands.specs.Prelude.{HasTraceCommandText, IsTraceCommandFound, IsTraceCommandText, IsCommandExitStatusBeforeAnswer, IsTraceCommandOnFaithful, IsCommandExitStatusOfInput, IsTraceCommandJudgedAs, IsTraceCommandOnNone};
+ghost use Rattle.lrc_commands.specs.Prelude.{HasTraceCommandText, IsTraceCommandFound, IsTraceCommandText, IsCommandExitStatusBeforeAnswer, IsTraceCommandOnFaithful, IsCommandExitStatusOfInput, IsTraceCommandJudgedAs, IsTraceCommandNoText, IsTraceCommandOnNone};
 ghost use Rattle.lrc_commands.specs.Prelude.{IsTraceCommandOnLie, IsTraceCommandOnRacy, IsTraceCommandReadSoFar, trace_command_locksets, trace_command_model, trace_command_judgement};
 
 use crate::fault::CommandFault;
@@ -98,7 +98,7 @@ fn check_command_reader_ends(
     ensures trace { IfOk result (λ t. IsLawfulTrace (trace_sizes_of t.trace.sizes) t.trace.events.items) }
     ensures text { IfOk result (λ t. (bytes : List ℕ) → IsFedTextOf bytes [] [] reader
         → IsTraceCommandText unfinished bytes (trace_sizes_of t.trace.sizes) t.trace.events.items) }
-    ensures only { IfErr result (λ _. (bytes : List ℕ) → IsFedTextOf bytes [] [] reader → IsNoLawfulTrace (without_trace_labels bytes)) }
+    ensures only { IfErr result (λ _. (bytes : List ℕ) → IsFedTextOf bytes [] [] reader → IsTraceCommandNoText unfinished bytes) }
 {
     if unfinished {
         reader.finish_unfinished()
@@ -117,7 +117,7 @@ fn finish(
     ensures text { IfOk result (λ t. (source left : Option (List ℕ)) → IsTraceCommandReadSoFar source left reading
         → IsAtEnd left → HasTraceCommandText unfinished source (trace_sizes_of t.trace.sizes) t.trace.events.items) }
     ensures refused { IfErr result (λ fault. IsFaultFoundInBytes fault → (source left : Option (List ℕ))
-        → IsTraceCommandReadSoFar source left reading → IsAtEnd left → IsTraceCommandOnNone source) }
+        → IsTraceCommandReadSoFar source left reading → IsAtEnd left → IsTraceCommandOnNone unfinished source) }
 {
     let reader = reading?;
     refused.keep(reader.unfinished(), reader.passed(), reader.sizes());
@@ -136,7 +136,7 @@ fn check_command_reads_pieces<S: Read>(
     requires { 0 < length piece.old }
     ensures trace { IfOk result (λ t. IsLawfulTrace (trace_sizes_of t.trace.sizes) t.trace.events.items) }
     ensures text { IfOk result (λ t. HasTraceCommandText unfinished (S.remaining source.old) (trace_sizes_of t.trace.sizes) t.trace.events.items) }
-    ensures refused { IfErr result (λ fault. IsCommandExitStatusOfInput fault → IsTraceCommandOnNone (S.remaining source.old)) }
+    ensures refused { IfErr result (λ fault. IsCommandExitStatusOfInput fault → IsTraceCommandOnNone unfinished (S.remaining source.old)) }
 {
     let mut reading = Ok(Reader::new(alloc));
     let mut total = 0;
@@ -158,7 +158,7 @@ fn check_command_ends(stream: &TraceStream, unfinished: bool) -> Result<Checked,
         → IsTraceCommandFound unfinished stream.now.rules bytes x) }
     ensures at_hand { IfOk result (λ x. (front : List Event) × IsFoundInStream front x stream.now) }
     ensures refused { IfErr result (λ fault. IsFaultFoundInBytes fault → (bytes : List ℕ) → IsTraceStream bytes stream.now
-        → IsNoLawfulTrace (without_trace_labels bytes)) }
+        → IsTraceCommandNoText unfinished bytes) }
 {
     if unfinished {
         stream.finish_unfinished()
@@ -181,7 +181,7 @@ fn check_command_streams<S: Read>(
     ensures judged { IfOk result (λ x. IsTraceCommandJudgedAs stream.old.rules.model stream.old.rules.lax unfinished (S.remaining source.old)
         (trace_command_judgement x.verdict)) }
     ensures at_hand { IfOk result (λ x. (front : List Event) × IsFoundInStream front x stream.new) }
-    ensures refused { IfErr result (λ fault. IsCommandExitStatusOfInput fault → IsTraceCommandOnNone (S.remaining source.old)) }
+    ensures refused { IfErr result (λ fault. IsCommandExitStatusOfInput fault → IsTraceCommandOnNone unfinished (S.remaining source.old)) }
 {
     for _ in 0..u64::MAX {
         let count = check_command_reads_some(source, piece)?;
@@ -211,7 +211,7 @@ pub fn check_command_reads_all<S: Read>(
 ) -> Result<LabelledTrace, CommandFault>
     ensures trace { IfOk result (λ t. IsLawfulTrace (trace_sizes_of t.trace.sizes) t.trace.events.items) }
     ensures text { IfOk result (λ t. HasTraceCommandText unfinished (S.remaining source.old) (trace_sizes_of t.trace.sizes) t.trace.events.items) }
-    ensures refused { IfErr result (λ fault. IsCommandExitStatusOfInput fault → IsTraceCommandOnNone (S.remaining source.old)) }
+    ensures refused { IfErr result (λ fault. IsCommandExitStatusOfInput fault → IsTraceCommandOnNone unfinished (S.remaining source.old)) }
 {
     let mut piece = room(alloc, PIECE)?;
     check_command_reads_pieces(alloc, source, &mut piece, unfinished, refused)
@@ -297,7 +297,7 @@ fn check_command_judges<S: Read>(
     ensures judged { IfOk result (λ x. IsTraceCommandJudgedAs stream.old.rules.model stream.old.rules.lax unfinished (S.remaining source.old)
         (trace_command_judgement x.verdict)) }
     ensures at_hand { IfOk result (λ x. (front : List Event) × IsFoundInStream front x stream.new) }
-    ensures refused { IfErr result (λ fault. IsCommandExitStatusOfInput fault → IsTraceCommandOnNone (S.remaining source.old)) }
+    ensures refused { IfErr result (λ fault. IsCommandExitStatusOfInput fault → IsTraceCommandOnNone unfinished (S.remaining source.old)) }
 {
     let mut piece = room(alloc, PIECE)?;
     let found = check_command_streams(alloc, source, &mut piece, stream, unfinished);
@@ -340,7 +340,7 @@ fn check_command_judges_and_tells<S: Read, W: Write>(
     requires { IsTraceStream [] stream.old }
     ensures judged { IfOk result
         (IsTraceCommandJudgedAs stream.old.rules.model stream.old.rules.lax options.now.unfinished (S.remaining source.old)) }
-    ensures refused { IfErr result (λ fault. IsCommandExitStatusOfInput fault → IsTraceCommandOnNone (S.remaining source.old)) }
+    ensures refused { IfErr result (λ fault. IsCommandExitStatusOfInput fault → IsTraceCommandOnNone options.now.unfinished (S.remaining source.old)) }
     ensures early { IfErr result
         (λ fault. IsCommandExitStatusBeforeAnswer fault → Keeps (W.contents out.old) (W.contents out.new)) }
 {
@@ -360,7 +360,7 @@ fn check_command_on_source<S: Read, W: Write>(
 ) -> Result<Judgement, CommandFault>
     ensures judged { IfOk result
         (IsTraceCommandJudgedAs (trace_command_model options.now.model) options.now.lax options.now.unfinished (S.remaining source.old)) }
-    ensures refused { IfErr result (λ fault. IsCommandExitStatusOfInput fault → IsTraceCommandOnNone (S.remaining source.old)) }
+    ensures refused { IfErr result (λ fault. IsCommandExitStatusOfInput fault → IsTraceCommandOnNone options.now.unfinished (S.remaining source.old)) }
     ensures early { IfErr result
         (λ fault. IsCommandExitStatusBeforeAnswer fault → Keeps (W.contents out.old) (W.contents out.new)) }
 {
@@ -386,7 +386,7 @@ pub fn run_check_command<S: Read, W: Write, E: Write>(
     // What the source had begins with a trace that races.
     ensures racy { result ≡ 8 → IsTraceCommandOnRacy (S.remaining source.old) }
     // What is refused as a trace is none.
-    ensures refused { result ≡ 2 → IsTraceCommandOnNone (S.remaining source.old) }
+    ensures refused { result ≡ 2 → IsTraceCommandOnNone options.now.unfinished (S.remaining source.old) }
     // At any status but 4, what was found is written whole or not at all.
     ensures early { result ≢ 0 → result ≢ 6 → result ≢ 8 → result ≢ 4
         → Keeps (W.contents out.old) (W.contents out.new) }

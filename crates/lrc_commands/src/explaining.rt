@@ -9,6 +9,7 @@ ghost use Rattle.lrc_commands.specs.Prelude.{is_explain_command_halted};
 use crate::drawing::{DrawingStyle, draw};
 use crate::fault::{CommandFault, HALTED};
 use crate::locks::command_lock_of;
+use crate::study::Study;
 use causes::Part;
 use conformance::{Cause, Ended, RunFault, Schedule, ScriptRunner};
 use journal::Journal;
@@ -121,9 +122,7 @@ fn explain_command_prints_end<W: Write>(
 
 /// Runs a script by turns, as the options say.
 fn explain_command_end<T: ScriptRunner, R: Wait>(
-    runs: &T,
-    rt: &R,
-    alloc: Global,
+    study: &Study<'_, T, R>,
     options: &ExplainOptions,
     script: &Script,
 ) -> Result<Ended, CommandFault>
@@ -131,6 +130,7 @@ fn explain_command_end<T: ScriptRunner, R: Wait>(
     ensures end { IfOk result (IsExplainCommandEnd options.now (plan_of script.now)) }
     ensures runs { IfErr result (λ fault. IsCommandExitStatusOfInput fault → ⊥) }
 {
+    let Study { runs, rt, alloc } = *study;
     let lock = command_lock_of(options.ticket);
     match options.schedule.as_deref() {
         Some(text) => {
@@ -144,9 +144,7 @@ fn explain_command_end<T: ScriptRunner, R: Wait>(
 /// Runs a script and tells the run, or draws it. Answers the line that standard error gets if it can't go on: there is
 /// memory for that before anything is written.
 fn explain_command_prints_run<T: ScriptRunner, R: Wait, W: Write>(
-    runs: &T,
-    rt: &R,
-    alloc: Global,
+    study: &Study<'_, T, R>,
     options: &ExplainOptions,
     script: &Script,
     out: &mut W,
@@ -158,7 +156,8 @@ fn explain_command_prints_run<T: ScriptRunner, R: Wait, W: Write>(
     ensures early { IfErr result
         (λ fault. IsCommandExitStatusBeforeAnswer fault → Keeps (W.contents out.old) (W.contents out.new)) }
 {
-    let ended = explain_command_end(runs, rt, alloc, options, script)?;
+    let alloc = study.alloc;
+    let ended = explain_command_end(study, options, script)?;
     let line = explain_command_halt_line(alloc, options.file.as_deref(), &ended)?;
     explain_command_prints_end(alloc, options, script, &ended, out)?;
     Ok(line)
@@ -166,9 +165,7 @@ fn explain_command_prints_run<T: ScriptRunner, R: Wait, W: Write>(
 
 /// Reads a script, runs it and tells the run, or draws it.
 fn explain_command_on_script<T: ScriptRunner, R: Wait, S: Read, W: Write>(
-    runs: &T,
-    rt: &R,
-    alloc: Global,
+    study: &Study<'_, T, R>,
     options: &ExplainOptions,
     source: &mut S,
     refused: &mut Vec<u8>,
@@ -180,17 +177,15 @@ fn explain_command_on_script<T: ScriptRunner, R: Wait, S: Read, W: Write>(
     ensures early { IfErr result
         (λ fault. IsCommandExitStatusBeforeAnswer fault → Keeps (W.contents out.old) (W.contents out.new)) }
 {
-    let script = program_reads_script(alloc, source, refused)?;
-    explain_command_prints_run(runs, rt, alloc, options, &script, out)
+    let script = program_reads_script(study.alloc, source, refused)?;
+    explain_command_prints_run(study, options, &script, out)
 }
 
 /// Runs the script of `source` by turns as the options say, and tells the run on `out`, or draws it there. If there is
 /// none, or if it can't go on, one line goes to `err`. Answers the exit status. The file that the options name isn't
 /// opened here.
 pub fn run_explain_command<T: ScriptRunner, R: Wait, S: Read, W: Write, E: Write>(
-    runs: &T,
-    rt: &R,
-    alloc: Global,
+    study: &Study<'_, T, R>,
     options: &ExplainOptions,
     source: &mut S,
     out: &mut W,
@@ -212,12 +207,12 @@ pub fn run_explain_command<T: ScriptRunner, R: Wait, S: Read, W: Write, E: Write
     // Of a run that ended, no line goes to the error output.
     ensures quiet { result ≡ 0 → Keeps (E.contents err.old) (E.contents err.new) }
 {
-    let mut refused = Vec::new(alloc);
-    match explain_command_on_script(runs, rt, alloc, options, source, &mut refused, out) {
+    let mut refused = Vec::new(study.alloc);
+    match explain_command_on_script(study, options, source, &mut refused, out) {
         Ok(None) => 0,
         Ok(Some(line)) => program_says_line(Ok(line), HALTED, err),
         Err(fault) => fault
             .of_told()
-            .say(alloc, options.file.as_deref(), &refused, err),
+            .say(study.alloc, options.file.as_deref(), &refused, err),
     }
 }

@@ -3,7 +3,6 @@ ghost use Rattle.std.specs.Prelude.{◌≡◌, ◌≢◌};
 ghost use Rattle.lrc_check.specs.Prelude.{IsFaultFoundInBytes};
 ghost use Rattle.lrc_check.specs.Prelude.{IsFaultFoundBeforeBytesWritten as IsBeforeText};
 ghost use Rattle.lrc_explain.specs.declared.fault.ExplainFault.TheVariants as explain;
-ghost use Rattle.lrc_explore.specs.declared.fault.ExploreFault.TheVariants as explore;
 ghost use Rattle.lrc_json.specs.declared.fault.JsonFault.TheVariants as json;
 ghost use Rattle.lrc_picture.specs.declared.picture.PictureFault.TheVariants as picture;
 ghost use Rattle.lrc_sample.specs.declared.text.TextFault.TheVariants as sample;
@@ -18,7 +17,6 @@ use conformance::{RunFault, ScheduleFault};
 use lrc_check::CheckFault;
 use lrc_check::traces::fault::TraceFault;
 use lrc_explain::ExplainFault;
-use lrc_explore::ExploreFault;
 use lrc_json::JsonFault;
 use lrc_picture::picture::PictureFault;
 use lrc_program::fault::ProgramFault;
@@ -128,13 +126,7 @@ impl CommandFault {
 
     /// Says on `err` in one write why there is no answer of the script with these bytes, and answers the exit status. If there is no memory for the
     /// line, it says that, with the status of that.
-    pub(crate) fn say<E: Write>(
-        self,
-        alloc: Global,
-        file: Option<&str>,
-        script: &[u8],
-        err: &mut E,
-    ) -> u8
+    pub fn say<E: Write>(self, alloc: Global, file: Option<&str>, script: &[u8], err: &mut E) -> u8
         ensures { IsCommandExitStatusOf self result }
     {
         program_says_line(self.line(alloc, file, script), self.status(), err)
@@ -220,18 +212,6 @@ impl From<ExplainFault> for CommandFault {
         match fault {
             ExplainFault::Output => CommandFault::Program(ProgramFault::Output),
             ExplainFault::NoMemory => CommandFault::Program(ProgramFault::NoMemory),
-        }
-    }
-}
-
-impl From<ExploreFault> for CommandFault {
-    ghost from_gives = { λ given fault. (IsCommandExitStatusOfInput fault → ⊥)
-        × (IsCommandExitStatusBeforeAnswer fault → given ≡ explore.NoMemory) };
-
-    fn from(fault: ExploreFault) -> CommandFault {
-        match fault {
-            ExploreFault::Output => CommandFault::Program(ProgramFault::Output),
-            ExploreFault::NoMemory => CommandFault::Program(ProgramFault::NoMemory),
         }
     }
 }

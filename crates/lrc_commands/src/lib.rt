@@ -1,8 +1,8 @@
 //! What the program `lrc` does with a trace, and with a script beside running it: it judges a trace or tells it, samples a
-//! script's runs, explains one of them, and looks at all its schedules.
+//! script's runs, and explains one of them.
 //!
-//! These are the commands that study a script or a trace. They stand apart from `lrc_program`, which has `run` and `step`,
-//! so that a program with these two alone stands on fewer crates.
+//! These are the commands that study a script or a trace, but for `explore`, which crate `lrc_exploring` has. They stand apart
+//! from `lrc_program`, which has `run` and `step`, so that a program with these two alone stands on fewer crates.
 //!
 //! **What contracts see.** A reader by the bytes that it has left, a writer by those that it was given
 //! (`contents`). Scripts are run by whatever has the contract `ScriptRunner`.
@@ -12,10 +12,8 @@
 //! `run_sample_command` answers 0 only if all that the
 //! source had is a script's text, it was run by as many seeds as were asked for and with that lock, and the text of what
 //! that came to was written, and nothing else (`IsSampleCommandOnSource`). `run_explain_command` answers 0 only if a run of the source's
-//! script came to its end and was told, 3 only if one that can't go on was told so far (`IsExplainCommandOnSource`). `run_explore_command`
-//! answers 0 only if all schedules of the source's script were looked at, or a run with the words that were given was looked
-//! for, 7 only if that was given up, and what was found was written (`ExploreCommandWritten`). These answer 2 only if the source had no script's text. Each fault has its status
-//! (`command_exit_status_of`).
+//! script came to its end and was told, 3 only if one that can't go on was told so far (`IsExplainCommandOnSource`). These
+//! answer 2 only if the source had no script's text. Each fault has its status (`command_exit_status_of`).
 //!
 //! **What is only tested**, by whole runs of the program. The texts of faults, which fault is met, that `explain` uses the
 //! lock and the seed that the words ask for, the picture, and that no call allocates without need. No contract sees what a
@@ -25,10 +23,12 @@
 pub mod checking;
 mod drawing;
 pub mod explaining;
-pub mod exploring;
 pub mod fault;
 mod locks;
 pub mod refused_line;
 pub mod sampling;
+mod study;
 pub mod telling;
 mod trace_hint;
+
+pub use study::Study;

@@ -8,12 +8,13 @@ ghost use Rattle.lrc_commands.specs.Prelude.{IsCommandExitStatusBeforeAnswer, Is
 
 use crate::fault::CommandFault;
 use crate::locks::command_lock_of;
+use crate::study::Study;
 use conformance::ScriptRunner;
 use lrc_json::write_sampled_json;
 use lrc_options::options::{OutcomeDetail, SampleOptions};
 use lrc_program::program::program_reads_script;
 use lrc_sample::detail::SampleDetail;
-use lrc_sample::sampling::{Sampled, sample};
+use lrc_sample::sampling::{SampleProgress, Sampled, sample};
 use lrc_sample::text::render;
 use lrc_script::script::Script;
 use std::alloc::Global;
@@ -50,13 +51,12 @@ fn sample_command_writes<W: Write>(
 }
 
 /// Runs a script under the seeds that the options ask for, and writes what that came to.
-fn sample_command_prints<T: ScriptRunner, R: Wait, W: Write>(
-    runs: &T,
-    rt: &R,
-    alloc: Global,
+fn sample_command_prints<T: ScriptRunner, R: Wait, W: Write, P: SampleProgress>(
+    study: &Study<'_, T, R>,
     options: &SampleOptions,
     script: &Script,
     out: &mut W,
+    progress: &mut P,
 ) -> Result<(), CommandFault>
     requires { IsLawful (plan_of script.now) }
     ensures written { OnOk result (IsSampleCommandWritten (CameBySampleRunSeed T.followed T.drawn (sample_command_lock options.now.ticket))
@@ -67,20 +67,28 @@ fn sample_command_prints<T: ScriptRunner, R: Wait, W: Write>(
 {
     let lock = command_lock_of(options.ticket);
     let detail = sample_command_detail(options.outcomes);
-    let sampled = sample(runs, rt, alloc, detail, script, lock, options.seeds)?;
-    sample_command_writes(alloc, options.json, &sampled, out)?;
-    Ok(())
+    let Study { runs, rt, alloc } = *study;
+    let sampled = sample(
+        runs,
+        rt,
+        alloc,
+        detail,
+        script,
+        lock,
+        options.seeds,
+        progress,
+    )?;
+    sample_command_writes(alloc, options.json, &sampled, out)
 }
 
 /// Reads a script, runs it under the seeds that the options ask for, and writes what that came to.
-fn sample_command_on_script<T: ScriptRunner, R: Wait, S: Read, W: Write>(
-    runs: &T,
-    rt: &R,
-    alloc: Global,
+fn sample_command_on_script<T: ScriptRunner, R: Wait, S: Read, W: Write, P: SampleProgress>(
+    study: &Study<'_, T, R>,
     options: &SampleOptions,
     source: &mut S,
     refused: &mut Vec<u8>,
     out: &mut W,
+    progress: &mut P,
 ) -> Result<(), CommandFault>
     ensures sampled { OnOk result (IsSampleCommandOnSource (CameBySampleRunSeed T.followed T.drawn (sample_command_lock options.now.ticket))
         (sample_command_detail options.now.outcomes) (options.now.seeds + 1) options.now.json (S.remaining source.old) (W.contents out.old) (W.contents out.new)) }
@@ -88,20 +96,20 @@ fn sample_command_on_script<T: ScriptRunner, R: Wait, S: Read, W: Write>(
     ensures early { IfErr result
         (λ fault. IsCommandExitStatusBeforeAnswer fault → Keeps (W.contents out.old) (W.contents out.new)) }
 {
-    let script = program_reads_script(alloc, source, refused)?;
-    sample_command_prints(runs, rt, alloc, options, &script, out)
+    let script = program_reads_script(study.alloc, source, refused)?;
+    sample_command_prints(study, options, &script, out, progress)
 }
 
 /// Runs the script of `source` in rounds, and by the turns that as many seeds as the options say draw: writes what that came
-/// to to `out`, or one line to `err`, and answers the exit status. The file that the options name isn't opened here.
-pub fn run_sample_command<T: ScriptRunner, R: Wait, S: Read, W: Write, E: Write>(
-    runs: &T,
-    rt: &R,
-    alloc: Global,
+/// to to `out`, or one line to `err`, and answers the exit status. The file that the options name isn't opened here. `progress` is
+/// told how many runs are done.
+pub fn run_sample_command<T: ScriptRunner, R: Wait, S: Read, W: Write, E: Write, P: SampleProgress>(
+    study: &Study<'_, T, R>,
     options: &SampleOptions,
     source: &mut S,
     out: &mut W,
     err: &mut E,
+    progress: &mut P,
 ) -> u8
     // The script that was read was run once by each of so many seeds and once without, with the lock that was asked for, and
     // what that came to was written, whole, in the detail that was asked for: as text, or as JSON if that was asked for.
@@ -114,9 +122,9 @@ pub fn run_sample_command<T: ScriptRunner, R: Wait, S: Read, W: Write, E: Write>
     // If it was written, no line goes to the error output.
     ensures quiet { result ≡ 0 → Keeps (E.contents err.old) (E.contents err.new) }
 {
-    let mut refused = Vec::new(alloc);
-    match sample_command_on_script(runs, rt, alloc, options, source, &mut refused, out) {
+    let mut refused = Vec::new(study.alloc);
+    match sample_command_on_script(study, options, source, &mut refused, out, progress) {
         Ok(()) => 0,
-        Err(fault) => fault.say(alloc, options.file.as_deref(), &refused, err),
+        Err(fault) => fault.say(study.alloc, options.file.as_deref(), &refused, err),
     }
 }

@@ -63,7 +63,7 @@ fn tell_command_on_source<S: Read, W: Write>(
     ensures told { IfOk result (λ lies.
         IsTraceCommandToldAs lies (trace_command_model options.now.model) options.now.lax options.now.unfinished (S.remaining source.old)) }
     ensures held { IfOk result (λ _. IsTraceCommandOnHeld options.now.unfinished (S.remaining source.old)) }
-    ensures refused { IfErr result (λ fault. IsCommandExitStatusOfInput fault → IsTraceCommandOnNone (S.remaining source.old)) }
+    ensures refused { IfErr result (λ fault. IsCommandExitStatusOfInput fault → IsTraceCommandOnNone options.now.unfinished (S.remaining source.old)) }
     ensures early { IfErr result
         (λ fault. IsCommandExitStatusBeforeAnswer fault → Keeps (W.contents out.old) (W.contents out.new)) }
 {
@@ -99,7 +99,7 @@ pub fn run_tell_command<S: Read, W: Write, E: Write>(
     // What is told is a trace of no more events than are held.
     ensures held { (result ≡ 0) ⊎ (result ≡ 6) → IsTraceCommandOnHeld options.now.unfinished (S.remaining source.old) }
     // What is refused as a trace is none.
-    ensures refused { result ≡ 2 → IsTraceCommandOnNone (S.remaining source.old) }
+    ensures refused { result ≡ 2 → IsTraceCommandOnNone options.now.unfinished (S.remaining source.old) }
     // At any status but 4, a trace is told whole or not at all.
     ensures early { result ≢ 0 → result ≢ 6 → result ≢ 4 → Keeps (W.contents out.old) (W.contents out.new) }
     // If a trace was told, no line goes to the error output.

@@ -1,4 +1,1 @@
 pub mod AddedLines
-pub mod CutScripts
-pub mod MemoryOutcomes
-pub mod ReportedWords

@@ -3,12 +3,12 @@ use Rattle.std.specs.Prelude.{ℕ, ◌≡◌, List, ◌++◌, Option, codes}
 use Rattle.std.specs.Io.KnownBytes.{Appends}
 use Rattle.journal.specs.declared.event.Event.{Event}
 use Rattle.lrc_report.specs.ReportText.{report_events_text}
-use Rattle.explore.specs.declared.allowed_showing.AllowedShowing.{AllowedShowing}
-use Rattle.explore.specs.declared.allowed_showing.AllowedShowing.TheVariants.{Shown, Never, Undecided}
-use Rattle.explore.specs.declared.allowed_showing.AllowedUntil.{AllowedUntil}
-use Rattle.explore.specs.declared.showing.ExploredUntil.{ExploredUntil}
-use Rattle.lrc_explore.specs.declared.memory_shown.MemoryUntil.{MemoryUntil}
-use Rattle.lrc_explore.specs.declared.memory_shown.MemoryUntil.TheVariants as memory
+use Rattle.explore.specs.declared.rules.showing.AllowedShowing.{AllowedShowing}
+use Rattle.explore.specs.declared.rules.showing.AllowedShowing.TheVariants.{Shown, Never, Undecided}
+use Rattle.explore.specs.declared.rules.showing.AllowedUntil.{AllowedUntil}
+use Rattle.explore.specs.declared.outcomes.showing.ExploredUntil.{ExploredUntil}
+use Rattle.explore.specs.declared.memory.shown.MemoryUntil.{MemoryUntil}
+use Rattle.explore.specs.declared.memory.shown.MemoryUntil.TheVariants as memory
 use Rattle.lrc_explore.specs.AllowedTexts.{allowed_text_beginnings}
 use Rattle.lrc_explore.specs.ExploreTexts.{IsExploreTextOfSchedule}
 use Rattle.lrc_explore.specs.Showings.{IsShowingText}

@@ -2,8 +2,8 @@
 use Rattle.std.specs.Prelude.{ℕ, ◌≡◌, Bool, true, false, List, ◌++◌, Option, codes, vec_len}
 use Rattle.std.specs.Fmt.{decimal}
 use Rattle.std.specs.Io.KnownBytes.{Appends}
-use Rattle.explore.specs.declared.allowed.AllowedOutcomes.{AllowedOutcomes}
-use Rattle.explore.specs.declared.explored.Explored.{Explored}
+use Rattle.explore.specs.declared.rules.showing.AllowedOutcomes.{AllowedOutcomes}
+use Rattle.explore.specs.declared.outcomes.answer.Explored.{Explored}
 use Rattle.lrc_explore.specs.ExploreTexts.{IsExploreText}
 
 -- whether the rules allow no other outcomes

@@ -2,6 +2,5 @@ pub mod ExploreTexts
 pub mod AllowedTexts
 pub mod Showings
 pub mod AllowedShowings
-pub mod MemoryShown
 pub mod Prelude
 pub mod Schedules

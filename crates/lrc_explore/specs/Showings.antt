@@ -2,10 +2,10 @@
 use Rattle.std.specs.Prelude.{ℕ, ◌≡◌, List, ◌++◌, Option, codes}
 use Rattle.std.specs.Io.KnownBytes.{Appends}
 use Rattle.base.specs.InOrderOnce.{Has}
-use Rattle.explore.specs.declared.explored.RacyEvents.{RacyEvents}
-use Rattle.explore.specs.declared.showing.ExploredUntil.{ExploredUntil}
-use Rattle.explore.specs.declared.showing.Showing.{Showing}
-use Rattle.explore.specs.declared.showing.Showing.TheVariants.{Shown, Never, Racy, Undecided}
+use Rattle.explore.specs.declared.outcomes.answer.RacyEvents.{RacyEvents}
+use Rattle.explore.specs.declared.outcomes.showing.ExploredUntil.{ExploredUntil}
+use Rattle.explore.specs.declared.outcomes.showing.Showing.{Showing}
+use Rattle.explore.specs.declared.outcomes.showing.Showing.TheVariants.{Shown, Never, Racy, Undecided}
 use Rattle.lrc_explore.specs.ExploreTexts.{IsExploreTextOfSchedule, explore_text_racy, explore_text_states}
 
 -- each of these words is at an address that is shown

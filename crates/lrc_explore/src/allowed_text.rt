@@ -4,10 +4,9 @@ ghost use Rattle.lrc_explore.specs.Prelude.{AllowedTextWritten, ExploreTextUnwri
 
 use crate::explored_text::{explored_text_of, write_explored_text};
 use crate::fault::ExploreFault;
-use crate::memory_shown::MemoryShown;
 use crate::numbers::put_number;
 use crate::outcomes::run_outcome_lines;
-use explore::{AllowedOutcomes, Explored};
+use explore::{AllowedOutcomes, Explored, MemoryShown};
 use lrc_script::script::Script;
 use std::alloc::{AllocError, Global};
 use std::io::Write;

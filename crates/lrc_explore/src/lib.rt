@@ -11,14 +11,12 @@
 //! nothing was written. `render_allowed_text` answers Ok only if it wrote the text of a racy script with how many outcomes
 //! the rules allow behind it, and whether these are all. `render_allowed_showing_text` answers Ok only if it wrote the text
 //! of a racy script with whether this memory shows a run that ends with the words, and a schedule, or the rules alone allow
-//! one, and its events. `what_memory_shows` tells outcomes of a script on this memory, each with a schedule that shows it:
-//! a whole run comes by its turns, and its history shows the outcome (`IsMemoryShown`). `render_showing_text`
+//! one, and its events. `render_showing_text`
 //! answers Ok only if it wrote the text of what was found: its first line says whether a run ends with the words, and one
 //! of the others names a schedule. `unshown_asked_address` finds an asked word that the script doesn't show.
 //!
 //! **What is only tested**: the lines of outcomes and of who waits, that `step` comes by a run's schedule to what is told
-//! of it, that no schedule shows an outcome that is told as one by the rules alone (module `orders`; cases of
-//! `tests/program`, and `tests/exploring`), and that the text is one write.
+//! of it (cases of `tests/program`, and `tests/exploring`), and that the text is one write.
 #![tactic(auto)]
 
 mod allowed_showing_text;
@@ -29,16 +27,12 @@ mod explored_events;
 mod explored_text;
 mod fault;
 mod hanging;
-mod memory_shown;
 mod numbers;
-mod orders;
 mod outcomes;
-mod reported_outcome;
 mod schedule_lines;
 mod schedule_turns;
 pub mod schedules;
 mod showing_text;
-mod uses;
 
 pub use allowed_showing_text::render_allowed_showing_text;
 pub use allowed_text::render_allowed_text;
@@ -46,7 +40,6 @@ pub use answered_stores::{RunAnswer, run_answers};
 pub use asking::unshown_asked_address;
 pub use explored_text::render;
 pub use fault::ExploreFault;
-pub use memory_shown::{MemoryShowing, MemoryShown, MemoryUntil, what_memory_shows};
-pub use outcomes::{explored_outcome_parts, sorted_run_outcomes, sorted_shown_outcomes};
+pub use outcomes::{sorted_run_outcomes, sorted_shown_outcomes};
 pub use schedule_turns::{schedule_of_events, schedule_of_makers};
 pub use showing_text::render_showing_text;

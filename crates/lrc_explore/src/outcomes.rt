@@ -2,11 +2,13 @@
 
 use crate::answered_stores::{RunAnswer, run_answers};
 use crate::explored_events::put_explored_event_words;
-use crate::memory_shown::{MemoryShowing, MemoryShown};
 use crate::numbers::put_number;
 use crate::schedule_turns::schedule_of_makers;
 use conformance::Schedule;
-use explore::{ProcessorNumber, ScriptOutcome, ShownOutcome, ShownRun};
+use explore::{
+    MemoryShowing, MemoryShown, ProcessorNumber, ScriptOutcome, ShownOutcome, ShownRun,
+    explored_outcome_parts,
+};
 use journal::Event;
 use lrc_script::script::Script;
 use std::alloc::{AllocError, Global};
@@ -37,20 +39,6 @@ pub fn sorted_shown_outcomes(
     }
     rows.sort_unstable();
     Ok(rows)
-}
-
-/// Of an outcome, the replies of the processor's own loads, and the words at so many shown addresses, which processor 0 loads at
-/// the end.
-pub fn explored_outcome_parts(
-    replies: &[Vec<u32>],
-    processor: usize,
-    shown: usize,
-) -> (&[u32], &[u32]) {
-    let last = if processor == 0 { shown } else { 0 };
-    match replies.get(processor) {
-        Some(words) => words.split_at(words.len().saturating_sub(last)),
-        None => (&[], &[]),
-    }
 }
 
 /// Adds a shown address with its word.

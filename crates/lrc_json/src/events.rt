@@ -1,20 +1,14 @@
 //! An event as an object: its `place`, `processor` and `kind`, and what the kind names.
 
-use crate::members::Members;
+use crate::members::{Members, Values};
 use journal::{Event, Kind};
-use serde_json::Value;
-use std::alloc::{AllocError, Global};
+use std::alloc::Global;
 
 /// Adds an access's address and word.
-fn put_access_event_json(
-    members: &mut Members,
-    kind: &str,
-    address: usize,
-    word: u32,
-) -> Result<(), AllocError> {
-    members.put_text("kind", kind)?;
-    members.put_number("address", address)?;
-    members.put("value", Value::from(word))
+fn put_access_event_json(members: &mut Members, kind: &str, address: usize, word: u32) {
+    members.put_text("kind", kind);
+    members.put_number("address", address);
+    members.put_word("value", word);
 }
 
 /// Adds what a fetch brought.
@@ -24,28 +18,22 @@ fn put_fetch_event_json(
     writers: u32,
     records: u32,
     words: u32,
-) -> Result<(), AllocError> {
-    members.put_text("kind", "fetch")?;
-    members.put_number("page", page)?;
-    members.put("writers", Value::from(writers))?;
-    members.put("records", Value::from(records))?;
-    members.put("words", Value::from(words))
+) {
+    members.put_text("kind", "fetch");
+    members.put_number("page", page);
+    members.put_word("writers", writers);
+    members.put_word("records", records);
+    members.put_word("words", words);
 }
 
-/// Adds a kind that names a lock.
-fn put_lock_event_json(members: &mut Members, kind: &str, lock: usize) -> Result<(), AllocError> {
-    members.put_text("kind", kind)?;
-    members.put_number("lock", lock)
-}
-
-/// Adds a kind that names a flag.
-fn put_flag_event_json(members: &mut Members, kind: &str, flag: usize) -> Result<(), AllocError> {
-    members.put_text("kind", kind)?;
-    members.put_number("flag", flag)
+/// Adds a kind that names a lock or a flag, by this key.
+fn put_numbered_event_json(members: &mut Members, kind: &str, key: &str, number: usize) {
+    members.put_text("kind", kind);
+    members.put_number(key, number);
 }
 
 /// Adds what an event did.
-fn put_event_kind_json(members: &mut Members, kind: Kind) -> Result<(), AllocError> {
+fn put_event_kind_json(members: &mut Members, kind: Kind) {
     match kind {
         Kind::Load(address, word) => put_access_event_json(members, "load", address, word),
         Kind::Store(address, word) => put_access_event_json(members, "store", address, word),
@@ -55,41 +43,34 @@ fn put_event_kind_json(members: &mut Members, kind: Kind) -> Result<(), AllocErr
             records,
             words,
         } => put_fetch_event_json(members, page, writers, records, words),
-        Kind::Ask(lock) => put_lock_event_json(members, "ask", lock),
-        Kind::Acquire(lock) => put_lock_event_json(members, "acquire", lock),
-        Kind::Release(lock) => put_lock_event_json(members, "release", lock),
+        Kind::Ask(lock) => put_numbered_event_json(members, "ask", "lock", lock),
+        Kind::Acquire(lock) => put_numbered_event_json(members, "acquire", "lock", lock),
+        Kind::Release(lock) => put_numbered_event_json(members, "release", "lock", lock),
         Kind::Arrive => members.put_text("kind", "arrive"),
         Kind::Depart => members.put_text("kind", "depart"),
-        Kind::Set(flag) => put_flag_event_json(members, "set", flag),
-        Kind::Watch(flag) => put_flag_event_json(members, "watch", flag),
-        Kind::Await(flag) => put_flag_event_json(members, "await", flag),
+        Kind::Set(flag) => put_numbered_event_json(members, "set", "flag", flag),
+        Kind::Watch(flag) => put_numbered_event_json(members, "watch", "flag", flag),
+        Kind::Await(flag) => put_numbered_event_json(members, "await", "flag", flag),
     }
 }
 
-/// The event at this place, with its label, if it has one. Bytes of the label that are no UTF-8 become U+FFFD. The only error
-/// is running out of memory.
-pub fn event_json(
-    alloc: Global,
-    place: usize,
-    event: Event,
-    label: &[u8],
-) -> Result<Value, AllocError> {
+/// The event at this place, with its label, if it has one. Bytes of the label that are no UTF-8 become U+FFFD.
+pub fn event_json(alloc: Global, place: usize, event: Event, label: &[u8]) -> Members {
     let mut members = Members::new(alloc);
-    members.put_number("place", place)?;
-    members.put_number("processor", event.processor)?;
-    put_event_kind_json(&mut members, event.kind)?;
+    members.put_number("place", place);
+    members.put_number("processor", event.processor);
+    put_event_kind_json(&mut members, event.kind);
     if !label.is_empty() {
-        let label = String::from_utf8_lossy(alloc, label)?;
-        members.put("label", Value::String(label))?;
+        members.put_string("label", String::from_utf8_lossy(alloc, label));
     }
-    Ok(members.into_value())
+    members
 }
 
-/// These events, without labels. The only error is running out of memory.
-pub fn events_json(alloc: Global, events: &[Event]) -> Result<Value, AllocError> {
-    let mut values = Vec::new(alloc);
+/// These events, without labels.
+pub fn events_json(alloc: Global, events: &[Event]) -> Values {
+    let mut list = Values::new(alloc);
     for (place, event) in events.iter().enumerate() {
-        values.push(event_json(alloc, place, *event, b"")?)?;
+        list.put_object(event_json(alloc, place, *event, b""));
     }
-    Ok(Value::Array(values))
+    list
 }

@@ -1,28 +1,21 @@
-//! What the commands `check`, `sample` and `explore` print with `--json`: an object a line, which `told` names.
+//! JSON that commands print: an object a line, which `told` names. Here are members, events and outcomes, and what `check` and
+//! `sample` print with `--json`.
 //!
 //! **What contracts see.** A writer by the bytes that it was given (`contents`).
 //!
-//! **What is proved.** Each function answers Ok only if a text was written, whole. After NoMemory nothing was written.
+//! **What is proved.** Each function that writes answers Ok only if a text was written, whole. After NoMemory nothing was written.
 //!
-//! **What is only tested** (`tests/json`): which objects it has.
+//! **What is only tested** (cases of `tests/program`): which objects it has.
 #![tactic(auto)]
 
-mod allowed;
-mod allowed_showing;
 mod checked;
-mod events;
-mod explored;
+pub mod events;
 mod fault;
-mod members;
-mod outcomes;
-mod output;
+pub mod members;
+pub mod outcomes;
+pub mod output;
 mod sampled;
-mod showing;
 
-pub use allowed::write_allowed_json;
-pub use allowed_showing::write_allowed_showing_json;
 pub use checked::write_checked_json;
-pub use explored::write_explored_json;
 pub use fault::JsonFault;
 pub use sampled::write_sampled_json;
-pub use showing::write_showing_json;

@@ -1,26 +1,34 @@
 //! Lines of JSON, and that they are written.
-ghost use Rattle.std.specs.Prelude.{◌≡◌, ◌++◌, IfErr, OnOk, codes, string_bytes};
+ghost use Rattle.std.specs.Prelude.{◌≡◌, ◌++◌, ℕ, Err, IfErr, List, OnOk, codes, string_bytes};
 ghost use Rattle.std.specs.Io.KnownBytes.{Appends};
-ghost use Rattle.lrc_json.specs.declared.fault.JsonFault.TheVariants.{Output};
+ghost use Rattle.lrc_json.specs.declared.fault.JsonFault.TheVariants.{NoMemory, Output};
 
 use crate::fault::JsonFault;
 use crate::members::Members;
 use std::alloc::{AllocError, Global};
 use std::io::Write;
 
-/// Adds the object as a line. The only error is running out of memory.
-pub fn put_json_output_line(
+/// Lines of JSON. If memory runs out, that is told at the end.
+#[derive(Drop)]
+pub struct JsonLines {
+    alloc: Global,
+    text: String,
+    fault: Option<AllocError>,
+}
+
+/// Adds the object as a line.
+fn put_json_output_line(
     text: &mut String,
     alloc: Global,
     members: Members,
 ) -> Result<(), AllocError> {
-    let line = members.into_value().to_string(alloc)?;
+    let line = members.into_value()?.to_string(alloc)?;
     text.push_str(&line)?;
     text.push_str("\n")
 }
 
 /// Writes the text and flushes the writer.
-pub fn write_json_output<W: Write>(text: &str, out: &mut W) -> Result<(), JsonFault>
+fn write_json_output<W: Write>(text: &str, out: &mut W) -> Result<(), JsonFault>
     ensures written { OnOk result (Appends (W.contents out.old) (W.contents out.new) text.now) }
     ensures fault { IfErr result (λ e. e ≡ Output) }
 {
@@ -30,5 +38,53 @@ pub fn write_json_output<W: Write>(text: &str, out: &mut W) -> Result<(), JsonFa
             Err(_) => Err(JsonFault::Output),
         },
         Err(_) => Err(JsonFault::Output),
+    }
+}
+
+impl JsonLines {
+    /// No line.
+    pub fn new(alloc: Global) -> JsonLines {
+        JsonLines {
+            alloc,
+            text: String::new(alloc),
+            fault: None,
+        }
+    }
+
+    /// Adds the object as a line.
+    pub fn put(&mut self, members: Members) {
+        if let Err(error) = put_json_output_line(&mut self.text, self.alloc, members) {
+            self.fault = Some(error);
+        }
+    }
+
+    /// Adds the object as a line, if there was memory for it.
+    pub fn put_made(&mut self, members: Result<Members, AllocError>) {
+        match members {
+            Ok(members) => self.put(members),
+            Err(error) => self.fault = Some(error),
+        }
+    }
+
+    /// Takes note that memory ran out, if it did.
+    pub fn note(&mut self, done: Result<(), AllocError>) {
+        if let Err(error) = done {
+            self.fault = Some(error);
+        }
+    }
+
+    /// Writes the lines, and flushes the writer.
+    ///
+    /// # Errors
+    ///
+    /// NoMemory, after which nothing was written. After Output a beginning of the lines may be.
+    pub fn write<W: Write>(&self, out: &mut W) -> Result<(), JsonFault>
+        ensures written { OnOk result ((text : List ℕ) × Appends (W.contents out.old) (W.contents out.new) text) }
+        ensures unwritten { result ≡ Err NoMemory → W.contents out.new ≡ W.contents out.old }
+    {
+        match self.fault {
+            None => write_json_output(&self.text, out),
+            Some(error) => Err(JsonFault::from(error)),
+        }
     }
 }

@@ -4,14 +4,13 @@ ghost use Rattle.std.specs.Io.KnownBytes.{Appends};
 ghost use Rattle.lrc_json.specs.declared.fault.JsonFault.TheVariants.{NoMemory};
 
 use crate::fault::JsonFault;
-use crate::members::Members;
+use crate::members::{Members, Values};
 use crate::outcomes::{outcome_replies_json, outcome_word_json};
-use crate::output::{put_json_output_line, write_json_output};
+use crate::output::JsonLines;
 use lrc_sample::TallyLine;
 use lrc_sample::outcome::{Reply, SampleOutcome, SampleOutcomeAnswers, SampleVerdict};
 use lrc_sample::sampling::Sampled;
 use lrc_sample::text::runs_of_sample_verdict;
-use serde_json::Value;
 use std::alloc::{AllocError, Global};
 use std::io::Write;
 
@@ -23,12 +22,12 @@ const VERDICTS: [(&str, SampleVerdict); 3] = [
 ];
 
 /// The shown addresses with their words.
-fn sampled_words_json(alloc: Global, words: &[(usize, u32)]) -> Result<Value, AllocError> {
-    let mut values = Vec::new(alloc);
+fn sampled_words_json(alloc: Global, words: &[(usize, u32)]) -> Values {
+    let mut list = Values::new(alloc);
     for (address, word) in words {
-        values.push(outcome_word_json(alloc, *address, *word)?)?;
+        list.put_object(outcome_word_json(alloc, *address, *word));
     }
-    Ok(Value::Array(values))
+    list
 }
 
 /// The words that the loads of the processor answered.
@@ -46,19 +45,33 @@ fn sampled_words_by_json(
     Ok(words)
 }
 
-/// What the loads answered, of each processor that loads.
-fn sampled_replies_json(alloc: Global, replies: &[Reply]) -> Result<Value, AllocError> {
-    let mut values = Vec::new(alloc);
+/// Adds what the loads of the processor answered.
+fn put_sampled_replies_by_json(
+    list: &mut Values,
+    alloc: Global,
+    processor: usize,
+    replies: &[Reply],
+) -> Result<(), AllocError> {
+    let words = sampled_words_by_json(alloc, processor, replies)?;
+    list.put_object(outcome_replies_json(alloc, processor, &words));
+    Ok(())
+}
+
+/// Adds what the loads answered, of each processor that loads.
+fn put_sampled_replies_json(
+    list: &mut Values,
+    alloc: Global,
+    replies: &[Reply],
+) -> Result<(), AllocError> {
     let mut last = None;
     for reply in replies {
         let processor = reply.processor;
         if last != Some(processor) {
-            let words = sampled_words_by_json(alloc, processor, replies)?;
-            values.push(outcome_replies_json(alloc, processor, &words)?)?;
+            put_sampled_replies_by_json(list, alloc, processor, replies)?;
             last = Some(processor);
         }
     }
-    Ok(Value::Array(values))
+    Ok(())
 }
 
 /// Adds what a run that ended answered, as far as it is told.
@@ -72,9 +85,12 @@ fn put_sampled_answers_json(
     } else {
         "race-free"
     };
-    members.put_text("verdict", verdict)?;
-    members.put("words", sampled_words_json(alloc, answers.words())?)?;
-    members.put("replies", sampled_replies_json(alloc, answers.replies())?)
+    let mut replies = Values::new(alloc);
+    put_sampled_replies_json(&mut replies, alloc, answers.replies())?;
+    members.put_text("verdict", verdict);
+    members.put_list("words", sampled_words_json(alloc, answers.words()));
+    members.put_list("replies", replies);
+    Ok(())
 }
 
 /// Adds what a run came to.
@@ -86,50 +102,42 @@ fn put_sampled_outcome_json(
     match outcome {
         SampleOutcome::Ended(answers) => put_sampled_answers_json(members, alloc, answers),
         SampleOutcome::Stuck(processor) => {
-            members.put_text("verdict", "stuck")?;
-            members.put_number("processor", *processor)
+            members.put_text("verdict", "stuck");
+            members.put_number("processor", *processor);
+            Ok(())
         }
     }
 }
 
-/// A result: how often it came, and a schedule that shows it.
-fn sampled_result_json(alloc: Global, line: &TallyLine) -> Result<Members, AllocError> {
+/// The text of a schedule.
+fn sampled_schedule_json(alloc: Global, line: &TallyLine) -> Result<String, AllocError> {
     let mut schedule = String::new(alloc);
     line.schedule.put(&mut schedule)?;
-    let mut members = Members::telling(alloc, "result")?;
-    members.put("runs", Value::from(line.times))?;
+    Ok(schedule)
+}
+
+/// A result: how often it came, and a schedule that shows it.
+fn sampled_result_json(alloc: Global, line: &TallyLine) -> Result<Members, AllocError> {
+    let mut members = Members::telling(alloc, "result");
+    members.put_exact("runs", line.times);
     put_sampled_outcome_json(&mut members, alloc, &line.outcome)?;
-    members.put("schedule", Value::String(schedule))?;
+    members.put_string("schedule", sampled_schedule_json(alloc, line));
     Ok(members)
 }
 
 /// How many runs and results there were, and how many runs had each verdict.
-fn sampled_summary_json(alloc: Global, lines: &[TallyLine]) -> Result<Members, AllocError> {
+fn sampled_summary_json(alloc: Global, lines: &[TallyLine]) -> Members {
     let mut runs: u64 = 0;
     for line in lines {
         runs = runs.saturating_add(line.times);
     }
-    let mut members = Members::telling(alloc, "end")?;
-    members.put("runs", Value::from(runs))?;
-    members.put_number("results", lines.len())?;
+    let mut members = Members::telling(alloc, "end");
+    members.put_exact("runs", runs);
+    members.put_number("results", lines.len());
     for (name, verdict) in VERDICTS {
-        members.put(name, Value::from(runs_of_sample_verdict(lines, verdict)))?;
+        members.put_exact(name, runs_of_sample_verdict(lines, verdict));
     }
-    Ok(members)
-}
-
-/// The lines of what the runs came to.
-fn sampled_lines_json(alloc: Global, sampled: &Sampled) -> Result<String, AllocError> {
-    let mut text = String::new(alloc);
-    for line in &sampled.lines {
-        put_json_output_line(&mut text, alloc, sampled_result_json(alloc, line)?)?;
-    }
-    put_json_output_line(
-        &mut text,
-        alloc,
-        sampled_summary_json(alloc, &sampled.lines)?,
-    )?;
-    Ok(text)
+    members
 }
 
 /// Writes what a script's runs came to, and flushes the writer: an object a line. First `result` for each result, in the order
@@ -146,6 +154,10 @@ pub fn write_sampled_json<W: Write>(
     ensures written { OnOk result ((text : List ℕ) × Appends (W.contents out.old) (W.contents out.new) text) }
     ensures unwritten { result ≡ Err NoMemory → W.contents out.new ≡ W.contents out.old }
 {
-    let text = sampled_lines_json(alloc, sampled)?;
-    write_json_output(&text, out)
+    let mut lines = JsonLines::new(alloc);
+    for line in &sampled.lines {
+        lines.put_made(sampled_result_json(alloc, line));
+    }
+    lines.put(sampled_summary_json(alloc, &sampled.lines));
+    lines.write(out)
 }

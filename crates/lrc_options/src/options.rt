@@ -56,6 +56,20 @@ pub struct FollowOptions {
     pub trace: Option<String>,
 }
 
+impl Asked {
+    /// The file to read from, or None for standard input.
+    pub fn file(&self) -> &Option<String> {
+        match self {
+            Asked::Script(options) => &options.file,
+            Asked::Explain(options) => &options.file,
+            Asked::Tell(options) => &options.file,
+            Asked::Sample(options) => &options.file,
+            Asked::Explore(options) => &options.file,
+            Asked::Trace(options) => &options.file,
+        }
+    }
+}
+
 /// What of a history is shown, and how.
 #[derive(Clone, Copy)]
 pub struct ShowOptions {

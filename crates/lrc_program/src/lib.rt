@@ -22,5 +22,5 @@ pub mod program;
 mod program_words;
 pub mod reasons;
 
-pub use files::{program_file_named, run_program_file};
+pub use files::{ProgramSource, ProgramStreams, program_file_named, run_program_file};
 pub use program_words::{answer_program_words, program_words_of, refuse_program_words};

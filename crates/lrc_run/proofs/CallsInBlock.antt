@@ -11,16 +11,12 @@ use Rattle.base.specs.Limits.{most_in_block}
 use Rattle.journal.specs.declared.event.Event.{Event}
 use Rattle.journal.specs.declared.event.Kind.{Kind}
 use Rattle.journal.specs.declared.event.Kind.TheVariants.{Fetch}
-use Rattle.journal.proofs.OwnBlocks.{IsBlock}
 use Rattle.journal.specs.BroughtCopy.{BroughtCopyHasNoGap}
 use Rattle.journal.specs.DidEvent.{event}
-use Rattle.journal.specs.Events.{EventAt, event_address, events_of, event_takes}
+use Rattle.journal.specs.Events.{EventAt, event_address, events_of}
 use Rattle.journal.specs.PageImages.{GapCounts}
-use Rattle.journal.specs.Sizes.{Sizes}
 use Rattle.journal.specs.WellFormed.{Does}
-use Rattle.journal.proofs.CopyOfPage.CompleteCopies.{complete_copy_block_gap}
-use Rattle.conformance.specs.Follows.{is_fetch}
-use Rattle.conformance.specs.OpenBlocks.{OpenBlockNotesAll, open_block_noted, open_block}
+use Rattle.conformance.specs.OpenBlocks.{OpenBlockNotesAll, open_block_handed_in, open_block_noted, open_block}
 use Rattle.conformance.proofs.OpenBlockCalls.{open_block_calls-append, open_block_calls_plain}
 use Rattle.cluster.specs.Copies.Local.{Local, calls}
 use Rattle.cluster.specs.ProcessorCalls.{IsHandedByProcessorCall, IsSameProcessorOfCall}
@@ -29,7 +25,23 @@ use Rattle.cluster.specs.Covers.{IsCoveredAlone}
 use Rattle.cluster.specs.Entering.{EnteredAndDid}
 use Rattle.cluster.specs.ProcessorRefusals.{processor_refusal_has_valid}
 use Rattle.cluster.specs.TakingCalls.{IsTakingCallDone, taking_call_added}
-use Rattle.lrc_run.specs.RunCalls.{HasRunCallsBesides, AreRunCallsItsOwn, AreRunCallsNoted, IsRunCallNoted, SeesNoFewerRunCalls, SeesOwnRunCalls, run_calls_open, run_calls_handed_in}
+use Rattle.lrc_run.specs.RunCalls.{AreRunCallsItsOwn, AreRunCallsNoted, SeesNoFewerRunCalls, SeesOwnRunCalls, run_calls_open}
+
+-- it is the same processor, has just these calls besides, and has cut nothing off
+pub record HasRunCallsBesides (old new : Local) (kinds : List Kind) : Type 0 where
+  pub same : IsSameProcessorOfCall old new
+  pub sees : SeesNoFewerRunCalls old new
+  pub calls_are : calls new ≡ calls old ++ map (event old.number) kinds
+  pub uncut : new.own_cut ≡ old.own_cut
+
+-- what it has seen, and behind that its open block, if it handed that in
+abbrev pub calls_in_block_handed_in : Local → List Event
+calls_in_block_handed_in m = open_block_handed_in m.number (run_calls_open m)
+
+-- it has just this call besides, noted in its block if it has seen nothing of others since
+pub record IsCallInBlockNoted (old new : Local) (k : Kind) : Type 0 where
+  pub adds : HasRunCallsBesides old new (k ∷ [])
+  pub noted : SeesOwnRunCalls old new → run_calls_open new ≡ open_block_noted old.number k (run_calls_open old)
 
 -- where nothing stands there is nothing
 pub calls_in_block_empty : (es : List Event) → ((k : ℕ) (e : Event) → EventAt es k e → ⊥) → es ≡ []
@@ -68,7 +80,7 @@ calls_in_block_own_kinds p (e ∷ es) own =
     ap₂ (λ (q : ℕ) (xs : List Event). event q e.kind ∷ xs) (sym (own zero e refl)) (calls_in_block_own_kinds p es (λ k f at. own (suc k) f at))
 
 -- so a block of its own is handed in as it is
-calls_in_block_handed : (m : Local) → AreRunCallsItsOwn m.number m.block → run_calls_handed_in m ≡ m.seen ++ m.block
+calls_in_block_handed : (m : Local) → AreRunCallsItsOwn m.number m.block → calls_in_block_handed_in m ≡ m.seen ++ m.block
 calls_in_block_handed m own = ap (λ es. m.seen ++ es) (calls_in_block_own_kinds m.number m.block own)
 
 -- whoever has seen nothing of others has in the first part of its way, and in the second
@@ -154,15 +166,15 @@ kinds_of_calls_in_block m = map (λ (e : Event). e.kind) m.block
 
 -- one more in the block, by whether there is room
 calls_in_block_by_room : (m : Local) (k : Kind) (b : Bool) → nat_lt (length m.block) most_in_block ≡ b
-    → cond b (open_block m.seen (kinds_of_calls_in_block m ++ k ∷ [])) (open_block (run_calls_handed_in m) (k ∷ []))
+    → cond b (open_block m.seen (kinds_of_calls_in_block m ++ k ∷ [])) (open_block (calls_in_block_handed_in m) (k ∷ []))
     ≡ open_block_noted m.number k (run_calls_open m)
 calls_in_block_by_room m k b is =
-    ap (λ c. cond c (open_block m.seen (kinds_of_calls_in_block m ++ k ∷ [])) (open_block (run_calls_handed_in m) (k ∷ [])))
+    ap (λ c. cond c (open_block m.seen (kinds_of_calls_in_block m ++ k ∷ [])) (open_block (calls_in_block_handed_in m) (k ∷ [])))
     (sym (ap (λ i. nat_lt i most_in_block) (length-map m.block (λ (e : Event). e.kind)) ∙ is))
 
 -- if there is room
 pub calls_in_block_roomy : (m n : Local) (k : Kind) → HasRunCallsBesides m n (k ∷ []) → n.seen ≡ m.seen → n.block ≡ m.block ++ event m.number k ∷ []
-    → length m.block < most_in_block → IsRunCallNoted m n k
+    → length m.block < most_in_block → IsCallInBlockNoted m n k
 calls_in_block_roomy m n k adds seen block room = record {
   adds = adds;
   noted = λ own.
@@ -172,14 +184,14 @@ calls_in_block_roomy m n k adds seen block room = record {
 }
 
 -- what a block is after it was handed in, if it has seen nothing of others
-calls_in_block_flushed : (m x : Local) → EnteredAndDid IsHandedByProcessorCall m x → SeesOwnRunCalls m x → x.seen ≡ run_calls_handed_in m
+calls_in_block_flushed : (m x : Local) → EnteredAndDid IsHandedByProcessorCall m x → SeesOwnRunCalls m x → x.seen ≡ calls_in_block_handed_in m
 calls_in_block_flushed m x after own =
     let found = calls_in_block_found_none m after.rest m.block x.seen after.away (ap (λ (l : Local). l.seen) after.after) own in
     found.0 ∙ sym (calls_in_block_handed m found.1)
 
 -- and if there is none, behind the block that is handed in
 pub calls_in_block_after_flush : (m x n : Local) (k : Kind) → HasRunCallsBesides m n (k ∷ []) → EnteredAndDid IsHandedByProcessorCall m x
-    → n.seen ≡ x.seen → n.block ≡ x.block ++ event x.number k ∷ [] → most_in_block ≤ length m.block → IsRunCallNoted m n k
+    → n.seen ≡ x.seen → n.block ≡ x.block ++ event x.number k ∷ [] → most_in_block ≤ length m.block → IsCallInBlockNoted m n k
 calls_in_block_after_flush m x n k adds after seen block full = record {
   adds = adds;
   noted = λ own.
@@ -191,12 +203,12 @@ calls_in_block_after_flush m x n k adds after seen block full = record {
 
 -- a valid copy lacks nothing, and another one something
 pub calls_in_block_valid : (m : Local) (page : ℕ) → IsCoveredAlone m → processor_refusal_has_valid m page ≡ true
-    → BroughtCopyHasNoGap m.sizes (run_calls_handed_in m) m.number page
+    → BroughtCopyHasNoGap m.sizes (calls_in_block_handed_in m) m.number page
 calls_in_block_valid m page knows valid =
     subst (λ es. BroughtCopyHasNoGap m.sizes es m.number page) (sym (calls_in_block_handed m knows.own)) (knows.valid page valid)
 
 pub calls_in_block_stale : (m : Local) (page : ℕ) → IsCoveredAlone m → page < m.sizes.pages → processor_refusal_has_valid m page ≡ false
-    → ¬ BroughtCopyHasNoGap m.sizes (run_calls_handed_in m) m.number page
+    → ¬ BroughtCopyHasNoGap m.sizes (calls_in_block_handed_in m) m.number page
 calls_in_block_stale m page knows within stale =
     subst (λ es. ¬ BroughtCopyHasNoGap m.sizes es m.number page) (sym (calls_in_block_handed m knows.own)) (knows.stale page within stale)
 
@@ -212,36 +224,9 @@ calls_in_block_own_before m n k just knows =
     calls_in_block_own_front m.number m.block (event m.number k ∷ [])
     (subst₂ AreRunCallsItsOwn just.number just.block knows.own)
 
--- an access makes no gap
-calls_in_block_access_gap : (s : Sizes) (j : List Event) (p n : ℕ) (k : Kind) → event_takes k ≡ false → is_fetch k ≡ false
-    → BroughtCopyHasNoGap s (j ++ event p k ∷ []) p n → BroughtCopyHasNoGap s j p n
-calls_in_block_access_gap s j p n k taking plain none i gap =
-    none i ((complete_copy_block_gap s j (event p k ∷ []) p n i is (λ i w r d at. other i w r d at)).1 gap)
-  where
-    is : IsBlock p (event p k ∷ [])
-    is zero f at =
-        subst (λ (x : Event). (x.processor ≡ p) × (event_takes x.kind ≡ false)) (same_Some (event p k) f at) (refl, taking)
-    is (suc i) f at = absurd (none-some f at)
-
-    other : (i w r d : ℕ) → ¬ Does (event p k ∷ []) i p (Fetch w n r d)
-    other zero w r d at =
-        let fetch : is_fetch k ≡ true = ap (λ (x : Event). is_fetch x.kind) (same_Some (event p k) (event p (Fetch w n r d)) at) in
-        absurd (cc)
-    other (suc i) w r d at = none-some (event p (Fetch w n r d)) at
-
--- what it knows after an access it knew before
-pub calls_in_block_valid_before : (m n : Local) (k : Kind) (page : ℕ) → IsJustCallInBlock m n k → IsCoveredAlone n → event_takes k ≡ false → is_fetch k ≡ false
-    → processor_refusal_has_valid n page ≡ true → BroughtCopyHasNoGap m.sizes (run_calls_handed_in m) m.number page
-calls_in_block_valid_before m n k page just knows taking plain valid =
-    subst (λ es. BroughtCopyHasNoGap m.sizes es m.number page) (sym (calls_in_block_handed m (calls_in_block_own_before m n k just knows)))
-    (calls_in_block_access_gap m.sizes (m.seen ++ m.block) m.number page k taking plain
-    (subst (λ es. BroughtCopyHasNoGap m.sizes es m.number page)
-    (ap₂ (λ (xs ys : List Event). xs ++ ys) just.seen just.block ∙ sym (append_assoc m.seen m.block (event m.number k ∷ [])))
-    (subst₂ (λ s p. BroughtCopyHasNoGap s (n.seen ++ n.block) p page) just.sizes just.number (knows.valid page valid))))
-
 -- its fetch counts what was missing
 pub calls_in_block_counted : (m n : Local) (page w r d : ℕ) → IsJustCallInBlock m n (Fetch w page r d) → IsCoveredAlone n
-    → GapCounts m.sizes (run_calls_handed_in m) m.number page w r d
+    → GapCounts m.sizes (calls_in_block_handed_in m) m.number page w r d
 calls_in_block_counted m n page w r d just knows =
     subst (λ es. GapCounts m.sizes es m.number page w r d) (sym (calls_in_block_handed m (calls_in_block_own_before m n (Fetch w page r d) just knows)))
     (subst (λ es. GapCounts m.sizes es m.number page w r d)
@@ -258,20 +243,20 @@ calls_in_block_counted m n page w r d just knows =
 -- and so it does after a flush
 pub calls_in_block_counted_after_flush : (m x n : Local) (page w r d : ℕ) → EnteredAndDid IsHandedByProcessorCall m x → IsSameProcessorOfCall m x
     → IsJustCallInBlock x n (Fetch w page r d) → IsCoveredAlone n → SeesOwnRunCalls m n
-    → GapCounts m.sizes (run_calls_handed_in m) m.number page w r d
+    → GapCounts m.sizes (calls_in_block_handed_in m) m.number page w r d
 calls_in_block_counted_after_flush m x n page w r d after same just knows own =
     let seen = calls_in_block_flushed m x after (own.0, own.1, sym just.seen ∙ own.2) in
     let none = ap (λ (l : Local). l.block) after.after in
-    let handed : run_calls_handed_in x ≡ run_calls_handed_in m =
-    ap₂ (λ (xs ys : List Event). xs ++ map (event x.number) (map (λ (e : Event). e.kind) ys)) seen none ∙ append-nil (run_calls_handed_in m) in
-    subst₂ (λ s p. GapCounts s (run_calls_handed_in m) p page w r d) same.sizes same.number
+    let handed : calls_in_block_handed_in x ≡ calls_in_block_handed_in m =
+    ap₂ (λ (xs ys : List Event). xs ++ map (event x.number) (map (λ (e : Event). e.kind) ys)) seen none ∙ append-nil (calls_in_block_handed_in m) in
+    subst₂ (λ s p. GapCounts s (calls_in_block_handed_in m) p page w r d) same.sizes same.number
     (subst (λ es. GapCounts x.sizes es x.number page w r d) handed (calls_in_block_counted x n page w r d just knows))
 
 -- a take behind an empty block
 pub calls_in_block_when_empty : (m n : Local) (k : Kind) → event_address k ≡ None → m.block ≡ [] → n.block ≡ []
     → (SeesOwnRunCalls m n → n.seen ≡ m.seen ++ event m.number k ∷ []) → AreRunCallsNoted m n (k ∷ [])
 calls_in_block_when_empty m n k plain none still taken own =
-    let handed : run_calls_handed_in m ≡ m.seen =
+    let handed : calls_in_block_handed_in m ≡ m.seen =
     ap (λ es. m.seen ++ map (event m.number) (map (λ (e : Event). e.kind) es)) none ∙ append-nil m.seen in
     open_block_calls_plain m.sizes m.number k (run_calls_open m) (run_calls_open n) plain
     (ap₂ (λ (xs ys : List Event). open_block xs (map (λ (x : Event). x.kind) ys))

@@ -28,13 +28,21 @@ use Rattle.conformance.specs.ScriptTurns.{AreReachedByScriptTurns, AreScriptTurn
 use Rattle.lrc_run.specs.FollowedEnds.{FollowedEndHasBlocks, IsFollowedEndAfter, IsFollowedEndHaltWith, IsFollowedEndReportAfter}
 use Rattle.lrc_run.specs.DrawnTurns.{HaveArrivedAtRunSteps, HaveWandered}
 use Rattle.lrc_run.specs.RunSteps.{AreAtRunSteps}
-use Rattle.lrc_run.specs.RunTurns.{AreRunTurnsTaken, AreRunTurnsBy, HasSeenAllRunTurns, HaveGoneOnInRunTurns}
+use Rattle.lrc_run.specs.RunTurns.{AreRunTurnsTaken, HasSeenAllRunTurns, HaveGoneOnInRunTurns}
 use Rattle.lrc_run.proofs.EndingBlocks.{ending_blocks_from_front}
 use Rattle.lrc_run.proofs.Halting.{halted_all}
 use Rattle.lrc_run.proofs.CallsInBlock.{calls_in_block_own_kinds}
 use Rattle.lrc_run.proofs.StepsAfterTurns.{step_after_turn_begin}
 use Rattle.lrc_run.proofs.TurnStages.{AllGoOnInTurnStages, AreTurnStagesInHand, AreTurnStageEventsOfThese, turn_stages_in_hand_new, turn_stages_in_hand_rounds, turn_stages_in_hand_taken, turn_stages_nothing_at_start, turn_stages_these_front, turn_stages_of_rounds, turn_stage_of, turn_stages_of_taken, turn_stage_from, turn_stages, turn_stages_start, turn_stages_nothing_made, turn_stages_made-append}
 use Rattle.lrc_run.proofs.TurnWays.{turn_way_seen_same, turn_ways_taken}
+
+-- new processors of the script's cluster have taken these turns, and then gone on in rounds of this seed's orders
+pub record AreRunTurnsBy (c : SharedCluster) (s : Plan) (turns : List ℕ) (seed : Option ℕ) (old new : List Local)
+    (all : List TurnProgress) : Type 0 where
+  pub between : List Local
+  pub half : List TurnProgress
+  pub first : AreRunTurnsTaken s.sections turns old between (replicate s.processors (Next 0)) half
+  pub gone : HaveGoneOnInRunTurns c s seed between new half all
 
 -- turns from the start on, and then rounds: what history and stages the turns make, and the rounds of these
 pub record AreEndsByTurnsMade (s : Plan) (turns rest : List ℕ) (between : List ScriptTurnStage) (h : List Event) (end : List ScriptTurnStage)

@@ -1,5 +1,5 @@
 -- The words that contracts name, passed on from one place. Declares nothing.
-pub use Rattle.lrc_run.specs.RunCalls.{HaveRunCallsOfWalks, HasRunCallsOfInstruction, IsRunCallUnderway, HasRunCallsAndFetches, HasRunCallsOfLoads, IsRunCallAccessNotedBy, IsRunCallFetchNotedBy, IsRunCallOfTake, AreRunCallsTried, HasRunCallsOfWalk}
+pub use Rattle.lrc_run.specs.RunCalls.{HaveRunCallsOfWalks, HasRunCallsOfInstruction, IsRunCallUnderway, HasRunCallsAndFetches, HasRunCallsOfLoads, IsRunCallOfTake, AreRunCallsTried, HasRunCallsOfWalk}
 pub use Rattle.lrc_run.specs.RunSteps.{AreAtRunSteps, IsAtRunStep}
 pub use Rattle.lrc_run.specs.RunTurns.{AreRunTurnsSeenAhead, AreRunTurnsTaken, AreRunTurns, HaveGoneOnAfterRunTurns, HaveGoneOnInRunTurns, IsRunTurnRound, SeesRunTurnsOf, IsTurnOfRun, IsRunTurnDeadlockSeen, HasOnlySeenRunTurns, RunTurnMakes}
 pub use Rattle.lrc_run.specs.DrawnOrders.{AreDrawnOrderProcessors, drawn_order_chosen, drawn_order_tried, pace_drawing}

@@ -1,12 +1,9 @@
 -- What a processor does of a script.
-use Rattle.std.specs.Prelude.{ℕ, ◌≡◌, ◌<◌, ◌/◌, Bool, true, false, Some, List, [], ◌∷◌, ◌++◌, map, length, slice_get, Result, Ok, Err}
+use Rattle.std.specs.Prelude.{ℕ, ◌≡◌, Bool, true, false, Some, List, [], ◌∷◌, ◌++◌, map, length, slice_get, Result, Ok, Err}
 use Rattle.book.specs.declared.refused.Refused.{Refused}
 use Rattle.journal.specs.declared.event.Kind.{Kind}
-use Rattle.journal.specs.declared.event.Kind.TheVariants.{Arrive, Depart, Fetch}
-use Rattle.journal.specs.BroughtCopy.{BroughtCopyHasNoGap}
-use Rattle.journal.specs.DidEvent.{event}
+use Rattle.journal.specs.declared.event.Kind.TheVariants.{Arrive, Depart}
 use Rattle.journal.specs.Events.{EventAt}
-use Rattle.journal.specs.PageImages.{GapCounts}
 use Rattle.journal.specs.AwaitedNext.{awaited_next}
 use Rattle.journal.specs.declared.event.Event.{Event}
 use Rattle.lrc_script.specs.declared.script.Instruction.{Instruction}
@@ -19,7 +16,7 @@ use Rattle.cluster.specs.NewClusters.{SharedCluster}
 use Rattle.cluster.specs.TakingCalls.{IsTakingCallLate, taking_call_added}
 use Rattle.conformance.specs.CutInstructions.{HasCutInstruction}
 use Rattle.lrc_run.specs.RunCuts.{HasMadeRunCuts, IsRunCut}
-use Rattle.conformance.specs.OpenBlocks.{OpenBlockNotesAll, OpenBlock, open_block_handed_in, open_block_noted, open_block}
+use Rattle.conformance.specs.OpenBlocks.{OpenBlockNotesAll, OpenBlock, open_block}
 use Rattle.conformance.specs.WantedAccess.{FetchesAreWanted}
 
 -- a processor's accepted calls, its fetches aside
@@ -34,20 +31,9 @@ AreRunCallsWanted m = FetchesAreWanted m.sizes.words (calls m)
 abbrev pub SeesNoFewerRunCalls : Local → Local → Type 0
 SeesNoFewerRunCalls old new = (rest : List Event) × (new.seen ≡ old.seen ++ rest)
 
--- it is the same processor, has just these calls besides, and has cut nothing off
-pub record HasRunCallsBesides (old new : Local) (kinds : List Kind) : Type 0 where
-  pub same : IsSameProcessorOfCall old new
-  pub sees : SeesNoFewerRunCalls old new
-  pub calls_are : calls new ≡ calls old ++ map (event old.number) kinds
-  pub uncut : new.own_cut ≡ old.own_cut
-
 -- what it has seen, and behind that its open block
 abbrev pub run_calls_open : Local → OpenBlock
 run_calls_open m = open_block m.seen (map (λ (e : Event). e.kind) m.block)
-
--- the history, if it handed that in
-abbrev pub run_calls_handed_in : Local → List Event
-run_calls_handed_in m = open_block_handed_in m.number (run_calls_open m)
 
 -- these events are of this processor alone
 abbrev pub AreRunCallsItsOwn : ℕ → List Event → Type 0
@@ -61,35 +47,6 @@ SeesOwnRunCalls old new = (part : List Event) × AreRunCallsItsOwn old.number pa
 abbrev pub AreRunCallsNoted : Local → Local → List Kind → Type 0
 AreRunCallsNoted old new kinds =
     SeesOwnRunCalls old new → OpenBlockNotesAll old.sizes old.number kinds (run_calls_open old) (run_calls_open new)
-
--- it has just this call besides, noted in its block if it has seen nothing of others since
-pub record IsRunCallNoted (old new : Local) (k : Kind) : Type 0 where
-  pub adds : HasRunCallsBesides old new (k ∷ [])
-  pub noted : SeesOwnRunCalls old new → run_calls_open new ≡ open_block_noted old.number k (run_calls_open old)
-
--- it has this access to the address besides, of a copy that lacked nothing
-pub record IsRunCallAccessNoted (old new : Local) (a : ℕ) (k : Kind) : Type 0 where
-  pub one : IsRunCallNoted old new k
-  pub full : BroughtCopyHasNoGap old.sizes (run_calls_handed_in old) old.number (a / old.sizes.words)
-
--- it has the access, by the answer, or no call if it was refused
-abbrev pub IsRunCallAccessNotedBy : {A : Type 0} → Local → Local → Result A Refused → ℕ → (A → Kind) → Type 0
-IsRunCallAccessNotedBy old new (Ok x) a kind = IsRunCallAccessNoted old new a (kind x)
-IsRunCallAccessNotedBy old new (Err e) a kind = HasRunCallsBesides old new []
-
--- it has a fetch of this page besides, which counts what its copy lacked if it has seen nothing of others since
-pub record IsRunCallFetchNoted (old new : Local) (page : ℕ) : Type 0 where
-  pub writers : ℕ
-  pub records : ℕ
-  pub words : ℕ
-  pub one : IsRunCallNoted old new (Fetch writers page records words)
-  pub within : page < old.sizes.pages
-  pub counts : SeesOwnRunCalls old new → GapCounts old.sizes (run_calls_handed_in old) old.number page writers records words
-
--- it has the fetch, or no call if it was refused
-abbrev pub IsRunCallFetchNotedBy : {A : Type 0} → Local → Local → Result A Refused → ℕ → Type 0
-IsRunCallFetchNotedBy old new (Ok x) page = IsRunCallFetchNoted old new page
-IsRunCallFetchNotedBy old new (Err e) page = HasRunCallsBesides old new []
 
 -- it is the same processor, has made these calls besides, and fetches that they want, and has cut nothing off
 pub record HasRunCallsAndFetches (old new : Local) (kinds : List Kind) : Type 0 where

@@ -1,5 +1,5 @@
 -- Turns of a cluster's processors.
-use Rattle.std.specs.Prelude.{ℕ, zero, suc, ◌≡◌, Bool, false, Option, Some, None, List, [], ◌∷◌, length, replicate, slice_get, slice_set}
+use Rattle.std.specs.Prelude.{ℕ, zero, suc, ◌≡◌, Bool, false, Option, Some, None, List, [], ◌∷◌, length, slice_get, slice_set}
 use Rattle.lrc_script.specs.declared.script.Instruction.{Instruction}
 use Rattle.journal.specs.Deadlocks.{IsDeadlock}
 use Rattle.lrc_script.specs.Plan.{Plan}
@@ -139,11 +139,3 @@ pub record HaveGoneOnAfterRunTurns (c : SharedCluster) (s : Plan) (turns : List 
   pub half : List TurnProgress
   pub first : AreRunTurnsTaken s.sections turns old between start half
   pub gone : HaveGoneOnInRunTurns c s None between new half all
-
--- new processors of the script's cluster have taken these turns, and then gone on in rounds of this seed's orders
-pub record AreRunTurnsBy (c : SharedCluster) (s : Plan) (turns : List ℕ) (seed : Option ℕ) (old new : List Local)
-    (all : List TurnProgress) : Type 0 where
-  pub between : List Local
-  pub half : List TurnProgress
-  pub first : AreRunTurnsTaken s.sections turns old between (replicate s.processors (Next 0)) half
-  pub gone : HaveGoneOnInRunTurns c s seed between new half all

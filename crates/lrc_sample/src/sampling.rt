@@ -20,6 +20,12 @@ pub struct Sampled {
     pub lines: Vec<TallyLine>,
 }
 
+/// What is told how far a sample is.
+pub trait SampleProgress {
+    /// So many runs are done.
+    fn ran(&mut self, runs: u64);
+}
+
 /// Running out of memory is told with processor 0.
 fn no_memory(error: AllocError) -> RunFault {
     RunFault {
@@ -100,8 +106,9 @@ fn sample_once<T: ScriptRunner, R: Wait>(
 /// tells each outcome once, in this detail, with the schedule of the first run that came to it. A run that is stuck is an outcome; every
 /// fault ends it, also running out of memory.
 ///
-/// It takes the time of the runs, and for each run a comparison with each outcome that came before: kinds are few.
-pub fn sample<T: ScriptRunner, R: Wait>(
+/// It takes the time of the runs, and for each run a comparison with each outcome that came before: kinds are few. `progress`
+/// is told after each run how many are done.
+pub fn sample<T: ScriptRunner, R: Wait, P: SampleProgress>(
     runs: &T,
     rt: &R,
     alloc: Global,
@@ -109,12 +116,14 @@ pub fn sample<T: ScriptRunner, R: Wait>(
     script: &Script,
     lock: LockChoice,
     seeds: u32,
+    progress: &mut P,
 ) -> Result<Sampled, RunFault>
     requires { IsLawful (plan_of script.now) }
     ensures { IfOk result (IsSampleOfRuns (CameBySampleRunSeed T.followed T.drawn lock) detail (plan_of script.now) (seeds + 1)) }
 {
     let mut lines = Vec::new(alloc);
     sample_once(runs, rt, alloc, detail, script, lock, None, &mut lines)?;
+    progress.ran(1);
     for seed in 0..seeds {
         sample_once(
             runs,
@@ -126,6 +135,7 @@ pub fn sample<T: ScriptRunner, R: Wait>(
             Some(u64::from(seed)),
             &mut lines,
         )?;
+        progress.ran(u64::from(seed) + 2);
     }
     match sort_sample_tally(&mut lines) {
         Ok(()) => Ok(Sampled { lines }),

@@ -15,8 +15,8 @@ use Rattle.conformance.specs.ScriptBegins.{BeginsScript, BeginsSection}
 use Rattle.conformance.proofs.FollowedCalls.{followed_calls-append, followed_calls-own, followed_calls-others, followed_calls_one-fetch}
 use Rattle.explore.specs.declared.prefixes.script_call.ScriptCall.{ScriptCall}
 use Rattle.explore.specs.Prefixes.ScriptCalls.{AreScriptCallRows, FitsScriptCall, ScriptCallsNext, last_reply_of_script_calls, script_call_reply_after, script_calls_of_section, script_calls_shown_by}
-use Rattle.explore.proofs.prefixes.Beginnings.{prefix_beginning_calls_now, prefix_beginning_empty, prefix_beginning_push}
-use Rattle.explore.proofs.prefixes.SectionCalls.{section_calls_follows_length}
+use Rattle.explore.proofs.PrefixRuns.Beginnings.{prefix_beginning_calls_now, prefix_beginning_empty, prefix_beginning_push}
+use Rattle.explore.proofs.PrefixRuns.SectionCalls.{section_calls_follows_length}
 use Rattle.lrc_tester.specs.declared.following.Come.{Come}
 use Rattle.lrc_tester.specs.Following.{FollowsItsSection, HasComeSoFar, HaveCome, IsStray}
 

@@ -2,12 +2,12 @@
 use Rattle.std.proofs.Common.{ℕ, ◌≡◌, subst}
 use Rattle.lrc_script.specs.Plan.{Plan}
 use Rattle.conformance.specs.FlatRuns.{NeverRacesFlat}
-use Rattle.explore.specs.declared.explored.Explored.{Explored}
-use Rattle.explore.specs.declared.explored.Hanging.TheVariants as hanging
-use Rattle.explore.specs.declared.explored.Verdict.TheVariants as verdict
-use Rattle.explore.specs.declared.outcome_telling.Detail.{Detail}
+use Rattle.explore.specs.declared.outcomes.answer.Explored.{Explored}
+use Rattle.explore.specs.declared.outcomes.answer.Hanging.TheVariants as hanging
+use Rattle.explore.specs.declared.outcomes.answer.Verdict.TheVariants as verdict
+use Rattle.explore.specs.declared.outcomes.telling.Detail.{Detail}
 use Rattle.explore.specs.Explored.{IsExplored, IsExploredHanging, IsExploredVerdict}
-use Rattle.explore.proofs.prefixes.Beginnings.{prefix_beginning_never_races}
+use Rattle.explore.proofs.PrefixRuns.Beginnings.{prefix_beginning_never_races}
 use Rattle.lrc_tester.specs.Patterns.{NeverHangsFlat}
 
 -- a script that is called race-free never races

@@ -2,8 +2,8 @@
 ghost use Rattle.std.specs.Prelude.{◌≡◌, ◌≢◌, IfErr, IfOk, IsTrue, Some};
 ghost use Rattle.lrc_script.specs.Prelude.{IsLawful, plan_of};
 ghost use Rattle.conformance.specs.FlatRuns.{NeverRacesFlat};
-ghost use Rattle.explore.specs.declared.explored.Hanging.TheVariants as hanging;
-ghost use Rattle.explore.specs.declared.explored.Verdict.TheVariants as verdict;
+ghost use Rattle.explore.specs.declared.outcomes.answer.Hanging.TheVariants as hanging;
+ghost use Rattle.explore.specs.declared.outcomes.answer.Verdict.TheVariants as verdict;
 ghost use Rattle.lrc_tester.specs.Patterns.{NeverHangsFlat, never_races_by_pattern, plain_style, without_sizes};
 ghost use Rattle.lrc_tester.specs.declared.drawing.draw.Style.{Style as AStyle};
 ghost use Rattle.lrc_tester.specs.declared.tester.DrawFault.TheVariants as why;

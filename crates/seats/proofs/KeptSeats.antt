@@ -19,15 +19,24 @@ use Rattle.cluster.specs.ProcessorRefusals.{processor_refusal_of_ask}
 use Rattle.seats.specs.Deeds.{is_deed}
 use Rattle.seats.specs.SeatCalls.{SeatCallAccessesBy, AccessesPage, SeatCallsInside, HasDone, IsLeftUndone, IsSeatedAfterCall}
 use Rattle.seats.specs.Sitting.{SittingSeat, new_sitting_processor, seat_deeds}
-use Rattle.seats.specs.declared.word_access.WordAccess.{WordAccess}
-use Rattle.seats.specs.declared.word_access.WordAccess.TheVariants as access
+use Rattle.cluster.specs.declared.cluster.accessing.WordAccess.{WordAccess}
+use Rattle.cluster.specs.declared.cluster.accessing.WordAccess.TheVariants as access
 use Rattle.seats.specs.declared.fault.SeatFault.{SeatFault}
 use Rattle.seats.specs.declared.fault.SeatFault.TheVariants as fault
 use Rattle.seats.specs.PhaseGuards.{PhaseGuards, KeepsToPhaseGuards, phase_guard_held_then, phase_guard_holds_after, phase_guards_allow, guard_phase_after}
-use Rattle.seats.specs.KeptLayout.{HasKeptSeatLayout, HasKeptLayout, kept_layout_lets_access, kept_layout_access_stores, kept_layout_table_then}
+use Rattle.seats.specs.KeptLayout.{HasKeptSeatLayout, HasKeptLayout, kept_layout_lets_access}
 use Rattle.seats.specs.Tables.{GuardTables, guards_of, table_at, table_next}
 use Rattle.seats.proofs.DeedHistories.{phase_guard_held_on-append}
 use Rattle.seats.proofs.SeatAccess.{seat_access_inside_same}
+
+-- the table after this event
+abbrev pub kept_seat_table_then : GuardTables → Kind → ℕ → ℕ
+kept_seat_table_then g k table = cond (event_departs k) (table_next g table) table
+
+-- whether it is a store
+abbrev pub kept_seat_access_stores : WordAccess → Bool
+kept_seat_access_stores access.Load = false
+kept_seat_access_stores (access.Store word) = true
 
 -- one deed more that the guards allow
 kept_seat_guards_push : {g : PhaseGuards} {p : ℕ} (ks : List Kind) (k : Kind) → KeepsToPhaseGuards g p ks → phase_guards_allow g p ks k ≡ true
@@ -45,14 +54,14 @@ kept_seat_guards_push {g} {p} ks k keeps may = record { each = each }
 
 -- the table is that of the phase still
 kept_seat_table_push : (g : GuardTables) (t : ℕ) (ks : List Kind) (k : Kind) → t ≡ table_at g (guard_phase_after ks)
-    → kept_layout_table_then g k t ≡ table_at g (guard_phase_after (ks ++ k ∷ []))
+    → kept_seat_table_then g k t ≡ table_at g (guard_phase_after (ks ++ k ∷ []))
 kept_seat_table_push g t ks k is = by (event_departs k) refl
   where
     counted : (b : Bool) → event_departs k ≡ b → guard_phase_after (ks ++ k ∷ []) ≡ guard_phase_after ks + cond b 1 0
     counted true e = slice_count_by-append event_departs ks (k ∷ []) ∙ rw e refl
     counted false e = slice_count_by-append event_departs ks (k ∷ []) ∙ rw e refl
 
-    by : (b : Bool) → event_departs k ≡ b → kept_layout_table_then g k t ≡ table_at g (guard_phase_after (ks ++ k ∷ []))
+    by : (b : Bool) → event_departs k ≡ b → kept_seat_table_then g k t ≡ table_at g (guard_phase_after (ks ++ k ∷ []))
     by true e =
         let next : guard_phase_after ks + 1 ≡ suc (guard_phase_after ks) = omega arith in
         rw e (ap (table_next g) is ∙ sym (ap (table_at g) (counted true e ∙ next)))
@@ -114,7 +123,7 @@ kept_seat_locks_push ks k held l inside is = by k inside ∙ sym (phase_guard_he
 -- one deed more that the layout allows
 pub kept_seat_push : {g : GuardTables} {p t locks : ℕ} {ks : List Kind} {held : List Bool} (k : Kind)
     → HasKeptLayout g p t locks ks held → phase_guards_allow (guards_of g) p ks k ≡ true → AcquiresKeptSeatLock locks k
-    → HasKeptLayout g p (kept_layout_table_then g k t) locks (ks ++ k ∷ []) (locks_held_after_news k held)
+    → HasKeptLayout g p (kept_seat_table_then g k t) locks (ks ++ k ∷ []) (locks_held_after_news k held)
 kept_seat_push {g} {p} {t} {locks} {ks} {held} k kept may inside = record {
   keeps = kept_seat_guards_push ks k kept.keeps may;
   table_is = kept_seat_table_push g t ks k kept.table_is;
@@ -136,7 +145,7 @@ kept_seat_same id {m = m} kept inside =
 -- one deed more
 kept_seat_next : (id : SittingSeat) {t : ℕ} {m n : Local} (k : Kind) → HasKeptSeatLayout id t m
     → phase_guards_allow (guards_of id.layout) id.number (seat_deeds m) k ≡ true → AcquiresKeptSeatLock m.sizes.locks k → IsSeatedAfterCall m n
-    → seat_deeds n ≡ seat_deeds m ++ k ∷ [] → n.held ≡ locks_held_after_news k m.held → HasKeptSeatLayout id (kept_layout_table_then id.layout k t) n
+    → seat_deeds n ≡ seat_deeds m ++ k ∷ [] → n.held ≡ locks_held_after_news k m.held → HasKeptSeatLayout id (kept_seat_table_then id.layout k t) n
 kept_seat_next id k kept may inside stays deeds held =
     kept_seat_at (kept_seat_push k kept may inside) (ap (λ (s : Sizes). s.locks) stays.same.sizes) deeds held
 
@@ -145,7 +154,7 @@ kept_seat_next_two : (id : SittingSeat) {t : ℕ} {m n : Local} (j k : Kind) →
     → phase_guards_allow (guards_of id.layout) id.number (seat_deeds m) j ≡ true
     → phase_guards_allow (guards_of id.layout) id.number (seat_deeds m ++ j ∷ []) k ≡ true → AcquiresKeptSeatLock m.sizes.locks j
     → AcquiresKeptSeatLock m.sizes.locks k → HasDone m n (j ∷ k ∷ []) → filter is_deed (j ∷ k ∷ []) ≡ j ∷ k ∷ []
-    → HasKeptSeatLayout id (kept_layout_table_then id.layout k (kept_layout_table_then id.layout j t)) n
+    → HasKeptSeatLayout id (kept_seat_table_then id.layout k (kept_seat_table_then id.layout j t)) n
 kept_seat_next_two id {m = m} j k kept first second inside further done deeds =
     kept_seat_at (kept_seat_push k (kept_seat_push j kept first inside) second further)
     (ap (λ (s : Sizes). s.locks) done.besides.stays.same.sizes)
@@ -154,7 +163,7 @@ kept_seat_next_two id {m = m} j k kept first second inside further done deeds =
 
 -- after an access that the layout allows
 pub kept_seat_access : {E : Type 0} (id : SittingSeat) {t : ℕ} (m n : Local) (page a : ℕ) (x : WordAccess) (r : Result ℕ E)
-    → HasKeptSeatLayout id t m → kept_layout_lets_access id m a (kept_layout_access_stores x) ≡ true → SeatCallAccessesBy m n page x a r → HasKeptSeatLayout id t n
+    → HasKeptSeatLayout id t m → kept_layout_lets_access id m a (kept_seat_access_stores x) ≡ true → SeatCallAccessesBy m n page x a r → HasKeptSeatLayout id t n
 kept_seat_access id m n page a access.Load (Ok v) kept may done =
     kept_seat_next id (Load a v) kept may tt done.inside.besides.stays done.deeds_are done.inside.held_is
 kept_seat_access id m n page a (access.Store w) (Ok v) kept may done =
@@ -166,7 +175,7 @@ kept_seat_access id m n page a x (Err e) kept may done =
 -- a call that waits was made, or not
 kept_seat_left : (id : SittingSeat) {t : ℕ} {m n : Local} (k : Kind) → HasKeptSeatLayout id t m
     → phase_guards_allow (guards_of id.layout) id.number (seat_deeds m) k ≡ true → AcquiresKeptSeatLock m.sizes.locks k
-    → kept_layout_table_then id.layout k t ≡ t → locks_held_after_news k m.held ≡ m.held → filter is_deed (k ∷ []) ≡ k ∷ []
+    → kept_seat_table_then id.layout k t ≡ t → locks_held_after_news k m.held ≡ m.held → filter is_deed (k ∷ []) ≡ k ∷ []
     → IsLeftUndone m n k → HasKeptSeatLayout id t n
 kept_seat_left id k kept may inside table held deeds (inl undone) = kept_seat_same id kept undone.inside
 kept_seat_left id {t} {m} {n} k kept may inside table held deeds (inr begun) =

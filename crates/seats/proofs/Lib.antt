@@ -6,7 +6,6 @@ mod LayoutTables
 mod SeatAccess
 mod SeatClosings
 mod SeatFaults
-mod ReadyAccess
 mod StillSitting
 mod ProgramThreads
 mod ToldFaults

@@ -1,5 +1,5 @@
 -- Threads of a program that are started and joined one by one, and the end of its cluster.
-use Rattle.std.proofs.Common.{ℕ, ◌≡◌, ◌≤◌, ◌+◌, inl, inr, suc, Option, Some, None, List, [], ◌∷◌, ◌++◌, IfSome, Ok, length, slice_get, sum_by, refl, sym, ap, subst, ◌∙◌, arith}
+use Rattle.std.proofs.Common.{ℕ, ◌≡◌, ◌≤◌, ◌+◌, inl, inr, suc, Option, Some, None, List, [], ◌∷◌, ◌++◌, IfSome, Result, Ok, Err, length, slice_get, sum_by, refl, sym, ap, subst, ◌∙◌, arith}
 use Rattle.std.proofs.lemmas.List.{length_push}
 use Rattle.std.proofs.lemmas.List.Sums.{sum_by-cons}
 use Rattle.std.proofs.lemmas.Option.{none-some, slice_get_cases, slice_get_within, same_Some}
@@ -21,8 +21,9 @@ use Rattle.seats.specs.Deeds.{deeds}
 use Rattle.seats.specs.Sitting.{HasWorkedSitting}
 use Rattle.seats.specs.PhaseGuards.{KeepsToPhaseGuards}
 use Rattle.seats.specs.GuardLaws.{AllKeepToPhaseGuards}
-use Rattle.seats.specs.ProgramRuns.{AreSeatedForProgramRun, HaveAllJoinedProgramRun, HaveAllWorkedInProgramRun, IsProgramRun, IsProgramRunWork, ProgramRunErrand, program_run_seat}
+use Rattle.seats.specs.ProgramRuns.{AreProgramRunEnds, AreSeatedForProgramRun, HasEndedInProgramRun, HaveAllJoinedProgramRun, HaveAllWorkedInProgramRun, HaveEndedInProgramRun, IsProgramRun, IsProgramRunWork, ProgramRunErrand, program_run_seat}
 use Rattle.seats.specs.Tables.{GuardTables, guards_of}
+use Rattle.seats.specs.declared.fault.SeatFault.{SeatFault}
 use Rattle.seats.proofs.GuardedDeeds.{guarded_deeds_table_law}
 
 -- the item behind a front
@@ -108,6 +109,60 @@ program_threads_all_worked {X} {g} {did} {ms} {threads} {worked} {answers} seate
       let same : found.0.processor ≡ m = same_Some found.0.processor m (sym started.0 ∙ at) in
       subst (λ l. HasWorkedSitting did (program_run_seat g l) n x) same
       (subst (λ t. HasWorkedSitting did (program_run_seat t found.0.processor) n x) started.1 found.2);
+}
+
+-- one end more, of a thread that gave back its processor and an answer if it came to no fault
+program_threads_end_then : {X : Type 0} {did : ℕ → List Kind → X → Type 0} {threads : List (Option ProgramRunErrand)}
+    {ends : List (Result (Unit {0}) SeatFault)} → length ends ≡ length threads → (thread : Option ProgramRunErrand)
+    (end : Result (Unit {0}) SeatFault) → HaveEndedInProgramRun did threads ends
+    → (end ≡ Ok tt → HasEndedInProgramRun did (threads ++ thread ∷ []) (length threads))
+    → HaveEndedInProgramRun did (threads ++ thread ∷ []) (ends ++ end ∷ [])
+program_threads_end_then {did = did} {threads = threads} {ends = ends} long thread end were last = record {
+  each = λ p at. elim (slice_push_cases ends end p (Ok tt) at) [
+    | inl old ↦ (let was = were.each p old.1 in record {
+      errand = was.errand;
+      processor = was.processor;
+      answer = was.answer;
+      at = slice_get-append_left threads (thread ∷ []) p (slice_get_within threads p (Some was.errand) was.at) ∙ was.at;
+      worked = was.worked;
+    })
+    | inr new ↦ subst (HasEndedInProgramRun did (threads ++ thread ∷ [])) (sym long ∙ sym new.0) (last new.1)
+  ];
+}
+
+pub program_threads_end_more : {X : Type 0} {did : ℕ → List Kind → X → Type 0} {threads : List (Option ProgramRunErrand)}
+    {ends : List (Result (Unit {0}) SeatFault)} → length ends ≡ length threads → (thread : Option ProgramRunErrand) (n : Local) (x : X)
+    → HaveEndedInProgramRun did threads ends → IsProgramRunWork did thread (Ok (n, x))
+    → HaveEndedInProgramRun did (threads ++ thread ∷ []) (ends ++ Ok tt ∷ [])
+program_threads_end_more {did = did} {threads = threads} long thread n x were work =
+    program_threads_end_then long thread (Ok tt) were (λ _. by thread work)
+  where
+    by : (t : Option ProgramRunErrand) → IsProgramRunWork did t (Ok (n, x)) → HasEndedInProgramRun did (threads ++ t ∷ []) (length threads)
+    by None work = absurd work
+    by (Some e) work = record { errand = e; processor = n; answer = x; at = slice_get-last threads (Some e); worked = work }
+
+pub program_threads_fault_more : {X : Type 0} {did : ℕ → List Kind → X → Type 0} {threads : List (Option ProgramRunErrand)}
+    {ends : List (Result (Unit {0}) SeatFault)} → length ends ≡ length threads → (thread : Option ProgramRunErrand) (f : SeatFault)
+    → HaveEndedInProgramRun did threads ends → HaveEndedInProgramRun did (threads ++ thread ∷ []) (ends ++ Err f ∷ [])
+program_threads_fault_more long thread f were = program_threads_end_then long thread (Err f) were (λ no. absurd (cc))
+
+-- how the threads of a new cluster's processors ended
+pub program_threads_all_ended : {X : Type 0} {g : GuardTables} {did : ℕ → List Kind → X → Type 0} {c : SharedCluster} {ms : List Local}
+    {threads : List (Option ProgramRunErrand)} {ends : List (Result (Unit {0}) SeatFault)} → IsNewCluster c ms
+    → AreSeatedForProgramRun g ms threads → length ends ≡ length threads → HaveEndedInProgramRun did threads ends
+    → AreProgramRunEnds g did c ends
+program_threads_all_ended {g = g} {did = did} new seated long ended = record {
+  all = long ∙ seated.all ∙ new.all;
+  each = λ p at.
+      let end = ended.each p at in
+      let e = end.errand in
+      let started = seated.each p e end.at in
+      let seat = ap (program_run_seat g) (new.each p e.processor started.0) in (
+        end.processor,
+        end.answer,
+        subst (λ id. HasWorkedSitting did id end.processor end.answer) seat
+            (subst (λ t. HasWorkedSitting did (program_run_seat t e.processor) end.processor end.answer) started.1 end.worked),
+      );
 }
 
 -- of each processor that has worked: which it was, and what was answered

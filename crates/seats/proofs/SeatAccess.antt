@@ -1,26 +1,22 @@
 -- What a seat's calls add to what its processor called.
-use Rattle.std.proofs.Common.{ℕ, Bool, true, false, ◌≡◌, inl, inr, Option, Some, None, Result, Ok, Err, OnErr, OnOk, IfOk, List, [], ◌∷◌, ◌++◌, map, filter, refl, sym, ap, subst, ◌∙◌, append_assoc, append-nil}
-use Rattle.std.specs.Prelude.{◌/◌, IsOk, not, nat_le}
-use Rattle.std.specs.Result.{result_err}
+use Rattle.std.proofs.Common.{ℕ, Bool, ◌≡◌, inl, inr, Option, Some, None, Result, Ok, Err, List, [], ◌∷◌, ◌++◌, map, filter, refl, sym, ap, subst, ◌∙◌, append_assoc, append-nil}
+use Rattle.std.specs.Prelude.{◌/◌}
 use Rattle.std.proofs.lemmas.List.{map-append}
 use Rattle.journal.specs.declared.event.Event.{Event}
 use Rattle.journal.specs.declared.event.Kind.{Kind}
-use Rattle.journal.specs.declared.event.Kind.TheVariants.{Load, Fetch}
+use Rattle.journal.specs.declared.event.Kind.TheVariants.{Load, Store, Fetch}
 use Rattle.journal.specs.DidEvent.{event}
 use Rattle.journal.specs.Events.{events_of}
-use Rattle.journal.specs.Sizes.{addresses}
 use Rattle.book.specs.declared.refused.Refused.{Refused}
-use Rattle.book.specs.declared.refused.Refused.TheVariants.{OutOfRange, Invalid, Waiting, BlockFull}
 use Rattle.cluster.specs.Copies.PageReplica.{PageReplica}
 use Rattle.cluster.specs.Copies.Local.{Local, calls, local_noted}
-use Rattle.cluster.specs.AccessDone.{FetchAccessDone}
 use Rattle.cluster.specs.ProcessorCalls.{IsProcessorCall, IsSameProcessorOfCall, IsProcessorHandingCall}
 use Rattle.cluster.specs.Covers.{HasCoverage, IsCoverAllowed}
-use Rattle.cluster.specs.ProcessorRefusals.{processor_refusal_of_access, first_processor_refusal_due, processor_refusal_has_valid, processor_refusal_block_full, processor_refusal_is_waiting}
-use Rattle.seats.specs.declared.word_access.WordAccess.{WordAccess}
-use Rattle.seats.specs.declared.word_access.WordAccess.TheVariants as access
+use Rattle.cluster.specs.ReadyAccess.{HasAccessRoom, IsAccessBrought, IsReadyAccess, IsWordAccessDone}
+use Rattle.cluster.specs.declared.cluster.accessing.WordAccess.{WordAccess}
+use Rattle.cluster.specs.declared.cluster.accessing.WordAccess.TheVariants as access
 use Rattle.seats.specs.Deeds.{deeds, is_deed}
-use Rattle.seats.specs.SeatCalls.{SeatCallAccessesBy, SeatCallAccessesInside, AccessesPage, SeatCallsBesides, SeatCallsInside, SeatCallFetchesBy, IsSeatCallFetchIfAny, IsSeatCallUndone, seat_call_word_kind}
+use Rattle.seats.specs.SeatCalls.{SeatCallAccessesBy, AccessesPage, SeatCallsBesides, SeatCallsInside, IsSeatCallFetchIfAny, IsSeatCallUndone, seat_call_word_kind}
 use Rattle.seats.specs.Sitting.{seat_deeds}
 use Rattle.seats.proofs.Deeds.{deeds-append}
 
@@ -129,50 +125,6 @@ seat_access_undone_refused {first} {many} {absent} {done} {added} m n e call = b
       | inr unmade ↦ as_was unmade.1
     ]
 
--- a flush, whatever that answers
-pub seat_access_inside_flush : {A : Type 0} (m n : Local) (r : Result A Refused) → IsProcessorHandingCall m n (result_err r) → SeatCallsInside m n []
-seat_access_inside_flush m n (Ok x) call = let done = call.ok refl in record {
-  besides = seat_access_besides m n [] call.same done.2 call.uncut call.covers call.allowed;
-  held_is = ap (λ (x : Local). x.held) done.0.after;
-  awaits_is = ap (λ (x : Local). x.awaits) done.0.after;
-}
-seat_access_inside_flush m n (Err e) call = (seat_access_undone_refused m n e call).inside
-
--- a load
-pub seat_access_inside_load : (m n : Local) (a : ℕ) (r : Result ℕ Refused) → OnErr r (n ≡ m) → IfOk r (λ v. n ≡ local_noted m (Load a v))
-    → HasCoverage n → SeatCallAccessesInside m n access.Load a r
-seat_access_inside_load m n a (Ok v) err ok covers = seat_access_inside_own m n (Load a v) m.copies m.stored ok covers
-seat_access_inside_load m n a (Err e) err ok covers = seat_access_inside_same m n err covers
-
--- a fetch
-pub seat_access_inside_fetch : {A : Type 0} (m n : Local) (page : ℕ) (r : Result A Refused) → OnErr r (n ≡ m)
-    → OnOk r (FetchAccessDone m page n) → HasCoverage n → SeatCallFetchesBy m n page r
-seat_access_inside_fetch m n page (Ok x) err ok covers = (
-  ok.counts.writers,
-  ok.counts.records,
-  ok.counts.words,
-  seat_access_inside_own m n (Fetch ok.counts.writers page ok.counts.records ok.counts.words) _ m.stored ok.after covers,
-)
-seat_access_inside_fetch m n page (Err e) err ok covers = seat_access_inside_same m n err covers
-
--- a fetch that was refused
-pub seat_access_fetch_refused : {A : Type 0} (m n : Local) (page : ℕ) (r : Result A Refused) {e : Refused} → r ≡ Err e
-    → SeatCallFetchesBy m n page r → SeatCallsInside m n []
-seat_access_fetch_refused {A} m n page r is fetches = subst (λ (y : Result A Refused). SeatCallFetchesBy m n page y) is fetches
-
--- an access after what added nothing
-pub seat_access_after : (l m n : Local) (x : WordAccess) (a : ℕ) (r : Result ℕ Refused) → SeatCallsInside l m []
-    → SeatCallAccessesInside m n x a r → SeatCallAccessesInside l n x a r
-seat_access_after l m n x a (Ok v) first next = seat_access_inside_then l m n [] (seat_call_word_kind x a v ∷ []) first next
-seat_access_after l m n x a (Err e) first next = seat_access_inside_then l m n [] [] first next
-
--- and a fetch
-pub seat_access_fetch_after : {A : Type 0} (l m n : Local) (page : ℕ) (r : Result A Refused) → SeatCallsInside l m []
-    → SeatCallFetchesBy m n page r → SeatCallFetchesBy l n page r
-seat_access_fetch_after l m n page (Ok x) first next =
-    (next.0, next.1, next.2, seat_access_inside_then l m n [] (Fetch next.0 page next.1 next.2 ∷ []) first next.3)
-seat_access_fetch_after l m n page (Err e) first next = seat_access_inside_then l m n [] [] first next
-
 -- what fetches if any leave out
 seat_access_deeds_of_fetches : (page : ℕ) (fetches kinds : List Kind) → IsSeatCallFetchIfAny page fetches
     → filter is_deed (fetches ++ kinds) ≡ filter is_deed kinds
@@ -189,57 +141,71 @@ seat_access_after_fetch_if_any m n page fetches kinds fetched inside = record {
   deeds_are = inside.besides.deeds_are ∙ ap (λ ks. seat_deeds m ++ ks) (seat_access_deeds_of_fetches page fetches kinds fetched);
 }
 
--- an access with no fetch
-pub seat_access_plain : (m n : Local) (page a : ℕ) (x : WordAccess) (r : Result ℕ Refused) → SeatCallAccessesInside m n x a r
-    → SeatCallAccessesBy m n page x a r
-seat_access_plain m n page a x (Ok v) inside = seat_access_after_fetch_if_any m n page [] (seat_call_word_kind x a v ∷ []) (inl refl) inside
-seat_access_plain m n page a x (Err e) inside = seat_access_after_fetch_if_any m n page [] [] (inl refl) inside
+-- a flush, whatever that answers
+seat_access_inside_flush : (m n : Local) (refused : Option Refused) → IsProcessorHandingCall m n refused → SeatCallsInside m n []
+seat_access_inside_flush m n None call = let done = call.ok refl in record {
+  besides = seat_access_besides m n [] call.same done.2 call.uncut call.covers call.allowed;
+  held_is = ap (λ (x : Local). x.held) done.0.after;
+  awaits_is = ap (λ (x : Local). x.awaits) done.0.after;
+}
+seat_access_inside_flush m n (Some e) call = (seat_access_undone_refused m n e call).inside
 
--- one after a fetch
-pub seat_access_fetched : {A : Type 0} (l m n : Local) (page a : ℕ) (x : WordAccess) {f : Result A Refused} {b : A} (r : Result ℕ Refused)
-    → f ≡ Ok b → SeatCallFetchesBy l m page f → SeatCallAccessesInside m n x a r → SeatCallAccessesBy l n page x a r
-seat_access_fetched {A} l m n page a x r is fetches inside =
-    by r (subst (λ (y : Result A Refused). SeatCallFetchesBy l m page y) is fetches) inside
-  where
-    by : (r : Result ℕ Refused) → (writers records words : ℕ) × SeatCallsInside l m (Fetch writers page records words ∷ [])
-        → SeatCallAccessesInside m n x a r → SeatCallAccessesBy l n page x a r
-    by (Ok v) (writers, records, words, first) next =
-        let one = Fetch writers page records words in
-        seat_access_after_fetch_if_any l n page (one ∷ []) (seat_call_word_kind x a v ∷ []) (inr (writers, records, words, refl))
-        (seat_access_inside_then l m n (one ∷ []) (seat_call_word_kind x a v ∷ []) first next)
-    by (Err e) (writers, records, words, first) next =
-        let one = Fetch writers page records words in
-        seat_access_after_fetch_if_any l n page (one ∷ []) [] (inr (writers, records, words, refl)) (seat_access_inside_then l m n (one ∷ []) [] first next)
+-- what makes room in the block
+seat_access_inside_room : (m n : Local) → HasCoverage m → HasAccessRoom m n → SeatCallsInside m n []
+seat_access_inside_room m n covers (inl had) = seat_access_inside_same m n had.1 (subst HasCoverage (sym had.1) covers)
+seat_access_inside_room m n covers (inr handed) = seat_access_inside_flush m n None handed.1
 
--- why an access is refused as Invalid is a copy of its page
-pub seat_access_page : (m : Local) (a page : ℕ) → processor_refusal_of_access m a ≡ Some (Invalid page) → page ≡ a / m.sizes.words
-seat_access_page m a page is =
-    by (nat_le (addresses m.sizes) a) (processor_refusal_has_valid m (a / m.sizes.words)) (processor_refusal_is_waiting m) (processor_refusal_block_full m) is
-  where
-    by : (past valid waits full : Bool) → first_processor_refusal_due ((past, OutOfRange) ∷ (not valid, Invalid (a / m.sizes.words))
-        ∷ (waits, Waiting) ∷ (full, BlockFull) ∷ []) ≡ Some (Invalid page) → page ≡ a / m.sizes.words
-    by true valid waits full e = absurd (cc)
-    by false false waits full e = cc
-    by false true true full e = absurd (cc)
-    by false true false true e = absurd (cc)
-    by false true false false e = absurd (cc)
+-- what brings the page
+record SeatAccessBrings (m n : Local) (page : ℕ) : Type 0 where
+  fetches : List Kind
+  fetched : IsSeatCallFetchIfAny page fetches
+  inside : SeatCallsInside m n fetches
 
--- what nothing is against is answered
-pub seat_access_answered : {A : Type 0} (m : Local) (a : ℕ) (r : Result A Refused) → result_err r ≡ processor_refusal_of_access m a
-    → processor_refusal_of_access m a ≡ None → IsOk r
-seat_access_answered m a (Ok x) is none = refl
-seat_access_answered m a (Err e) is none = let some : Some e ≡ None = is ∙ none in absurd (cc)
+seat_access_brings : (m n : Local) (a : ℕ) → IsAccessBrought m a n → SeatAccessBrings m n (a / m.sizes.words)
+seat_access_brings m n a brings = elim brings.fetched [
+  | inl same ↦ record {
+    fetches = [];
+    fetched = inl refl;
+    inside = seat_access_inside_same m n same (subst HasCoverage (sym same) brings.covers);
+  }
+  | inr fetched ↦ (let c = fetched.done.counts in
+      let x = fetched.roomy in
+      let one = Fetch c.writers (a / m.sizes.words) c.records c.words in
+      record {
+        fetches = one ∷ [];
+        fetched = inr (c.writers, c.records, c.words, refl);
+        inside =
+            seat_access_inside_then m x n [] (one ∷ []) (seat_access_inside_room m x brings.covers fetched.room)
+            (seat_access_inside_own x n one _ x.stored fetched.done.after fetched.covers);
+      })
+]
 
--- a processor that waits may make no access
-pub seat_access_waits : (m : Local) (a : ℕ) → processor_refusal_is_waiting m ≡ true → processor_refusal_of_access m a ≡ None → ⊥
-seat_access_waits m a waits none =
-    by (nat_le (addresses m.sizes) a) (processor_refusal_has_valid m (a / m.sizes.words)) (processor_refusal_block_full m)
-    (subst (λ w. first_processor_refusal_due ((nat_le (addresses m.sizes) a, OutOfRange)
-    ∷ (not (processor_refusal_has_valid m (a / m.sizes.words)), Invalid (a / m.sizes.words)) ∷ (w, Waiting)
-    ∷ (processor_refusal_block_full m, BlockFull) ∷ []) ≡ None) waits none)
-  where
-    by : (past valid full : Bool) → first_processor_refusal_due ((past, OutOfRange) ∷ (not valid, Invalid (a / m.sizes.words))
-        ∷ (true, Waiting) ∷ (full, BlockFull) ∷ []) ≡ None → ⊥
-    by true valid full e = cc
-    by false false full e = cc
-    by false true full e = cc
+-- the page that was brought is covered
+seat_access_brought_covers : (m n : Local) (a : ℕ) → IsAccessBrought m a n → HasCoverage n
+seat_access_brought_covers m n a brings = (seat_access_brings m n a brings).inside.besides.stays.covers
+
+-- a load or a store
+seat_access_inside_word : (m n : Local) (a : ℕ) (x : WordAccess) (v : ℕ) → IsWordAccessDone m x a v n → HasCoverage n
+    → SeatCallsInside m n (seat_call_word_kind x a v ∷ [])
+seat_access_inside_word m n a access.Load v done covers = seat_access_inside_own m n (Load a v) m.copies m.stored done.1 covers
+seat_access_inside_word m n a (access.Store word) v done covers = seat_access_inside_own m n (Store a word) _ _ done.1.after covers
+
+-- an access, by the answer
+pub seat_access_done : (m n : Local) (a : ℕ) (x : WordAccess) (r : Result ℕ Refused) → HasCoverage m → IsReadyAccess m a x n r
+    → SeatCallAccessesBy m n (a / m.sizes.words) x a r
+seat_access_done m n a x (Ok v) covers made =
+    let ready = made.is_ready in
+    let brings = seat_access_brings m ready.brought a ready.brings in
+    let kinds = seat_call_word_kind x a v ∷ [] in
+    seat_access_after_fetch_if_any m n (a / m.sizes.words) brings.fetches kinds brings.fetched
+    (seat_access_inside_then m ready.brought n brings.fetches kinds brings.inside
+    (seat_access_inside_then ready.brought made.ready n [] kinds
+    (seat_access_inside_room ready.brought made.ready (seat_access_brought_covers m ready.brought a ready.brings) ready.room)
+    (seat_access_inside_word made.ready n a x v made.done made.covers)))
+seat_access_done m n a x (Err e) covers (inl once) =
+    seat_access_after_fetch_if_any m n (a / m.sizes.words) [] [] (inl refl)
+    (seat_access_inside_same m n once.1 (subst HasCoverage (sym once.1) covers))
+seat_access_done m n a x (Err e) covers (inr (brought, is, full)) =
+    let brings = seat_access_brings m brought a is in
+    seat_access_after_fetch_if_any m n (a / m.sizes.words) brings.fetches [] brings.fetched
+    (seat_access_inside_then m brought n brings.fetches [] brings.inside (seat_access_inside_flush brought n (Some e) full.1))

@@ -1,8 +1,9 @@
 -- What the faults of a seat's calls tell.
 use Rattle.std.proofs.Common.{ℕ, Bool, true, false, ◌≡◌, ◌≢◌, ◌+◌, ◌⊎◌, inl, inr, Option, Some, None, Result, Ok, Err, OnErr, List, cond, length, refl, sym, ap, subst, ◌∙◌}
-use Rattle.std.specs.Prelude.{IfErr}
+use Rattle.std.specs.Prelude.{IfErr, nat_le}
 use Rattle.std.specs.Result.{result_err}
 use Rattle.std.proofs.lemmas.Option.{same_Some}
+use Rattle.base.specs.Limits.{most_in_block}
 use Rattle.journal.specs.declared.event.Event.{Event}
 use Rattle.journal.specs.declared.event.Kind.{Kind}
 use Rattle.book.specs.declared.refused.Refused.{Refused}
@@ -11,13 +12,16 @@ use Rattle.cluster.specs.Copies.Local.{Local}
 use Rattle.cluster.specs.ProcessorCalls.{IsProcessorCall, ProcessorCallWaitsForNothing}
 use Rattle.cluster.specs.ClosingCalls.{IsClosingCall}
 use Rattle.cluster.specs.ProcessorRefusals.{processor_refusal_is_spent, processor_refusal_of_flush, processor_refusal_of_take, processor_refusal_or_spent}
+use Rattle.cluster.specs.ReadyAccess.{IsFullBlockHanded, IsReadyAccess}
 use Rattle.cluster.specs.TakingCalls.{IsTakingCall}
 use Rattle.cluster.specs.WaitingCalls.{IsWaitingCall}
 use Rattle.cluster.specs.declared.waited.Waited.{Waited}
 use Rattle.cluster.specs.declared.waited.Waited.TheVariants.{MayHaveCome, Stuck, Deserted}
+use Rattle.cluster.specs.declared.cluster.accessing.WordAccess.{WordAccess}
 use Rattle.seats.specs.declared.fault.SeatFault.{SeatFault}
 use Rattle.seats.specs.SeatCalls.{IsSeatCallBegun, IsSeatCallUndone}
-use Rattle.seats.specs.SeatCallFaults.{IsSeatCallEnteringFault, IsSeatCallFault, IsSeatCallWaitFault, IsSeatCallWaitTold}
+use Rattle.seats.specs.SeatCallFaults.{IsSeatCallAccessRefusal, IsSeatCallEnteringFault, IsSeatCallFault, IsSeatCallFlushFault, IsSeatCallWaitFault, IsSeatCallWaitTold}
+use Rattle.seats.proofs.SeatAccess.{seat_access_undone_refused}
 
 -- a flush is refused at once if the entries are spent alone
 pub seat_fault_spent : (m : Local) (e : Refused) → processor_refusal_of_flush m ≡ Some e → (e ≡ SeatSpent) × (processor_refusal_is_spent m ≡ true)
@@ -55,6 +59,29 @@ seat_fault_never_early m n e call none early = elim (call.err e none refl) [
   | inl inside ↦ inside.not_yet.0 early
   | inr unmade ↦ (let two : NotYet ≡ NoMemory = sym early ∙ unmade.0 in cc)
 ]
+
+-- a full block that couldn't be handed in
+seat_fault_flush : (m n : Local) (e : Refused) → IsFullBlockHanded m n (Some e) → IsSeatCallFlushFault n e
+seat_fault_flush m n e (full, call) = (
+  ap (λ es. nat_le most_in_block (length es)) block ∙ full,
+  subst (λ many. IsSeatCallEnteringFault many n e) (ap length (sym block)) (by (processor_refusal_of_flush m) refl),
+)
+  where
+    block : n.block ≡ m.block
+    block = (seat_access_undone_refused m n e call).block_is
+
+    by : (o : Option Refused) → processor_refusal_of_flush m ≡ o → IsSeatCallEnteringFault (length m.block) n e
+    by (Some d) due =
+        let out = call.outside d due in
+        seat_fault_spent_entering (length m.block) m n e (due ∙ sym out.0) out.1
+    by None free = seat_fault_entering m n e call free (seat_fault_never_early m n e call free)
+
+-- an access that was refused
+pub seat_fault_access : (m n : Local) (a : ℕ) (x : WordAccess) (r : Result ℕ Refused) → IsReadyAccess m a x n r
+    → IfErr r (IsSeatCallAccessRefusal m a n)
+seat_fault_access m n a x (Ok v) made = tt
+seat_fault_access m n a x (Err e) (inl once) = inl once
+seat_fault_access m n a x (Err e) (inr late) = inr (late.1.at_once, seat_fault_flush late.0 n e late.2)
 
 -- a call that closes the interval and was refused
 pub seat_fault_undone : {A : Type 0} (test : Option Refused) (k : Kind) (l m : Local) (r : Result A Refused) {e : Refused} → r ≡ Err e

@@ -3,7 +3,7 @@ use Rattle.std.proofs.Common.{ℕ, inl, inr, Result, Ok, Err, OnErr, OnOk, List,
 use Rattle.journal.specs.declared.event.Kind.{Kind}
 use Rattle.cluster.specs.Copies.Local.{Local}
 use Rattle.cluster.specs.NewClusters.{SharedCluster}
-use Rattle.seats.specs.declared.word_access.WordAccess.{WordAccess}
+use Rattle.cluster.specs.declared.cluster.accessing.WordAccess.{WordAccess}
 use Rattle.seats.specs.SeatCalls.{SeatCallAccessesBy, HasDone, IsLeftUndone, IsSeatedAfterCall}
 use Rattle.seats.specs.Sitting.{IsSitting, SittingSeat}
 

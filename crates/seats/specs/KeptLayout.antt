@@ -1,13 +1,10 @@
 -- What a seat keeps to.
-use Rattle.std.specs.Prelude.{ℕ, ◌≡◌, Bool, true, false, if◌then◌else◌, Some, List, length, slice_index_or}
+use Rattle.std.specs.Prelude.{ℕ, ◌≡◌, Bool, false, Some, List, length, slice_index_or}
 use Rattle.journal.specs.declared.event.Kind.{Kind}
-use Rattle.journal.specs.Events.{event_departs}
 use Rattle.cluster.specs.Copies.Local.{Local}
 use Rattle.seats.specs.PhaseGuards.{KeepsToPhaseGuards, phase_guard_holds_after, phase_guards_allow_access, guard_phase_after}
 use Rattle.seats.specs.Sitting.{SittingSeat, seat_deeds}
-use Rattle.seats.specs.declared.word_access.WordAccess.{WordAccess}
-use Rattle.seats.specs.declared.word_access.WordAccess.TheVariants as access
-use Rattle.seats.specs.Tables.{GuardTables, guards_of, table_next, table_at}
+use Rattle.seats.specs.Tables.{GuardTables, guards_of, table_at}
 
 -- p keeps to this layout in what it did, the table is that of the phase that it is in, and these say which locks it holds
 pub record HasKeptLayout (g : GuardTables) (p table locks : ℕ) (ks : List Kind) (held : List Bool) : Type 0 where
@@ -20,15 +17,6 @@ pub record HasKeptLayout (g : GuardTables) (p table locks : ℕ) (ks : List Kind
 abbrev pub HasKeptSeatLayout : SittingSeat → ℕ → Local → Type 0
 HasKeptSeatLayout id table m = HasKeptLayout id.layout id.number table m.sizes.locks (seat_deeds m) m.held
 
--- the table after this event
-abbrev pub kept_layout_table_then : GuardTables → Kind → ℕ → ℕ
-kept_layout_table_then g k table = if event_departs k then table_next g table else table
-
 -- whether the layout lets whoever sits there access this address now
 abbrev pub kept_layout_lets_access : SittingSeat → Local → ℕ → Bool → Bool
 kept_layout_lets_access id m a stores = phase_guards_allow_access (guards_of id.layout) id.number (seat_deeds m) (Some a) stores
-
--- whether it is a store
-abbrev pub kept_layout_access_stores : WordAccess → Bool
-kept_layout_access_stores access.Load = false
-kept_layout_access_stores (access.Store word) = true

@@ -10,7 +10,6 @@ pub mod GuardLaws
 pub mod Loads
 pub mod Prelude
 pub mod ProgramRuns
-pub mod ReadyAccess
 pub mod Rounds
 pub mod SeatCalls
 pub mod SeatCallFaults

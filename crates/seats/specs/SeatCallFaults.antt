@@ -7,7 +7,7 @@ use Rattle.base.specs.Limits.{most_events}
 use Rattle.book.specs.declared.refused.Refused.{Refused}
 use Rattle.book.specs.declared.refused.Refused.TheVariants.{JournalFull, NoMemory, SeatSpent}
 use Rattle.cluster.specs.Copies.Local.{Local}
-use Rattle.cluster.specs.ProcessorRefusals.{processor_refusal_block_full, processor_refusal_is_spent, processor_refusal_of_closing, processor_refusal_or_spent}
+use Rattle.cluster.specs.ProcessorRefusals.{processor_refusal_at_once, processor_refusal_block_full, processor_refusal_is_spent, processor_refusal_of_closing, processor_refusal_or_spent}
 use Rattle.cluster.specs.TakingCalls.{IsTakingCallLate}
 use Rattle.cluster.specs.declared.waited.Waited.{Waited}
 use Rattle.cluster.specs.declared.waited.Waited.TheVariants.{MayHaveCome}
@@ -16,7 +16,7 @@ use Rattle.seats.specs.declared.fault.SeatFault.{SeatFault}
 use Rattle.seats.specs.declared.fault.SeatFault.TheVariants as fault
 use Rattle.seats.specs.Acting.{HasActed}
 use Rattle.seats.specs.KeptLayout.{kept_layout_lets_access}
-use Rattle.seats.specs.SeatCalls.{IsSeatCallBegun, IsSeatCallUndone, seat_call_refusal_at_once}
+use Rattle.seats.specs.SeatCalls.{IsSeatCallBegun, IsSeatCallUndone}
 use Rattle.seats.specs.Sitting.{SittingSeat}
 
 -- why a call that would leave so many events couldn't be made in the book: by what the processor has seen then the journal
@@ -60,7 +60,7 @@ IsSeatCallFlushFault m e = (processor_refusal_block_full m ≡ true) × IsSeatCa
 -- why an access of this address was refused: it is refused at once, and nothing was done; or a full block couldn't be handed in
 abbrev pub IsSeatCallAccessRefusal : Local → ℕ → Local → Refused → Type 0
 IsSeatCallAccessRefusal old a new e =
-    ((seat_call_refusal_at_once old a ≡ Some e) × (new ≡ old)) ⊎ ((seat_call_refusal_at_once old a ≡ None) × IsSeatCallFlushFault new e)
+    ((processor_refusal_at_once old a ≡ Some e) × (new ≡ old)) ⊎ ((processor_refusal_at_once old a ≡ None) × IsSeatCallFlushFault new e)
 
 -- a fault of an access of this address: the layout doesn't let it, and nothing was done; or the layout does, and it was refused
 abbrev pub IsSeatCallAccessFault : SittingSeat → Local → Local → ℕ → Bool → SeatFault → Type 0

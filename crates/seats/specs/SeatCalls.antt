@@ -1,19 +1,15 @@
 -- What the calls of a seat do to its processor.
-use Rattle.std.specs.Prelude.{ℕ, ◌≡◌, ◌⊎◌, Bool, Option, Some, None, List, [], ◌∷◌, ◌++◌, filter, map, nat_le, Result, Ok, Err}
+use Rattle.std.specs.Prelude.{ℕ, ◌≡◌, ◌⊎◌, Bool, Option, Some, None, List, [], ◌∷◌, ◌++◌, filter, map, Result, Ok, Err}
 use Rattle.journal.specs.declared.event.Kind.{Kind}
 use Rattle.journal.specs.declared.event.Kind.TheVariants.{Load, Store, Fetch}
 use Rattle.journal.specs.DidEvent.{event}
-use Rattle.journal.specs.Sizes.{addresses}
 use Rattle.journal.specs.AwaitedNext.{awaited_next}
-use Rattle.book.specs.declared.refused.Refused.{Refused}
-use Rattle.book.specs.declared.refused.Refused.TheVariants.{OutOfRange, Waiting}
 use Rattle.cluster.specs.Copies.Local.{Local, calls}
 use Rattle.cluster.specs.Copies.AfterNews.{locks_held_after_news}
 use Rattle.cluster.specs.ProcessorCalls.{IsSameProcessorOfCall}
 use Rattle.cluster.specs.Covers.{HasCoverage, IsCoverAllowed}
-use Rattle.cluster.specs.ProcessorRefusals.{first_processor_refusal_due, processor_refusal_is_waiting}
-use Rattle.seats.specs.declared.word_access.WordAccess.{WordAccess}
-use Rattle.seats.specs.declared.word_access.WordAccess.TheVariants as access
+use Rattle.cluster.specs.declared.cluster.accessing.WordAccess.{WordAccess}
+use Rattle.cluster.specs.declared.cluster.accessing.WordAccess.TheVariants as access
 use Rattle.seats.specs.Deeds.{is_deed}
 use Rattle.seats.specs.Sitting.{seat_deeds}
 
@@ -57,20 +53,6 @@ seat_call_word_kind (access.Store word) a v = Store a word
 abbrev pub SeatCallAccessesBy : {E : Type 0} → Local → Local → ℕ → WordAccess → ℕ → Result ℕ E → Type 0
 SeatCallAccessesBy old new page x a (Ok v) = AccessesPage old new page (seat_call_word_kind x a v ∷ [])
 SeatCallAccessesBy old new page x a (Err e) = AccessesPage old new page []
-
--- the same with no fetch
-abbrev pub SeatCallAccessesInside : Local → Local → WordAccess → ℕ → Result ℕ Refused → Type 0
-SeatCallAccessesInside old new x a (Ok v) = SeatCallsInside old new (seat_call_word_kind x a v ∷ [])
-SeatCallAccessesInside old new x a (Err e) = SeatCallsInside old new []
-
--- a fetch of this page, or nothing if it was refused
-abbrev pub SeatCallFetchesBy : {A : Type 0} → Local → Local → ℕ → Result A Refused → Type 0
-SeatCallFetchesBy old new page (Ok x) = (writers records words : ℕ) × SeatCallsInside old new (Fetch writers page records words ∷ [])
-SeatCallFetchesBy old new page (Err e) = SeatCallsInside old new []
-
--- why an access is refused at once
-abbrev pub seat_call_refusal_at_once : Local → ℕ → Option Refused
-seat_call_refusal_at_once m a = first_processor_refusal_due ((processor_refusal_is_waiting m, Waiting) ∷ (nat_le (addresses m.sizes) a, OutOfRange) ∷ [])
 
 -- what ends the wait for this, if anything does
 abbrev pub seat_call_answer : Option Kind → List Kind

@@ -15,7 +15,7 @@
 //!
 //! A seat keeps to a [`Layout`]: an access that it doesn't allow is barred. What [`run`] answers is the whole history of its
 //! cluster, in which each processor kept to the layout and did what the program says of it; nothing in it races if no word of
-//! the layout is open to all. Which fault is told of several (`told_fault`); that it is that of the run is only tested.
+//! the layout is open to all. If it fails, it tells which fault it is to tell of several (`told_fault`).
 //!
 //! `guarded_law`: in a well formed history of processors of which each keeps to the guards, two
 //! accesses race only if the word was open to all in some phase. A [`Layout`] has guards as plain data, by tables that are

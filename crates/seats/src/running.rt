@@ -1,8 +1,8 @@
 //! A program on a cluster of its own, with a thread for each processor.
-ghost use Rattle.std.specs.Prelude.{ℕ, ◌≡◌, Err, IfOk};
+ghost use Rattle.std.specs.Prelude.{ℕ, ◌≡◌, Err, IfErr, IfOk};
 ghost use Rattle.cluster.specs.Copies.Sound.{AreSoundSizes};
 ghost use Rattle.book.specs.declared.refused.Refused.TheVariants.{BadSize};
-ghost use Rattle.seats.specs.Prelude.{IsFirstOpenInTables, IsGuardedRun, IsProgramRun};
+ghost use Rattle.seats.specs.Prelude.{IsFirstOpenInTables, IsGuardedRun, IsGuardedRunFault, IsProgramRun, IsProgramRunFault};
 ghost use Rattle.seats.specs.declared.fault.SeatFault.TheVariants as fault;
 
 mod threads;
@@ -51,6 +51,9 @@ pub fn run<P: Program, R: Threads + Wait + Sync>(
         r.answers.items r.journal) }
     ensures size { (AreSoundSizes (record { processors = processors; pages = pages; words = words; locks = locks; flags = flags }) → ⊥)
         → result ≡ Err (record { processor = 0; fault = fault.Refused BadSize }) }
+    // Which fault is told of the ends that the processors came to.
+    ensures fault { IfErr result (IsProgramRunFault layout.now P.did
+        (record { processors = processors; pages = pages; words = words; locks = locks; flags = flags })) }
 {
     let (cluster, all) = Cluster::<BookLock>::new(alloc, processors, pages, words, locks, flags)?;
     let workers = work_on_seat_threads(rt, alloc, &cluster, all, layout, program)?;
@@ -98,6 +101,8 @@ pub fn run_guarded<P: Program, R: Threads + Wait + Sync>(
     ensures ran { IfOk result (λ r. IsGuardedRun layout.now P.did
         (record { processors = processors; pages = pages; words = words; locks = locks; flags = flags })
         r.answers.items r.memory.items r.journal) }
+    ensures fault { IfErr result (IsGuardedRunFault layout.now P.did
+        (record { processors = processors; pages = pages; words = words; locks = locks; flags = flags })) }
     ensures left_open { (a : ℕ) → IsFirstOpenInTables layout.now a → result ≡ Err (record { processor = 0; fault = fault.Open a }) }
 {
     if let Some(address) = layout.first_open() {

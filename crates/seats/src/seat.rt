@@ -3,7 +3,7 @@ ghost use Rattle.std.specs.Prelude.{◌≡◌, ◌/◌, ◌∷◌, [], Err, IfEr
 ghost use Rattle.book.specs.declared.refused.Refused.{Refused as ARefusal};
 ghost use Rattle.journal.specs.declared.event.Kind.TheVariants as kind;
 ghost use Rattle.cluster.specs.Prelude.{processor_refusal_of_arrival, processor_refusal_of_ask, processor_refusal_of_flag, processor_refusal_of_release};
-ghost use Rattle.seats.specs.Prelude.{AccessesPage, HasDone, IsLeftUndone, IsSitting, kept_layout_lets_access, new_sitting_processor, seat_call_refusal_at_once, seat_deeds};
+ghost use Rattle.seats.specs.Prelude.{AccessesPage, HasDone, IsLeftUndone, IsSitting, kept_layout_lets_access, new_sitting_processor, processor_refusal_at_once, seat_deeds};
 ghost use Rattle.seats.specs.Prelude.{IsSeatCallAccessFault, IsSeatCallFault, processor_refusal_of_access, processor_refusal_or_spent};
 ghost use Rattle.seats.specs.PhaseGuards.{KeepsToPhaseGuards};
 ghost use Rattle.seats.specs.Tables.{guards_of};
@@ -14,8 +14,8 @@ use crate::guard::Guard;
 use crate::layout::Layout;
 use crate::seat_closings::pass;
 use crate::sitting::Sitting;
-use crate::word_access::{WordAccess, access_word};
-use cluster::{BookLock, Cluster, Processor};
+use crate::word_access::access_word;
+use cluster::{BookLock, Cluster, Processor, WordAccess};
 use journal::Closing;
 use std::marker::Model;
 
@@ -130,7 +130,7 @@ impl<'a, S: Sitting> Seat<'a, S> {
         ensures barred { kept_layout_lets_access S.at self.old address false ≡ false
             → (result ≡ Err (fault.NotAllowed address)) × (self.new ≡ self.old) }
         ensures outside { (e : ARefusal) → kept_layout_lets_access S.at self.old address false ≡ true
-            → seat_call_refusal_at_once self.old address ≡ Some e → (result ≡ Err (fault.Refused e)) × (self.new ≡ self.old) }
+            → processor_refusal_at_once self.old address ≡ Some e → (result ≡ Err (fault.Refused e)) × (self.new ≡ self.old) }
         ensures fits { kept_layout_lets_access S.at self.old address false ≡ true → processor_refusal_of_access self.old address ≡ None
             → IsOk result }
         ensures fault { IfErr result (IsSeatCallAccessFault S.at self.old self.new address false) }
@@ -159,7 +159,7 @@ impl<'a, S: Sitting> Seat<'a, S> {
         ensures barred { kept_layout_lets_access S.at self.old address true ≡ false
             → (result ≡ Err (fault.NotAllowed address)) × (self.new ≡ self.old) }
         ensures outside { (e : ARefusal) → kept_layout_lets_access S.at self.old address true ≡ true
-            → seat_call_refusal_at_once self.old address ≡ Some e → (result ≡ Err (fault.Refused e)) × (self.new ≡ self.old) }
+            → processor_refusal_at_once self.old address ≡ Some e → (result ≡ Err (fault.Refused e)) × (self.new ≡ self.old) }
         ensures fits { kept_layout_lets_access S.at self.old address true ≡ true → processor_refusal_of_access self.old address ≡ None
             → IsOk result }
         ensures fault { IfErr result (IsSeatCallAccessFault S.at self.old self.new address true) }

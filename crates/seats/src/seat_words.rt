@@ -5,7 +5,7 @@ ghost use Rattle.book.specs.declared.refused.Refused.TheVariants.{NoMemory};
 ghost use Rattle.journal.specs.declared.event.Kind.TheVariants as kind;
 ghost use Rattle.cluster.specs.Prelude.{processor_refusal_of_ask};
 ghost use Rattle.seats.specs.Prelude.{AccessesPage, AddsUpTo, HasActed, HasActedInPart, HasFoundKept, HasSeatCallFaultIn, HasSummed, HasWeighed, IsBetweenTenures, IsSeatCallAccessFault, KeepsBalanceFact};
-ghost use Rattle.seats.specs.Prelude.{word_tally_adding, balance_fact_adds_two, balance_fact, loads_at, acting_loads_from, kept_layout_lets_access, seat_call_refusal_at_once, seat_deeds, tenure_of_lock, processor_refusal_of_access, processor_refusal_or_spent};
+ghost use Rattle.seats.specs.Prelude.{word_tally_adding, balance_fact_adds_two, balance_fact, loads_at, acting_loads_from, kept_layout_lets_access, processor_refusal_at_once, seat_deeds, tenure_of_lock, processor_refusal_of_access, processor_refusal_or_spent};
 ghost use Rattle.seats.specs.declared.fault.SeatFault.TheVariants as fault;
 
 use crate::fault::SeatFault;
@@ -173,7 +173,7 @@ impl<'a, S: Sitting> Seat<'a, S> {
         ensures barred { kept_layout_lets_access S.at self.old address false ≡ false
             → (result ≡ Err (fault.NotAllowed address)) × (self.new ≡ self.old) }
         ensures outside { (e : ARefusal) → kept_layout_lets_access S.at self.old address false ≡ true
-            → seat_call_refusal_at_once self.old address ≡ Some e → (result ≡ Err (fault.Refused e)) × (self.new ≡ self.old) }
+            → processor_refusal_at_once self.old address ≡ Some e → (result ≡ Err (fault.Refused e)) × (self.new ≡ self.old) }
         ensures fits { kept_layout_lets_access S.at self.old address false ≡ true → processor_refusal_of_access self.old address ≡ None
             → IsOk result }
         ensures fault { IfErr result (IsSeatCallAccessFault S.at self.old self.new address false) }
@@ -192,7 +192,7 @@ impl<'a, S: Sitting> Seat<'a, S> {
         ensures barred { kept_layout_lets_access S.at self.old address true ≡ false
             → (result ≡ Err (fault.NotAllowed address)) × (self.new ≡ self.old) }
         ensures outside { (e : ARefusal) → kept_layout_lets_access S.at self.old address true ≡ true
-            → seat_call_refusal_at_once self.old address ≡ Some e → (result ≡ Err (fault.Refused e)) × (self.new ≡ self.old) }
+            → processor_refusal_at_once self.old address ≡ Some e → (result ≡ Err (fault.Refused e)) × (self.new ≡ self.old) }
         ensures fits { kept_layout_lets_access S.at self.old address true ≡ true → processor_refusal_of_access self.old address ≡ None
             → IsOk result }
         ensures fault { IfErr result (IsSeatCallAccessFault S.at self.old self.new address true) }

@@ -2,7 +2,7 @@
 ghost use Rattle.std.specs.Prelude.{◌≡◌, ◌+◌, ◌/◌, ◌<◌, ◌^◌, [], Err, IfOk, OnErr, OnOk, Some, true, false, slice_index};
 ghost use Rattle.book.specs.declared.refused.Refused.{Refused as ARefusal};
 ghost use Rattle.seats.specs.Prelude.{AccessesPage, IsStencilBlockMade, HasStencilLoads, StencilSteps, grid_pair_read, kept_layout_lets_access};
-ghost use Rattle.seats.specs.Prelude.{seat_call_refusal_at_once, stencil_word};
+ghost use Rattle.seats.specs.Prelude.{processor_refusal_at_once, stencil_word};
 ghost use Rattle.seats.specs.declared.fault.SeatFault.TheVariants as fault;
 
 use crate::fault::SeatFault;
@@ -48,7 +48,7 @@ impl Grids {
         ensures barred { kept_layout_lets_access S.at seat.old (grid_pair_read self.cells round + cell) false ≡ false
             → (result ≡ Err (fault.NotAllowed (grid_pair_read self.cells round + cell))) × (seat.new ≡ seat.old) }
         ensures outside { (e : ARefusal) → kept_layout_lets_access S.at seat.old (grid_pair_read self.cells round + cell) false ≡ true
-            → seat_call_refusal_at_once seat.old (grid_pair_read self.cells round + cell) ≡ Some e
+            → processor_refusal_at_once seat.old (grid_pair_read self.cells round + cell) ≡ Some e
             → (result ≡ Err (fault.Refused e)) × (seat.new ≡ seat.old) }
     {
         let word = seat.load(self.read(round) + cell)?;

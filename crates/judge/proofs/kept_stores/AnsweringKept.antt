@@ -21,8 +21,7 @@ use Rattle.judge.specs.PermittedStores.{IsLatestStore, IsUnorderedStore}
 use Rattle.judge.specs.Sources.Latest.{IsLatest}
 use Rattle.judge.specs.StoresInPasts.{IsLatestInPast, IsOutsidePast, MayBeAnsweredLater}
 use Rattle.judge.proofs.kept_stores.ChoosingKept.{IsGivenToChooseKept, choosing_kept_latest, choosing_kept_store, choosing_kept_unfollowed}
-use Rattle.judge.proofs.sources.Answering.{answering_untouched}
-use Rattle.judge.proofs.sources.ChoosingSources.{choosing_source_store_shorter}
+use Rattle.judge.proofs.sources.Answering.{answering_store_shorter, answering_untouched}
 
 answering_kept_one_value : (a v b w : ℕ) → Store a v ≡ Store b w → v ≡ w
 answering_kept_one_value a v b w is = cc
@@ -36,7 +35,7 @@ module _ (j : List Event) (p a v : ℕ) where
   pub answering_kept_latest : (q i : ℕ) → IsLatest (did j p (Load a v)) (length j) a q i → IsLatestInPast j p a q i
   answering_kept_latest q i x = record {
     value = x.value;
-    does = choosing_source_store_shorter j p a v i q a x.value
+    does = answering_store_shorter j p a v i q a x.value
         (subst (λ n. Does (did j p (Load a v)) n q (Store a x.value)) x.place
         (subst (λ n. Does (did j p (Load a v)) x.store.place n (Store a x.value)) x.by x.store.stores));
     past = (answering_kept_past i).0 (subst (λ n. HappensBefore (did j p (Load a v)) n (length j)) x.place x.store.before);
@@ -58,7 +57,7 @@ module _ (j : List Event) (p a v : ℕ) where
       before = (answering_kept_past i).1 x.past;
       latest = λ m r w does before follows.
           (let past = (answering_kept_past m).0 before in
-          x.latest m r w (choosing_source_store_shorter j p a v m r a w does) past
+          x.latest m r w (answering_store_shorter j p a v m r a w does) past
           ((happens_before_extension j (event p (Load a v) ∷ []) i m (into_past_within j p m past)).0 follows));
     };
     place = refl;
@@ -107,7 +106,7 @@ module _ (n : ℕ) (j : List Event) (cuts : List (List ℕ)) (p a v : ℕ) (of :
       let found = choosing_kept_unfollowed n j cuts p a of last given x.by x.place (answering_kept_latest j p a v x.by x.place l) in
       let y = found.store in
       let does = (choosing_kept_store n j cuts p a of last given x.by y found.is.at).does in
-      let mine = choosing_source_store_shorter j p a v x.place x.by a v x.stores in
+      let mine = answering_store_shorter j p a v x.place x.by a v x.stores in
       let same = event_place_does_same j x.place x.by x.by (Store a y.value) (Store a v)
       (subst (λ m. Does j m x.by (Store a y.value)) found.place does) mine in
       (y, found.is, answering_kept_one_value a y.value a v same.1)
@@ -146,7 +145,7 @@ module _ (n : ℕ) (j : List Event) (cuts : List (List ℕ)) (p a v : ℕ) (of :
       (answering_kept_latest j p a v x.by x.place l.latest) in
       let y = found.store in
       let does = (choosing_kept_store n j cuts p a of last given x.by y found.is.at).does in
-      let mine = choosing_source_store_shorter j p a v x.place x.by a x.value l.stores in
+      let mine = answering_store_shorter j p a v x.place x.by a x.value l.stores in
       let same = event_place_does_same j x.place x.by x.by (Store a y.value) (Store a x.value)
       (subst (λ m. Does j m x.by (Store a y.value)) found.place does) mine in
       (y, found.is, sym found.place, sym (answering_kept_one_value a y.value a x.value same.1))
@@ -187,7 +186,7 @@ pub answering_kept_unordered : (j : List Event) (p a v q from : ℕ) (stores : L
     → AreUnknownFrom j p a q stores from → IsUnorderedStore (did j p (Load a v)) (length j) a x → x.by ≡ q
     → IsUnknownWithin stores from (length stores) q x
 answering_kept_unordered j p a v q from stores x are u by =
-    let mine = subst (λ r. Does j x.place r (Store a x.value)) by (choosing_source_store_shorter j p a v x.place x.by a x.value u.stores) in
+    let mine = subst (λ r. Does j x.place r (Store a x.value)) by (answering_store_shorter j p a v x.place x.by a x.value u.stores) in
     let found = are.complete x.place x.value mine (λ past. u.unordered ((answering_kept_past j p a v x.place).1 past)) in
     let y = found.1 in
     let does = (are.sound found.0 y found.2 found.3).0 in

@@ -1,12 +1,13 @@
 -- The latest stores of a load are what it may answer.
-use Rattle.std.proofs.Common.{◌≡◌, ℕ, zero, suc, ◌+◌, ◌<◌, ◌≤◌, inl, inr, ◌↔◌, List, [], ◌∷◌, ◌++◌, length, subst, refl, arith}
+use Rattle.std.proofs.Common.{◌≡◌, ℕ, zero, suc, ◌+◌, ◌<◌, ◌≤◌, inl, inr, ◌↔◌, List, [], ◌∷◌, ◌++◌, length, subst, refl, ap, arith}
+use Rattle.base.proofs.SlicesAndCounts.{slice_push_cases}
 use Rattle.journal.specs.declared.event.Event.{Event}
 use Rattle.journal.specs.declared.event.Kind.TheVariants.{Load, Store}
 use Rattle.journal.specs.DidEvent.{did, event}
 use Rattle.journal.specs.HappensBeforeEdges.{HappensBefore}
 use Rattle.journal.specs.WellFormed.{Does}
 use Rattle.journal.specs.ExplainedAnswers.{IsAnswer, LatestExplainedAnswer, UntouchedExplainedAnswer}
-use Rattle.journal.proofs.Order.EventPlacesAndCounts.{event_place_longer, event_place_inside, event_place_shorter, event_place_does_same}
+use Rattle.journal.proofs.Order.EventPlacesAndCounts.{event_place_longer, event_place_shorter, event_place_does_same}
 use Rattle.journal.proofs.Order.HappensBefore.{happens_before_goes_forward}
 use Rattle.judge.specs.Sources.Latest.{IsLatest}
 use Rattle.judge.specs.Sources.LatestAnswers.{IsLatestAnswer}
@@ -56,6 +57,18 @@ answering_law j k a v = (there, back)
         let same = event_place_does_same j x.1 x.0 x.0 (Store a l.value) (Store a v) stores x.3 in
         inr (subst (LatestExplainedAnswer j k a) (answering_one_value a l.value a v same.1) l.store)
 
+-- the load doesn't store
+answering_load_apart : (a v b w p q : ℕ) → event p (Load a v) ≡ event q (Store b w) → ⊥
+answering_load_apart a v b w p q e = let k = ap (λ x. x.kind) e in cc
+
+-- the stores before a load that comes next are the journal's
+pub answering_store_shorter : (j : List Event) (p a v i q b w : ℕ) → Does (did j p (Load a v)) i q (Store b w)
+    → Does j i q (Store b w)
+answering_store_shorter j p a v i q b w does = elim (slice_push_cases j (event p (Load a v)) i (event q (Store b w)) does) [
+  | inl old ↦ old.1
+  | inr new ↦ absurd (answering_load_apart a v b w p q new.1)
+]
+
 -- a latest store of a load that comes next stands in the journal
 pub answering_store_at : (j : List Event) (p a v q i : ℕ) (x : IsLatest (did j p (Load a v)) (length j) a q i)
     → Does j i q (Store a x.value)
@@ -65,14 +78,6 @@ answering_store_at j p a v q i x =
     event_place_shorter j (event p (Load a v) ∷ []) i (event q (Store a x.value)) (omega arith)
     (subst (λ n. Does (did j p (Load a v)) n q (Store a x.value)) x.place
     (subst (λ n. Does (did j p (Load a v)) x.store.place n (Store a x.value)) x.by x.store.stores))
-
-module _ (j : List Event) (p a v : ℕ) (Marked : ℕ → ℕ → Type 0)
-    (tells : (q i : ℕ) → Marked q i ↔ IsLatest (did j p (Load a v)) (length j) a q i) where
-  -- a marked place is one of the journal
-  pub answering_marked_place : (q i : ℕ) → Marked q i → i < length j
-  answering_marked_place q i at =
-      let x = (tells q i).0 at in
-      event_place_inside j i (event q (Store a x.value)) (answering_store_at j p a v q i x)
 
 -- what a load may answer stays as the journal goes on
 pub answering_longer_law : (j es : List Event) (k a v : ℕ) → k < length j → IsAnswer (j ++ es) k a v ↔ IsAnswer j k a v

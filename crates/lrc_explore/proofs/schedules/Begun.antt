@@ -35,10 +35,10 @@ use Rattle.conformance.proofs.Like.WellFormed.{like_well_formed}
 use Rattle.conformance.proofs.Recomputing.EventReplays.{event_replays_fetch_like}
 use Rattle.explore.specs.Prefixes.FlatBeginnings.{IsFlatBeginning, AreFlatBeginningsRaceFree}
 use Rattle.explore.specs.Prefixes.ScriptCalls.{IsScriptCallNext, last_reply_of_script_calls, script_calls_of_section, script_calls_shown_by}
-use Rattle.explore.proofs.prefixes.Beginnings.{prefix_beginning_next, prefix_beginning_script_front}
-use Rattle.explore.proofs.prefixes.SectionCalls.{section_calls_push}
-use Rattle.explore.proofs.prefixes.Neighbours.LastRace.{last_race_of_front}
-use Rattle.explore.proofs.prefixes.Neighbours.Replies.{neighbour_replied_call, neighbour_replied_step}
+use Rattle.explore.proofs.PrefixRuns.Beginnings.{prefix_beginning_next, prefix_beginning_script_front}
+use Rattle.explore.proofs.PrefixRuns.SectionCalls.{section_calls_push}
+use Rattle.explore.proofs.PrefixRuns.Neighbours.LastRace.{last_race_of_front}
+use Rattle.explore.proofs.PrefixRuns.Neighbours.Replies.{neighbour_replied_call, neighbour_replied_step}
 use Rattle.lrc_explore.specs.Schedules.ExploredLaws.{ExploredScheduleBegunLaw}
 
 -- what replays and begins the script does so on one flat memory, its fetches aside

@@ -15,8 +15,8 @@ use Rattle.conformance.proofs.WithoutFetches.Runs.{run_calls_without_fetches}
 use Rattle.conformance.proofs.WithoutFetches.WellFormed.{well_formed_without_fetches_follow}
 use Rattle.explore.specs.Prefixes.FlatBeginnings.{IsFlatBeginning, AreFlatBeginningsRaceFree, IsFlatBeginningHanging}
 use Rattle.explore.specs.Prefixes.ScriptCalls.{script_calls_shown_by}
-use Rattle.explore.specs.declared.explored.Explored.{Explored}
-use Rattle.explore.specs.declared.outcome_telling.Detail.{Detail}
+use Rattle.explore.specs.declared.outcomes.answer.Explored.{Explored}
+use Rattle.explore.specs.declared.outcomes.telling.Detail.{Detail}
 use Rattle.explore.specs.Explored.{IsExploredHanging}
 use Rattle.explore.proofs.MachineSteps.{machine_step_next_within}
 use Rattle.lrc_explore.specs.Schedules.ExploredLaws.{ExploredScheduleGoesOnLaw, ExploredScheduleNeverHangs, IsExploredScheduleUnfinished, ExploredScheduleNeverStuckLaw}

@@ -19,7 +19,7 @@ use Rattle.explore.specs.declared.prefixes.script_call.ScriptCall.TheVariants.{C
 use Rattle.explore.specs.Prefixes.FlatBeginnings.{IsFlatBeginning}
 use Rattle.explore.specs.Prefixes.ScriptCalls.{IsScriptCallNext, FitsScriptCall, last_reply_of_script_calls, script_calls_of_section, script_calls_shown_by}
 use Rattle.explore.specs.Prefixes.PrefixLaws.{PrefixCanGoOn}
-use Rattle.explore.proofs.prefixes.Beginnings.{prefix_beginning_next}
+use Rattle.explore.proofs.PrefixRuns.Beginnings.{prefix_beginning_next}
 use Rattle.explore.proofs.MachineSteps.{machine_step_adds, machine_step_load, machine_step_next_within, machine_step_other, machine_step_some_at}
 use Rattle.lrc_explore.proofs.schedules.Deciding.{Decided, decided_and, decided_follow}
 

@@ -14,12 +14,12 @@ use Rattle.conformance.specs.Follows.{calls_of, load_of, FollowsSection}
 use Rattle.conformance.proofs.WithoutFetches.HistoryWithoutFetches.{without_fetches}
 use Rattle.conformance.proofs.WithoutFetches.Runs.{run_calls_without_fetches}
 use Rattle.explore.specs.Prefixes.FlatBeginnings.{AreFlatBeginningsRaceFree, IsFlatBeginningWhole}
-use Rattle.explore.proofs.prefixes.Beginnings.{prefix_beginning_of_followed, prefix_beginning_whole_done}
+use Rattle.explore.proofs.PrefixRuns.Beginnings.{prefix_beginning_of_followed, prefix_beginning_whole_done}
 use Rattle.explore.specs.Prefixes.ScriptCalls.{script_calls_shown_by}
 use Rattle.conformance.specs.ScriptReports.{AreRepliesOfScriptReport}
-use Rattle.explore.specs.declared.explored.Explored.{Explored}
+use Rattle.explore.specs.declared.outcomes.answer.Explored.{Explored}
 use Rattle.explore.specs.Explored.{IsExploredVerdict}
-use Rattle.explore.specs.declared.outcome_telling.Detail.{Detail}
+use Rattle.explore.specs.declared.outcomes.telling.Detail.{Detail}
 use Rattle.explore.specs.FlatOutcomes.{AreFlatOutcomeReplies, flat_outcome_replies_in}
 use Rattle.explore.specs.OutcomeTelling.{AreOutcomeTellingReplies, outcome_telling_of_script, outcome_telling_replies, outcome_telling_steps}
 use Rattle.explore.proofs.ToldReplies.{told_replies_end_shown, told_replies_some_rows}

@@ -15,13 +15,13 @@ use Rattle.conformance.specs.ScriptBegins.{BeginsScript}
 use Rattle.conformance.specs.Follows.{plan_sizes, is_fetch, Follows}
 use Rattle.conformance.specs.ScriptReports.{IsScriptReport}
 use Rattle.explore.specs.Prefixes.FlatBeginnings.{AreFlatBeginningsRaceFree}
-use Rattle.explore.specs.declared.explored.Explored.{Explored}
-use Rattle.explore.specs.declared.explored.Hanging.TheVariants as hanging
-use Rattle.explore.specs.declared.explored.ShownOutcome.{ShownOutcome}
-use Rattle.explore.specs.declared.explored.Verdict.TheVariants as verdict
+use Rattle.explore.specs.declared.outcomes.answer.Explored.{Explored}
+use Rattle.explore.specs.declared.outcomes.answer.Hanging.TheVariants as hanging
+use Rattle.explore.specs.declared.outcomes.answer.ShownOutcome.{ShownOutcome}
+use Rattle.explore.specs.declared.outcomes.answer.Verdict.TheVariants as verdict
 use Rattle.explore.specs.Explored.{IsExplored, shown_outcome}
 use Rattle.explore.specs.FlatOutcomes.{AreFlatOutcomeReplies}
-use Rattle.explore.specs.declared.outcome_telling.Detail.{Detail}
+use Rattle.explore.specs.declared.outcomes.telling.Detail.{Detail}
 use Rattle.explore.specs.OutcomeTelling.{AreOutcomeTellingReplies, outcome_telling_of_script}
 
 -- an explained history that only begins a script, of which no beginning on one flat memory races, has no race and replays

@@ -1,15 +1,12 @@
 //! Loads and stores of a script. A copy that lacks records is fetched, and a block that is full is handed in;
 //! else nothing is fetched or handed in.
-//!
-//! `fetch`, `walk_access_load_with_room` and `walk_access_store_with_room` have one form, and stand apart since a closure's contract would have to say
-//! again what each call does.
 ghost use Rattle.std.specs.Prelude.{◌≡◌, ◌+◌, ◌%◌, ◌^◌, OnOk, ℕ, [], ◌∷◌};
 ghost use Rattle.cluster.specs.Prelude.{IsSameProcessorOfCall};
-ghost use Rattle.lrc_run.specs.Prelude.{HasRunCallsAndFetches, IsRunCallAccessNotedBy, IsRunCallFetchNotedBy, AreRunCallsTried};
+ghost use Rattle.lrc_run.specs.Prelude.{HasRunCallsAndFetches, AreRunCallsTried};
 ghost use Rattle.journal.specs.declared.event.Kind.TheVariants as kind;
 
 use book::Refused;
-use cluster::{BookTurn, Cluster, Processor};
+use cluster::{BookTurn, Cluster, Processor, WordAccess};
 use std::sync::Wait;
 
 /// The word at the address, of a copy that is fetched if it is stale. Refused as the load, the fetch or the
@@ -23,14 +20,7 @@ pub(crate) fn load<T: BookTurn, R: Wait>(
     requires own { processor.old.lock ≡ cluster.now.lock }
     ensures { AreRunCallsTried processor.old processor.new result (λ v. kind.Load address v ∷ []) }
 {
-    match processor.load(address) {
-        Err(Refused::Invalid(page)) => {
-            fetch(rt, cluster, processor, page)?;
-            walk_access_load_with_room(rt, cluster, processor, address)
-        }
-        Err(Refused::BlockFull) => walk_access_load_with_room(rt, cluster, processor, address),
-        answer => answer,
-    }
+    cluster.access(rt, processor, address, WordAccess::Load)
 }
 
 /// Stores the value at the address, as [`load`] loads.
@@ -44,15 +34,9 @@ pub(crate) fn store<T: BookTurn, R: Wait>(
     requires own { processor.old.lock ≡ cluster.now.lock }
     ensures { AreRunCallsTried processor.old processor.new result (λ _. kind.Store address value ∷ []) }
 {
-    match processor.store(address, value) {
-        Err(Refused::Invalid(page)) => {
-            fetch(rt, cluster, processor, page)?;
-            walk_access_store_with_room(rt, cluster, processor, address, value)
-        }
-        Err(Refused::BlockFull) => walk_access_store_with_room(
-            rt, cluster, processor, address, value,
-        ),
-        answer => answer,
+    match cluster.access(rt, processor, address, WordAccess::Store(value)) {
+        Ok(_) => Ok(()),
+        Err(refused) => Err(refused),
     }
 }
 
@@ -71,62 +55,4 @@ pub(crate) fn add<T: BookTurn, R: Wait>(
 {
     let reply = load(rt, cluster, processor, address)?;
     store(rt, cluster, processor, address, reply.wrapping_add(value))
-}
-
-/// Fetches the page, after a flush if the block is full.
-fn fetch<T: BookTurn, R: Wait>(
-    rt: &R,
-    cluster: &Cluster<T>,
-    processor: &mut Processor<T>,
-    page: usize,
-) -> Result<(), Refused>
-    requires own { processor.old.lock ≡ cluster.now.lock }
-    ensures { IsRunCallFetchNotedBy processor.old processor.new result page }
-{
-    match processor.fetch(page) {
-        Err(Refused::BlockFull) => {
-            cluster.flush(rt, processor)?;
-            processor.fetch(page)
-        }
-        answer => answer,
-    }
-}
-
-/// Loads, after a flush if the block is full.
-fn walk_access_load_with_room<T: BookTurn, R: Wait>(
-    rt: &R,
-    cluster: &Cluster<T>,
-    processor: &mut Processor<T>,
-    address: usize,
-) -> Result<u32, Refused>
-    requires own { processor.old.lock ≡ cluster.now.lock }
-    ensures { IsRunCallAccessNotedBy processor.old processor.new result address (λ v. kind.Load address v) }
-{
-    match processor.load(address) {
-        Err(Refused::BlockFull) => {
-            cluster.flush(rt, processor)?;
-            processor.load(address)
-        }
-        answer => answer,
-    }
-}
-
-/// Stores, after a flush if the block is full.
-fn walk_access_store_with_room<T: BookTurn, R: Wait>(
-    rt: &R,
-    cluster: &Cluster<T>,
-    processor: &mut Processor<T>,
-    address: usize,
-    value: u32,
-) -> Result<(), Refused>
-    requires own { processor.old.lock ≡ cluster.now.lock }
-    ensures { IsRunCallAccessNotedBy processor.old processor.new result address (λ _. kind.Store address value) }
-{
-    match processor.store(address, value) {
-        Err(Refused::BlockFull) => {
-            cluster.flush(rt, processor)?;
-            processor.store(address, value)
-        }
-        answer => answer,
-    }
 }

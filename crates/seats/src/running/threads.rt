@@ -3,7 +3,7 @@ ghost use Rattle.std.specs.Prelude.{◌≡◌, ◌≤◌, [], IfOk, IfSome, leng
 ghost use Rattle.std.specs.Thread.{IsSend, IsSync};
 ghost use Rattle.cluster.specs.NewClusters.{shared_cluster};
 ghost use Rattle.cluster.specs.Prelude.{HasCoverage, HasClusterCoverage, IsNewCluster};
-ghost use Rattle.seats.specs.Prelude.{IsCoverAllowed};
+ghost use Rattle.seats.specs.Prelude.{AreProgramRunEnds, HaveEndedInProgramRun, IsCoverAllowed};
 ghost use Rattle.seats.specs.Prelude.{AreSeatedForProgramRun, HasRoomForProgramRun, HasWorkedSitting, HaveAllJoinedProgramRun, HaveAllWorkedInProgramRun, IsNobodyInProgramRun, IsProgramRunWork};
 ghost use Rattle.seats.specs.Prelude.{NoneFaulted, new_sitting_processor, program_run_seat};
 
@@ -157,6 +157,7 @@ fn join_seat_threads<P: Program, R: Threads>(
     requires none { IsNobodyInProgramRun workers }
     requires room { HasRoomForProgramRun workers (vec_len threads) }
     ensures long { length result.ends.items ≡ length threads.items }
+    ensures ended { HaveEndedInProgramRun P.did threads.items result.ends.items }
     ensures joined { NoneFaulted result.ends.items
         → HaveAllJoinedProgramRun P.did threads.items result.processors.items result.answers.items }
 {
@@ -185,8 +186,9 @@ pub(super) fn work_on_seat_threads<'x, P: Program, R: Threads + Wait + Sync>(
 ) -> Result<Workers<P::Answer>, AllocError>
     requires new { IsNewCluster cluster.now processors.items }
     requires covered { HasClusterCoverage processors.items }
-    ensures { IfOk result (λ w. NoneFaulted w.ends.items
+    ensures worked { IfOk result (λ w. NoneFaulted w.ends.items
         → HaveAllWorkedInProgramRun layout.now P.did processors.items w.processors.items w.answers.items) }
+    ensures ended { IfOk result (λ w. AreProgramRunEnds layout.now P.did cluster.now w.ends.items) }
 {
     let count = processors.len();
     let threads = Vec::with_capacity(alloc, count)?;
@@ -200,8 +202,9 @@ pub(super) fn work_on_seat_threads<'x, P: Program, R: Threads + Wait + Sync>(
             requires covered { HasClusterCoverage processors.items }
             requires threads { (threads.items ≡ []) × (vec_len processors ≤ vec_capacity threads) }
             requires workers { IsNobodyInProgramRun workers × HasRoomForProgramRun workers (vec_len processors) }
-            ensures { NoneFaulted result.ends.items
+            ensures worked { NoneFaulted result.ends.items
                 → HaveAllWorkedInProgramRun layout.entry.now P.did processors.items result.processors.items result.answers.items }
+            ensures ended { AreProgramRunEnds layout.entry.now P.did cluster.entry.now result.ends.items }
         {
             let threads = start_seat_threads(
                 scope, rt, cluster, processors, layout, program, threads,

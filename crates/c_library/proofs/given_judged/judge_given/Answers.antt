@@ -20,7 +20,7 @@ returns-clause-told c =
           subst (λ (j : List Event). IsTrueCheckVerdict (given_rules_of c.args.rules) s j found) is
           (subst (λ (t : Sizes). IsTrueCheckVerdict (given_rules_of c.args.rules) t c.deref.result.now found) c.sizes.ensures
           (subst (λ (r : Rules). IsTrueCheckVerdict r (judged_sizes_of c.sizes.result) c.deref.result.now found)
-          c.rules.ensures c.in_ok-found.ensures));
+          c.rules.ensures c.in_ok-found.ensures.found));
       is = c.told_verdict.ensures;
     }
 

@@ -2,8 +2,8 @@ use Rattle.std.proofs.Common.{ℕ, ◌++◌, inl, inr, List, [], ◌∷◌, map,
 use Rattle.std.proofs.lemmas.List.{map-append}
 use Rattle.base.specs.InOrderOnce.{Has}
 use Rattle.base.proofs.JoinedLists.{joined_list_has-cons}
-use Rattle.explore.specs.declared.explored.ScriptOutcome.{ScriptOutcome}
-use Rattle.explore.specs.declared.explored.ShownOutcome.{ShownOutcome}
+use Rattle.explore.specs.declared.outcomes.answer.ScriptOutcome.{ScriptOutcome}
+use Rattle.explore.specs.declared.outcomes.answer.ShownOutcome.{ShownOutcome}
 use Rattle.explore.specs.Explored.{shown_outcome}
 use Rattle.explore.specs.NotedOutcomes.{noted_outcomes}
 use Rattle.explore.proofs.ShownRuns.{shown_run_of, shown_run_pushed}

@@ -1,9 +1,9 @@
 use Rattle.std.proofs.Common.{ℕ, ◌≡◌, ◌++◌, map}
 use Rattle.base.specs.InOrderOnce.{Has}
 use Rattle.lrc_script.specs.Plan.{Plan}
-use Rattle.explore.specs.declared.explored.ScriptOutcome.{ScriptOutcome}
-use Rattle.explore.specs.declared.explored.ShownOutcome.{ShownOutcome}
-use Rattle.explore.specs.declared.outcome_telling.Detail.{Detail}
+use Rattle.explore.specs.declared.outcomes.answer.ScriptOutcome.{ScriptOutcome}
+use Rattle.explore.specs.declared.outcomes.answer.ShownOutcome.{ShownOutcome}
+use Rattle.explore.specs.declared.outcomes.telling.Detail.{Detail}
 use Rattle.explore.specs.Explored.{IsRunOfShownOutcome, shown_outcome}
 use Rattle.explore.specs.FlatSearch.{AreFlatSearchPlaces}
 use Rattle.explore.specs.FoundStates.{AreFoundStates, found_states}

@@ -1,7 +1,7 @@
 use Rattle.std.proofs.Common.{◌≢◌, Option, Some, refl, sym, subst, ◌∙◌}
 use Rattle.std.specs.Prelude.{None, IfSome}
 use Rattle.base.specs.InOrderOnce.{Has}
-use Rattle.explore.specs.declared.explored.ShownOutcome.{ShownOutcome}
+use Rattle.explore.specs.declared.outcomes.answer.ShownOutcome.{ShownOutcome}
 use Rattle.explore.specs.Explored.{shown_outcome}
 use Rattle.explore.specs.NotedOutcomes.{noted_outcomes}
 use Rattle.explore.proofs.NotedOutcomes.{noted_outcome_found, noted_outcome_missing}

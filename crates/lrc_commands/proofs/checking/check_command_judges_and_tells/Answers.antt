@@ -6,4 +6,4 @@ returns-clause-judged g c =
     judged_source_answered _ _ _ _ _ _ c.check_command_tells.ensures.judgement c.in_ok-found.ensures.judged
 
 pub returns-clause-refused : goal.returns-clause-refused
-returns-clause-refused g c = judged_source_never_refused _ _ c.check_command_tells.ensures.refused
+returns-clause-refused g c = judged_source_never_refused _ _ _ c.check_command_tells.ensures.refused

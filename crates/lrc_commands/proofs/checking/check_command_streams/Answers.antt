@@ -2,7 +2,7 @@ use Rattle.std.proofs.Common.{[], ◌++◌, ap, refl, ◌∙◌}
 use Rattle.std.proofs.KnownBytes.{Consumes-nil}
 use Rattle.std.proofs.lemmas.Result.{err_from_is_err_and}
 use Rattle.lrc_check.specs.declared.checked.Rules.{Rules}
-use Rattle.lrc_commands.proofs.JudgedSources.{judged_source_by, judged_source_consumed_fully, judged_source_consumed_no_more, judged_source_consumed_on, judged_source_full_refused, judged_source_no_trace, judged_source_stream_ended, judged_source_stream_whole}
+use Rattle.lrc_commands.proofs.JudgedSources.{judged_source_by, judged_source_consumed_fully, judged_source_consumed_no_more, judged_source_consumed_on, judged_source_full_refused, judged_source_no_front, judged_source_no_trace, judged_source_stream_ended, judged_source_stream_whole}
 use Rattle.lrc_commands.proofs.checking.check_command_streams.Goals as goal
 
 pub check_command_ends-requires : goal.check_command_ends-requires
@@ -12,7 +12,7 @@ pub returns-in_err-check_command_ends-clause-refused : goal.returns-in_err-check
 returns-in_err-check_command_ends-clause-refused g c =
     let p = err_from_is_err_and c.from_residual-in_err-check_command_ends.result c.from_residual-in_err-check_command_ends.ensures.1 in
     let read = c.loop.invariant.read in
-    rw p.1 (λ its. judged_source_full_refused _ read.0
+    rw p.1 (λ its. judged_source_full_refused _ _ read.0
     (judged_source_consumed_fully _ _ read.0
     (judged_source_consumed_no_more _ _ _ read.0 _ _ c.if-count-eq0.true read.1 c.in_ok-count.ensures.bytes)
     (c.in_ok-count.ensures.end c.if-count-eq0.true))
@@ -34,8 +34,8 @@ pub returns-in_err-found-clause-refused : goal.returns-in_err-found-clause-refus
 returns-in_err-found-clause-refused g c =
     let p = err_from_is_err_and c.from_residual-in_err-found.result c.from_residual-in_err-found.ensures.1 in
     let read = c.loop.invariant.read in
-    rw p.1 (λ its. judged_source_no_trace _ _ _ (judged_source_consumed_on _ _ _ read.0 _ read.1 c.in_ok-count.ensures.bytes)
-    (c.in_err-found.ensures.refused (p.2.0 its) read.0 read.2))
+    rw p.1 (λ its. judged_source_no_trace _ _ (judged_source_no_front _ _ _ (judged_source_consumed_on _ _ _ read.0 _ read.1 c.in_ok-count.ensures.bytes)
+    (c.in_err-found.ensures.refused (p.2.0 its) read.0 read.2)))
 
 pub returns-in-Some-clause-judged : goal.returns-in-Some-clause-judged
 returns-in-Some-clause-judged g c =

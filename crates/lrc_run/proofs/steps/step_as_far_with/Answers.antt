@@ -1,4 +1,5 @@
-use Rattle.std.proofs.Common.{List, length, refl, subst}
+use Rattle.std.proofs.Common.{List, length, refl, subst, arith}
+use Rattle.std.proofs.lemmas.Grind.{elements}
 use Rattle.std.specs.Prelude.{IfOk}
 use Rattle.lrc_script.specs.Plan.{plan_of}
 use Rattle.conformance.specs.OrderedTurns.{IsEndByOrderedTurns, ordered_turns_of_seed}
@@ -23,3 +24,9 @@ returns-clause-end g c =
     failing_ok_as c.run_steps_result.result (IsFollowedEndAfter s ns all) (IsEndByOrderedTurns s orders)
     (λ e after. ends_by_turns e c.requires.lawful start.sizes gone.way told after)
     (subst P c.deref.ensures.value c.run_steps_result.ensures.end)
+
+pub go_round-requires : goal.go_round-requires
+go_round-requires g c = grind (arith, elements)
+
+pub run_steps_result-requires : goal.run_steps_result-requires
+run_steps_result-requires g c = grind (arith, elements)

@@ -1,4 +1,4 @@
-use Rattle.explore.proofs.prefixes.Beginnings.{prefix_beginning_empty, prefix_beginning_front}
+use Rattle.explore.proofs.PrefixRuns.Beginnings.{prefix_beginning_empty, prefix_beginning_front}
 use Rattle.explore.proofs.prefixes.laws.prefix_front_law.Goals as goal
 
 pub returns-clause-empty : goal.returns-clause-empty

@@ -1,4 +1,4 @@
-use Rattle.explore.proofs.prefixes.Beginnings.{prefix_beginning_next}
+use Rattle.explore.proofs.PrefixRuns.Beginnings.{prefix_beginning_next}
 use Rattle.explore.proofs.prefixes.laws.prefix_next_law.Goals as goal
 
 pub returns : goal.returns

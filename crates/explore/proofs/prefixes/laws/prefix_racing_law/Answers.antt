@@ -1,4 +1,4 @@
-use Rattle.explore.proofs.prefixes.Neighbours.Racing.{neighbour_racing_law}
+use Rattle.explore.proofs.PrefixRuns.Neighbours.Racing.{neighbour_racing_law}
 use Rattle.explore.proofs.prefixes.laws.prefix_racing_law.Goals as goal
 
 pub returns : goal.returns

@@ -1,5 +1,5 @@
 use Rattle.std.proofs.lemmas.Option.{slice_get-get_or}
-use Rattle.explore.proofs.prefixes.Steps.{prefix_steps_loads_next}
+use Rattle.explore.proofs.PrefixRuns.Steps.{prefix_steps_loads_next}
 use Rattle.explore.proofs.prefixes.script_call.push_script_call_loads.Goals as goal
 
 pub loop-address-preserved : goal.loop-address-preserved

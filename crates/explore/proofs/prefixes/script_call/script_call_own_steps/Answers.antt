@@ -1,5 +1,5 @@
 use Rattle.std.proofs.lemmas.Option.{slice_get-get_or}
-use Rattle.explore.proofs.prefixes.Steps.{prefix_steps_collected_next}
+use Rattle.explore.proofs.PrefixRuns.Steps.{prefix_steps_collected_next}
 use Rattle.explore.proofs.prefixes.script_call.script_call_own_steps.Goals as goal
 
 pub loop-instruction-preserved : goal.loop-instruction-preserved

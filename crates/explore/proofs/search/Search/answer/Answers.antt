@@ -9,9 +9,9 @@ use Rattle.explore.specs.TextGuards.{AreGuardedByText}
 use Rattle.explore.specs.Machines.{AreLawfulMachineSteps}
 use Rattle.explore.specs.Prefixes.FlatBeginnings.{AreFlatBeginningsRaceFree}
 use Rattle.lrc_script.specs.Lawful.{plan_addresses}
-use Rattle.explore.proofs.locksets.TextGuardLaw.{text_guard_law}
-use Rattle.explore.proofs.locksets.Noted.{lockset_noted_address_within, lockset_noted_rows_within, lockset_noted_unused_guarded}
-use Rattle.explore.proofs.prefixes.Neighbours.NoNeighbours.{no_neighbours_law}
+use Rattle.explore.proofs.Locksets.TextGuardLaw.{text_guard_law}
+use Rattle.explore.proofs.Locksets.Noted.{lockset_noted_address_within, lockset_noted_rows_within, lockset_noted_unused_guarded}
+use Rattle.explore.proofs.PrefixRuns.Neighbours.NoNeighbours.{no_neighbours_law}
 use Rattle.explore.specs.FlatSearch.{IsFlatSearched}
 use Rattle.explore.proofs.SearchedStates.{searched_states_all_outcomes, searched_states_without_neighbours, searched_states_open_only, searched_states_some_outcomes}
 use Rattle.explore.proofs.search.Search.answer.Goals as goal
@@ -75,7 +75,7 @@ returns c = λ most ended.
           c.in_ok-outcomes.ensures.all replies
           (searched_states_all_outcomes s x steps c.requires.steps (ended.searched.all yes) d telling replies outcome);
       given_up = λ opens.
-          let both = searched_states_open_only c.args.end.neighbours (c.args.end.through || c.are_all_guarded.result) c.args.end.through
+          let both = searched_states_open_only c.args.end.met (c.args.end.through || c.are_all_guarded.result) c.args.end.through
           c.in_ok-findings.findings.verdict c.in_ok-findings.findings.hanging c.in_ok-findings.ensures.verdict_opens
           c.in_ok-findings.ensures.hanging_opens
           (neither c.args.end.through c.are_all_guarded.result) opens in

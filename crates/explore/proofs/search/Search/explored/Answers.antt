@@ -26,7 +26,7 @@ returns g c =
     let d = c.args.detail in
     let ended = c.in_ok-end.ensures.ended s c.requires.steps c.requires.searched c.requires.few in
     IfOk-weaker c.answer.result
-    (λ answer. (most : ℕ) → IsFlatSearchEnd s x c.args.steps.now (state_room_at_most s d most) c.in_ok-end.end → IsExplored s d most answer)
+    (λ answer. (most : ℕ) → IsFlatSearchEnd s x c.args.steps.now (λ _. ⊥) (state_room_at_most s d most) c.in_ok-end.end → IsExplored s d most answer)
     (IsExplored s d c.args.most)
-    (λ answer told. told c.args.most (subst (λ n. IsFlatSearchEnd s x c.args.steps.now n c.in_ok-end.end) c.state_room_at_most-most.ensures.at_most ended))
+    (λ answer told. told c.args.most (subst (λ n. IsFlatSearchEnd s x c.args.steps.now (λ _. ⊥) n c.in_ok-end.end) c.state_room_at_most-most.ensures.at_most ended))
     c.answer.ensures

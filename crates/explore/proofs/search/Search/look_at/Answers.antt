@@ -1,7 +1,7 @@
 use Rattle.std.proofs.Common.{◌≡◌, ◌+◌, Some, length, slice_get, refl, sym, ap, subst, ◌∙◌, arith}
 use Rattle.std.proofs.lemmas.Bool.{false≢true}
 use Rattle.std.proofs.lemmas.Option.{same_Some}
-use Rattle.explore.specs.declared.flat_state.FlatState.{FlatState}
+use Rattle.explore.specs.declared.state.flat_state.FlatState.{FlatState}
 use Rattle.explore.specs.declared.search.Search.{Search}
 use Rattle.explore.specs.FoundStates.{HasRoomForStates, IsFoundStateAt, found_states}
 use Rattle.explore.specs.FollowedStates.{AreFollowedStates, MayBeFollowedStateByEach}

@@ -3,7 +3,7 @@ use Rattle.std.proofs.lemmas.Bool.{cases_eq, false≢true}
 use Rattle.journal.specs.declared.event.Kind.TheVariants.{Store}
 use Rattle.journal.specs.DidEvent.{event}
 use Rattle.judge.proofs.kept_stores.AnsweringKept.{answering_kept_has_value, answering_kept_of_value}
-use Rattle.judge.proofs.sources.ChoosingSources.{choosing_source_store_shorter}
+use Rattle.judge.proofs.sources.Answering.{answering_store_shorter}
 use Rattle.judge.proofs.kept_stores.KeptStores.has_unordered.Goals as goal
 
 pub loop-by-init : goal.loop-by-init
@@ -28,7 +28,7 @@ loop-by-preserved c = λ j tells x lt. elim (cases_eq x.by c.loop-by.by) [
 pub returns : goal.returns
 returns c = λ j tells. (
   λ wrong. absurd (false≢true wrong),
-  λ x. (let old = choosing_source_store_shorter j c.args.processor c.args.address c.args.value x.place x.by c.args.address c.args.value
+  λ x. (let old = answering_store_shorter j c.args.processor c.args.address c.args.value x.place x.by c.args.address c.args.value
       x.stores in
       let lt = tells.processors x.place (event x.by (Store c.args.address c.args.value)) old in
       let over = c.loop-by-test.false in

@@ -5,7 +5,7 @@ use Rattle.journal.specs.declared.event.Kind.TheVariants.{Store}
 use Rattle.journal.specs.DidEvent.{event}
 use Rattle.judge.specs.declared.flat_memory.FlatStore.{FlatStore}
 use Rattle.judge.proofs.kept_stores.AnsweringKept.{answering_kept_unknown, answering_kept_unordered}
-use Rattle.judge.proofs.sources.ChoosingSources.{choosing_source_store_shorter}
+use Rattle.judge.proofs.sources.Answering.{answering_store_shorter}
 use Rattle.judge.proofs.kept_stores.KeptStores.unordered.Goals as goal
 
 pub loop-by-init : goal.loop-by-init
@@ -43,7 +43,7 @@ returns c = λ j tells w x.
       λ h. (has.0 h).0,
       λ u. has.1 (
         u,
-        (let old = choosing_source_store_shorter j c.args.processor c.args.address w x.place x.by c.args.address x.value u.stores in
+        (let old = answering_store_shorter j c.args.processor c.args.address w x.place x.by c.args.address x.value u.stores in
             let lt = tells.processors x.place (event x.by (Store c.args.address x.value)) old in
             omega arith),
       ),

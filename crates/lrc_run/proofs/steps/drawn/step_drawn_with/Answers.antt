@@ -1,4 +1,5 @@
-use Rattle.std.proofs.Common.{List, length, refl, subst}
+use Rattle.std.proofs.Common.{List, length, refl, subst, arith}
+use Rattle.std.proofs.lemmas.Grind.{elements}
 use Rattle.lrc_script.specs.Plan.{plan_of}
 use Rattle.conformance.specs.declared.progress.TurnProgress.{TurnProgress}
 use Rattle.lrc_run.specs.FollowedEnds.{IsFollowedEndAfter}
@@ -29,3 +30,9 @@ returns-in-Ok-clause-draws g c =
     let after = subst Q c.deref.ensures.value c.in-Ok.ensures.end in
     ends_by_turns_of_draws c.in_ok-cluster.all.items (length ms) c.in-Ok.ended c.requires.lawful start.sizes
     start.new refl start.begin gone.wandered gone.gone after
+
+pub go_as_drawn-requires : goal.go_as_drawn-requires
+go_as_drawn-requires g c = grind (arith, elements)
+
+pub run_steps_result-requires : goal.run_steps_result-requires
+run_steps_result-requires g c = grind (arith, elements)

@@ -1,4 +1,5 @@
-use Rattle.std.proofs.Common.{ℕ, List, length, refl, subst}
+use Rattle.std.proofs.Common.{ℕ, List, length, refl, subst, arith}
+use Rattle.std.proofs.lemmas.Grind.{elements}
 use Rattle.lrc_script.specs.Plan.{plan_of}
 use Rattle.conformance.specs.declared.progress.TurnProgress.{TurnProgress}
 use Rattle.lrc_run.specs.FollowedEnds.{IsFollowedEndAfter}
@@ -23,3 +24,9 @@ returns-clause-end g c =
     let Q : List TurnProgress → Type 0 = λ xs. IsFollowedEndAfter s ns xs c.in_ok-run_steps_result.field-0 in
     let after = subst Q c.deref-2.ensures.value c.in_ok-run_steps_result.ensures.end in
     ends_by_turns c.in_ok-run_steps_result.field-0 c.requires.lawful start.sizes gone.gone.way told after
+
+pub go_as_scheduled-requires : goal.go_as_scheduled-requires
+go_as_scheduled-requires g c = grind (arith, elements)
+
+pub run_steps_result-requires : goal.run_steps_result-requires
+run_steps_result-requires g c = grind (arith, elements)

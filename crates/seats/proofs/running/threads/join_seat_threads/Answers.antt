@@ -2,7 +2,7 @@ use Rattle.std.proofs.Common.{◌∷◌, ◌++◌, [], Ok, Err, append_assoc, sy
 use Rattle.std.proofs.lemmas.List.{length_push}
 use Rattle.std.specs.Vec.Iter.{into_iter_items}
 use Rattle.seats.specs.ProgramRuns.{IsProgramRunWork}
-use Rattle.seats.proofs.ProgramThreads.{program_threads_ended_more}
+use Rattle.seats.proofs.ProgramThreads.{program_threads_end_more, program_threads_ended_more, program_threads_fault_more}
 use Rattle.seats.proofs.ToldFaults.{none_faulted_before, none_faulted_not_last}
 use Rattle.seats.proofs.running.threads.join_seat_threads.Goals as goal
 
@@ -27,6 +27,7 @@ loop-thread-preserved-in-Ok g c =
       answers_few = rw second.items (let was = inv.answers_few in omega (arith, was, more, wide));
       ends_fit = let was = inv.ends_fit in let same = third.capacity in omega arith;
       ends_long = rw third.items (let was = inv.ends_long in omega (arith, was, more, ends));
+      ended = rw third.items (program_threads_end_more inv.ends_long c.in-Some.thread c.in-Ok.processor c.in-Ok.answer inv.ended work);
       joined = λ none. rw (first.items, second.items)
           (program_threads_ended_more c.in-Some.thread c.in-Ok.processor c.in-Ok.answer
           (inv.joined (none_faulted_before c.loop-thread.workers.ends.items (Ok tt) (rw third.items at none))) work);
@@ -48,5 +49,6 @@ loop-thread-preserved g c =
       answers_few = let was = inv.answers_few in omega (arith, was, more);
       ends_fit = let was = inv.ends_fit in let same = last.capacity in omega arith;
       ends_long = rw last.items (let was = inv.ends_long in omega (arith, was, more, ends));
+      ended = rw last.items (program_threads_fault_more inv.ends_long c.in-Some.thread c.in-Err.fault inv.ended);
       joined = λ none. absurd (none_faulted_not_last c.loop-thread.workers.ends.items c.in-Err.fault (rw last.items at none));
     }

@@ -1,7 +1,7 @@
--- What came of the threads so far, if none of their processors faulted.
+-- What came of the threads so far.
 use Rattle.std.proofs.Common.{◌≡◌, ◌≤◌, ◌++◌, length, vec_len, vec_capacity}
 use Rattle.std.specs.Vec.Iter.{into_iter_items}
-use Rattle.seats.specs.ProgramRuns.{HaveAllJoinedProgramRun}
+use Rattle.seats.specs.ProgramRuns.{HaveAllJoinedProgramRun, HaveEndedInProgramRun}
 use Rattle.seats.specs.ToldFaults.{NoneFaulted}
 use Rattle.seats.proofs.running.threads.join_seat_threads.Given as goal
 
@@ -14,6 +14,7 @@ invariant-loop-thread g l = record {
   answers_few : length l.workers.answers.items ≤ length l.yielded;
   ends_fit : vec_len l.fn.threads ≤ vec_capacity l.workers.ends;
   ends_long : length l.workers.ends.items ≡ length l.yielded;
+  ended : HaveEndedInProgramRun g.P.Program.did l.yielded l.workers.ends.items;
   joined : NoneFaulted l.workers.ends.items
       → HaveAllJoinedProgramRun g.P.Program.did l.yielded l.workers.processors.items l.workers.answers.items;
 }

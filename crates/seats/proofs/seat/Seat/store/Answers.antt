@@ -2,7 +2,7 @@ use Rattle.std.proofs.Common.{◌≡◌, true, sym, subst, ◌∙◌}
 use Rattle.cluster.specs.Copies.Local.{Local}
 use Rattle.cluster.specs.Covers.{HasCoverage}
 use Rattle.seats.specs.KeptLayout.{kept_layout_lets_access}
-use Rattle.seats.specs.declared.word_access.WordAccess.TheVariants.{Store}
+use Rattle.cluster.specs.declared.cluster.accessing.WordAccess.TheVariants.{Store}
 use Rattle.seats.proofs.KeptSeats.{kept_seat_barred, kept_seat_access}
 use Rattle.seats.proofs.StillSitting.{still_sitting_after_access}
 use Rattle.seats.proofs.seat.Seat.store.Goals as goal

@@ -1,5 +1,0 @@
-use Rattle.explore.specs.AllowedAnswers.{AreAllowedAnswersStoredAt}
-use Rattle.explore.proofs.allowed_answers.allowed_answers_stored.Given as goal
-
-abbrev pub invariant-loop-by : goal.invariant-loop-by
-invariant-loop-by l = AreAllowedAnswersStoredAt l.events l.places l.by l.answers.items

@@ -1,6 +1,0 @@
-use Rattle.lrc_script.specs.Plan.{plan_of}
-use Rattle.explore.specs.AllowedSearch.{IsAllowedSearched}
-use Rattle.explore.proofs.allowed_search.AllowedSearch.look_at_all.Given as goal
-
-abbrev pub invariant-loop-looked : goal.invariant-loop-looked
-invariant-loop-looked g l = IsAllowedSearched (plan_of l.script) l.detail l.looked l.self

@@ -1,6 +1,0 @@
-use Rattle.std.proofs.Common.{◌≢◌, ◌<◌, ℕ, Some, slice_get}
-use Rattle.journal.specs.declared.event.Kind.TheVariants.{Load}
-use Rattle.explore.proofs.allowed_words.has_allowed_word.Given as goal
-
-abbrev pub invariant-loop-call : goal.invariant-loop-call
-invariant-loop-call l = (k : ℕ) → k < l.call-index → slice_get l.calls k ≢ Some (Load l.address l.word)

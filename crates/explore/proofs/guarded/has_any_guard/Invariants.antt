@@ -1,5 +1,0 @@
-use Rattle.std.proofs.Common.{ℕ, ◌<◌, IsTrue, false, slice_index_or}
-use Rattle.explore.proofs.guarded.has_any_guard.Given as goal
-
-abbrev pub invariant-loop-lock : goal.invariant-loop-lock
-invariant-loop-lock l = (m : ℕ) → m < l.lock → ¬ IsTrue (slice_index_or l.locks m false)

@@ -1,6 +1,0 @@
-use Rattle.std.proofs.Common.{ℕ, ◌<◌}
-use Rattle.explore.specs.PersistentSets.{IsPersistentMember}
-use Rattle.explore.proofs.persistent_set.first_unsettled.Given as goal
-
-abbrev pub invariant-loop-processor : goal.invariant-loop-processor
-invariant-loop-processor l = (p : ℕ) → p < l.processor → IsPersistentMember l.members p → IsPersistentMember l.settled p

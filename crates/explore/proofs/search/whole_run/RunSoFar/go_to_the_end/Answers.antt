@@ -1,0 +1,11 @@
+use Rattle.std.proofs.Common.{◌∙◌}
+use Rattle.explore.proofs.search.whole_run.RunSoFar.go_to_the_end.Goals as goal
+
+pub go_round-requires : goal.go_round-requires
+go_round-requires c = (c.requires.0, c.requires.1, c.loop.invariant.run c.requires.0 c.requires.1 c.requires.2)
+
+pub loop-preserved : goal.loop-preserved
+loop-preserved c = record {
+  run = λ s lawful has. c.in_ok-go_round.ensures.run s lawful (c.loop.invariant.run s lawful has);
+  telling = c.in_ok-go_round.ensures.telling ∙ c.loop.invariant.telling;
+}

@@ -1,5 +1,0 @@
-use Rattle.explore.specs.TextWalks.{AreTextWalkRowsNew}
-use Rattle.explore.proofs.text_walk.new_walked_rows.Given as goal
-
-abbrev pub invariant-loop : goal.invariant-loop
-invariant-loop l = AreTextWalkRowsNew l.counter l.rows.items

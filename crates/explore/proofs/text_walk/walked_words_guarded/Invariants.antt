@@ -1,6 +1,0 @@
-use Rattle.std.proofs.Common.{◌≡◌, map, take}
-use Rattle.explore.specs.declared.walked_words.WalkedWord.{WalkedWord}
-use Rattle.explore.proofs.text_walk.walked_words_guarded.Given as goal
-
-abbrev pub invariant-loop-word : goal.invariant-loop-word
-invariant-loop-word l = l.guarded.items ≡ map (λ (x : WalkedWord). x.is_guarded) (take l.word-index l.words)

@@ -1,5 +1,0 @@
-use Rattle.explore.proofs.locksets.Noted.{lockset_noted_holds_none}
-use Rattle.explore.proofs.walked_rows.WalkedRow.new.Goals as goal
-
-pub returns-clause-held : goal.returns-clause-held
-returns-clause-held c = λ q. lockset_noted_holds_none 32 q

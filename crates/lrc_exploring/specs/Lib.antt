@@ -1,0 +1,2 @@
+pub mod ExploreAnswers
+pub mod Prelude

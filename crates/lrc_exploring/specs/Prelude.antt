@@ -1,0 +1,2 @@
+-- The words that contracts name, passed on from one place. Declares nothing.
+pub use Rattle.lrc_exploring.specs.ExploreAnswers.{ExploreAnswerTextWritten, ExploreAnswerTold, ExploreAnswerWritten, ExploreCommandWritten, IsExploreAnswerTo, IsRacyShowing, IsRacyVerdict, explore_detail, is_explore_answer_settled}

@@ -1,0 +1,6 @@
+//! What the command prints with `--json`: an object a line, which `told` names.
+
+pub mod allowed;
+pub mod allowed_showing;
+pub mod explored;
+pub mod showing;
