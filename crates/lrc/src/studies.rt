@@ -10,12 +10,34 @@ use lrc_commands::explaining::run_explain_command;
 use lrc_commands::sampling::run_sample_command;
 use lrc_commands::telling::run_tell_command;
 use lrc_exploring::exploring::run_explore_command;
-use lrc_options::options::Asked;
-use lrc_program::ProgramStreams;
-use lrc_program::program::program;
+use lrc_options::options::{Asked, FollowOptions};
+use lrc_program::fault::ProgramFault;
+use lrc_program::program::{program, program_says};
+use lrc_program::{ProgramSource, ProgramStreams};
 use lrc_run::OnCluster;
+use lrc_tester::draw_command::run_draw_command;
+use lrc_tester::follows_command::run_follows_command;
+use std::io::{Read, Write};
 use std::sync::Wait;
 use std::thread::Threads;
+
+/// Tells whether a trace follows its script, which is opened here.
+fn follow<S: Read, W: Write, E: Write>(
+    rt: &HostRuntime,
+    options: &FollowOptions,
+    trace: &mut S,
+    out: &mut W,
+    err: &mut E,
+) -> u8 {
+    let alloc = rt.alloc();
+    match ProgramSource::open(rt, options.script.as_deref()) {
+        Ok(mut script) => run_follows_command(alloc, options, &mut script, trace, out, err),
+        Err(error) => {
+            let fault = ProgramFault::from(error);
+            program_says(alloc, options.script.as_deref(), fault, err)
+        }
+    }
+}
 
 /// Does what is asked for with what the streams give, and answers the status. The handle is what threads are started by.
 fn study<R: Threads + Wait + Sync>(
@@ -46,6 +68,8 @@ fn study<R: Threads + Wait + Sync>(
             run_explore_command(&study, options, source, out, err, &mut progress)
         }
         Asked::Trace(options) => run_check_command(alloc, options, source, out, err),
+        Asked::Draw(options) => run_draw_command(alloc, options, out, err),
+        Asked::Follow(options) => follow(rt, options, source, out, err),
     }
 }
 

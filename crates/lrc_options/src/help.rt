@@ -15,7 +15,8 @@ p 1\\nacquire 0\\nadd 0 1\\nrelease 0\\nshow 0\\n' | lrc step --journal
 
 Statuses: 0 done; 2 the script or the trace is refused; 3 no progress; 4 a limit, out of memory, a
 thread that couldn't be started, or a failed write; 5 usage, or the file can't be read; 6 the trace
-isn't faithful; 7 a search was given up; 8 the trace races, with --race-is-error.";
+isn't faithful, or doesn't follow its script; 7 a search was given up; 8 the trace races, with
+--race-is-error.";
 
 /// The same of a program that has `run` and `step` alone.
 pub(crate) const AFTER_RUN_AND_STEP: &str = "Example:

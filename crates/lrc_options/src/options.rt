@@ -58,14 +58,16 @@ pub struct FollowOptions {
 
 impl Asked {
     /// The file to read from, or None for standard input.
-    pub fn file(&self) -> &Option<String> {
+    pub fn file(&self) -> Option<&str> {
         match self {
-            Asked::Script(options) => &options.file,
-            Asked::Explain(options) => &options.file,
-            Asked::Tell(options) => &options.file,
-            Asked::Sample(options) => &options.file,
-            Asked::Explore(options) => &options.file,
-            Asked::Trace(options) => &options.file,
+            Asked::Script(options) => options.file.as_deref(),
+            Asked::Explain(options) => options.file.as_deref(),
+            Asked::Tell(options) => options.file.as_deref(),
+            Asked::Sample(options) => options.file.as_deref(),
+            Asked::Explore(options) => options.file.as_deref(),
+            Asked::Trace(options) => options.file.as_deref(),
+            Asked::Draw(_) => None,
+            Asked::Follow(options) => options.trace.as_deref(),
         }
     }
 }

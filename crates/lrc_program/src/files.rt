@@ -31,9 +31,9 @@ pub enum ProgramSource {
 
 impl ProgramSource {
     /// The file of this name, or standard input if no file or `-` is named.
-    fn open(rt: &HostRuntime, file: &Option<String>) -> io::Result<ProgramSource> {
-        match program_file_named(file) {
-            None => Ok(ProgramSource::Input(rt.stdin())),
+    pub fn open(rt: &HostRuntime, file: Option<&str>) -> io::Result<ProgramSource> {
+        match file {
+            None | Some("-") => Ok(ProgramSource::Input(rt.stdin())),
             Some(path) => match File::open(rt, path) {
                 Ok(file) => Ok(ProgramSource::File(file)),
                 Err(error) => Err(error),
@@ -62,7 +62,7 @@ pub struct ProgramStreams {
 impl ProgramStreams {
     /// With the file of this name, or standard input if no file or `-` is named. If it can't be opened, says so on standard
     /// error, and gives the exit status of that.
-    pub fn open(rt: &HostRuntime, file: &Option<String>) -> Result<ProgramStreams, u8> {
+    pub fn open(rt: &HostRuntime, file: Option<&str>) -> Result<ProgramStreams, u8> {
         match ProgramSource::open(rt, file) {
             Ok(source) => Ok(ProgramStreams {
                 source,
@@ -71,7 +71,7 @@ impl ProgramStreams {
             }),
             Err(error) => Err(program_says(
                 rt.alloc(),
-                program_file_named(file),
+                file,
                 ProgramFault::from(error),
                 &mut rt.stderr(),
             )),
@@ -94,7 +94,7 @@ pub fn run_program_file<T: ScriptRunner, R: Threads + Wait + Sync>(
 ) -> u8
     requires { 0 < options.now.tries }
 {
-    let mut streams = match ProgramStreams::open(rt, &options.file) {
+    let mut streams = match ProgramStreams::open(rt, options.file.as_deref()) {
         Ok(streams) => streams,
         Err(status) => return status,
     };

@@ -97,7 +97,7 @@ fn follow_sources<S: Read, T: Read, W: Write>(
 ) -> Result<bool, CommandFault>
     ensures done { IfOk result (λ follows. IsFollowsCommandDone follows (S.remaining script.old) (T.remaining trace.old)) }
     ensures refused { IfErr result (λ fault. IsCommandExitStatusOfInput fault
-        → IsServedWithoutScript (S.remaining script.old) ⊎ IsTraceCommandOnNone (T.remaining trace.old)) }
+        → IsServedWithoutScript (S.remaining script.old) ⊎ IsTraceCommandOnNone false (T.remaining trace.old)) }
 {
     let script = program_reads_script(alloc, script, refused.0)?;
     let labelled = check_command_reads_all(alloc, trace, false, refused.1)?;
@@ -121,7 +121,7 @@ pub fn run_follows_command<S: Read, T: Read, W: Write, E: Write>(
     // They had a script and a trace, which doesn't.
     ensures strays { result ≡ 6 → IsFollowsCommandDone false (S.remaining script.old) (T.remaining trace.old) }
     // What is refused is no script, or no trace.
-    ensures refused { result ≡ 2 → IsServedWithoutScript (S.remaining script.old) ⊎ IsTraceCommandOnNone (T.remaining trace.old) }
+    ensures refused { result ≡ 2 → IsServedWithoutScript (S.remaining script.old) ⊎ IsTraceCommandOnNone false (T.remaining trace.old) }
     // If it was told, no line goes to the error output.
     ensures quiet { (result ≡ 0) ⊎ (result ≡ 6) → Keeps (E.contents err.old) (E.contents err.new) }
 {
