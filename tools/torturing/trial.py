@@ -87,8 +87,6 @@ def end_of(status):
     """Why a run is a fault by how it ended, with its kind; None if it isn't."""
     if status is None:
         return HANG, "it didn't end in time"
-    if status == -signal.SIGXFSZ:
-        return NO_TRACE, f"it prints more than {MOST_BYTES} bytes"
     if status < 0:
         return CRASH, f"it died of signal {-status}"
     return (CRASH, f"it ended with status {status}") if status else None
@@ -128,6 +126,8 @@ def tried(task, script):
         status = run_adapter(task, script, output)
         output.seek(0)
         trace = output.read()
+    if len(trace) >= MOST_BYTES:
+        return Trial(NO_TRACE, f"it prints {MOST_BYTES} bytes and more", trace[:1024])
     if fault := end_of(status):
         kind, why = fault
         return Trial(kind, why, trace)
