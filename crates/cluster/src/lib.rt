@@ -6,10 +6,10 @@
 //! it has seen of the journal, its open block, copies, marks, timestamp, locks held and what it waits for. A `Cluster`
 //! is a `SharedCluster`: its lock and sizes. What the book's lock keeps is `KeptViewsInvariant`.
 //!
-//! **What is proved.** The accesses: the answer and each refusal exactly. The calls that enter: `IsProcessorCall`. After each,
-//! `HasCoverage`: what holds of the processor in every journal that the lock allows; `cluster_allowed_law`: there is one.
-//! `audit` and `finish`: faithful histories with each processor's calls. `wait`: it says that all are stuck exactly if the
-//! history that it finds is a deadlock.
+//! **What is proved.** The accesses: the answer and each refusal exactly; `access`, with the fetch and the flush that it needs:
+//! `IsReadyAccess`. The calls that enter: `IsProcessorCall`. After each, `HasCoverage`: what holds of the processor in every
+//! journal that the lock allows; `cluster_allowed_law`: there is one. `audit` and `finish`: faithful histories with each
+//! processor's calls. `wait`: it says that all are stuck exactly if the history that it finds is a deadlock.
 //!
 //! **What is only tested** (in `test_crews`): that no call is refused needlessly, that threads get on, and that nobody
 //! sleeps for ever.

@@ -1,10 +1,9 @@
 //! Calls that close the interval, and wait for what they begin to wait for.
 ghost use Rattle.std.specs.Prelude.{◌≡◌, ◌≢◌, IfErr, OnErr, OnOk, Err, None, Some};
-ghost use Rattle.std.specs.Result.{result_err};
 ghost use Rattle.book.specs.declared.refused.Refused.{Refused as ARefusal};
 ghost use Rattle.book.specs.declared.refused.Refused.TheVariants.{NotYet};
 ghost use Rattle.journal.specs.Prelude.{closing_kind};
-ghost use Rattle.cluster.specs.Prelude.{HasCoverage, processor_refusal_of_closing, IsClosingCall};
+ghost use Rattle.cluster.specs.Prelude.{HasCoverage, processor_refusal_of_closing};
 ghost use Rattle.seats.specs.Prelude.{HasDone, IsSeatCallTaken, IsLeftUndone, IsSeatCallUndone, SeatCallWaitsStill, seat_call_and_answer};
 ghost use Rattle.seats.specs.Prelude.{IsSeatCallFault, IsSeatCallWaitFault, IsSeatCallWaitTold, processor_refusal_or_spent};
 ghost use Rattle.seats.specs.declared.fault.SeatFault.TheVariants as fault;
@@ -32,29 +31,9 @@ pub(crate) fn pass<R: Wait>(
         → (result ≡ Err (fault.Refused e)) × (processor.new ≡ processor.old) }
     ensures fault { IfErr result (IsSeatCallFault processor.old processor.new (closing_kind closing)) }
 {
-    match close(rt, cluster, processor, closing) {
+    match cluster.close(rt, processor, closing) {
         Ok(()) => finish_seat_closing(rt, cluster, processor),
         Err(refused) => Err(SeatFault::Refused(refused)),
-    }
-}
-
-/// Makes the call that closes the interval.
-fn close<R: Wait>(
-    rt: &R,
-    cluster: &Cluster<BookLock>,
-    processor: &mut Processor<BookLock>,
-    closing: Closing,
-) -> Result<(), Refused>
-    requires own { processor.old.lock ≡ cluster.now.lock }
-    ensures { IsClosingCall (processor_refusal_of_closing processor.old (closing_kind closing)) (closing_kind closing)
-        processor.old processor.new (result_err result) }
-{
-    match closing {
-        Closing::Ask(lock) => cluster.ask(rt, processor, lock),
-        Closing::Release(lock) => cluster.release(rt, processor, lock),
-        Closing::Arrive => cluster.arrive(rt, processor),
-        Closing::Set(flag) => cluster.set(rt, processor, flag),
-        Closing::Watch(flag) => cluster.watch(rt, processor, flag),
     }
 }
 

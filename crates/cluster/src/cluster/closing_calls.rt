@@ -20,8 +20,9 @@ use std::sync::{Arc, Wait};
 
 impl<T: BookTurn> Cluster<T> {
     /// Hands the block in, closes the interval by this call, and from then on waits for what comes after it,
-    /// if the processor may. The records are harvested before the book is entered.
-    pub(super) fn close<R: Wait>(
+    /// if the processor may: as [`ask`](Cluster::ask), [`release`](Cluster::release), [`arrive`](Cluster::arrive),
+    /// [`set`](Cluster::set) or [`watch`](Cluster::watch) does. The records are harvested before the book is entered.
+    pub fn close<R: Wait>(
         &self,
         rt: &R,
         processor: &mut Processor<T>,

@@ -1,5 +1,5 @@
 use Rattle.std.proofs.Common.{rules, ◌≡◌, ◌++◌, ◌∷◌, [], get_or, arith}
-use Rattle.std.proofs.lemmas.Grind.{common_steps}
+use Rattle.std.proofs.lemmas.Grind.{common_steps, elements}
 use Rattle.lrc_run.proofs.MoreCalls.{makes_more_calls_loads_more}
 use Rattle.lrc_run.proofs.shown.show.Goals as goal
 
@@ -13,3 +13,9 @@ loop-address-preserved g c =
           c.push.new.self.items a c.in_ok-word.word more c.loop-address.invariant.loads c.in_ok-word.ensures;
       addresses = first_of (search rules, grind (arith, common_steps));
     }
+
+pub returns-clause-addresses : goal.returns-clause-addresses
+returns-clause-addresses g c = grind (arith, elements)
+
+pub returns-in_err-map_err-clause-addresses : goal.returns-in_err-map_err-clause-addresses
+returns-in_err-map_err-clause-addresses g c = grind (arith, common_steps)
