@@ -199,6 +199,21 @@ impl LabelledAccesses {
         }
     }
 
+    /// Keeps this access of the word. The only error is running out of memory.
+    fn keep_access(
+        &mut self,
+        alloc: Global,
+        word: AccessedWord,
+        access: LabelledAccess,
+    ) -> Result<(), AllocError> {
+        if let Some(accesses) = self.last.get_mut(&word) {
+            return keep_labelled_access(accesses, access);
+        }
+        let accesses = first_labelled_access(alloc, access)?;
+        self.last.insert(word, accesses)?;
+        Ok(())
+    }
+
     /// Keeps the event, if it is an access. The only error is running out of memory.
     fn keep(
         &mut self,
@@ -218,12 +233,7 @@ impl LabelledAccesses {
             value,
             stores,
         };
-        if let Some(accesses) = self.last.get_mut(&word) {
-            return keep_labelled_access(accesses, access);
-        }
-        let accesses = first_labelled_access(alloc, access)?;
-        self.last.insert(word, accesses)?;
-        Ok(())
+        self.keep_access(alloc, word, access)
     }
 
     /// Lets go of the labels that no access has any more, if most labels may be such. The only error is running out of memory, after
@@ -360,6 +370,20 @@ impl LabelledAccesses {
         self.keep_paired(alloc, gone, address, second)
     }
 
+    /// What is kept of an access of a word without a lock. The only error is running out of memory.
+    fn told_access(
+        &self,
+        alloc: Global,
+        address: usize,
+        access: PairedAccess,
+    ) -> Result<Option<KnownEvent>, AllocError> {
+        let PairedAccess { place, processor } = access;
+        match self.found.get(&place) {
+            Some(known) => Ok(Some(KnownEvent::of(alloc, place, known.event, &known.label)?)),
+            None => self.last_at(alloc, AccessedWord { address, processor }, place),
+        }
+    }
+
     /// Adds what is kept of the accesses of a word without a lock that aren't at hand any more. The only error is running out of
     /// memory.
     fn tell_word(
@@ -370,20 +394,12 @@ impl LabelledAccesses {
         told: &mut Vec<KnownEvent>,
     ) -> Result<(), AllocError> {
         for access in accesses_of_unprotected(word) {
-            let Some(PairedAccess { place, processor }) = access else {
+            let Some(access) = access else {
                 continue;
             };
-            if place >= gone {
-                continue;
-            }
-            let address = word.address;
-            if let Some(known) = self.found.get(&place) {
-                told.push(KnownEvent::of(alloc, place, known.event, &known.label)?)?;
-            } else if let Some(known) = self.last_at(
-                alloc,
-                AccessedWord { address, processor },
-                place,
-            )? {
+            if access.place < gone
+                && let Some(known) = self.told_access(alloc, word.address, access)?
+            {
                 told.push(known)?;
             }
         }

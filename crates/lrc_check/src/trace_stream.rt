@@ -387,6 +387,22 @@ impl TraceStream {
             .tell(alloc, self.reader.gone(), words, &mut self.kept)
     }
 
+    /// Adds to what was found what else is told, as `judged` says. The only error is running out of memory.
+    // What is told is large and wants a drop: so it is filled in where it is only borrowed.
+    fn complete(&mut self, alloc: Global, judged: &mut JudgedTrace) -> Result<(), AllocError>
+        requires { (front : List AnEvent) × IsFoundInStream front judged.old.found self.old }
+        ensures found { judged.new.found ≡ judged.old.found }
+        ensures unprotected { OnOk result ((front : List AnEvent) (is : IsFoundInStream front judged.old.found self.old)
+            → AreUnprotectedTold (unprotected_looked_for self.old.rules.locksets judged.old.found) (trace_sizes_of is.known)
+            (front ++ self.old.reader.events) judged.new.unprotected.items) }
+    {
+        judged.race = self.race_apart(alloc, judged.found.race)?;
+        judged.unprotected = self.unprotected(alloc, &judged.found)?;
+        self.keep_told(alloc, &judged.found.verdict, &judged.unprotected)?;
+        judged.waits = self.waits(alloc, &judged.found)?;
+        Ok(())
+    }
+
     /// What was found, as it is told: with what keeps the race's accesses apart, and who waits at the end, if all events are at hand
     /// and no more than `MOST_HELD`, and with the words that need a lock and have none, if these are asked for and it is faithful
     /// without a race. The only error is running out of memory.
@@ -397,17 +413,15 @@ impl TraceStream {
             → AreUnprotectedTold (unprotected_looked_for self.old.rules.locksets found) (trace_sizes_of is.known)
             (front ++ self.old.reader.events) x.unprotected.items) }
     {
-        let race = self.race_apart(alloc, found.race)?;
-        let unprotected = self.unprotected(alloc, &found)?;
-        self.keep_told(alloc, &found.verdict, &unprotected)?;
-        let waits = self.waits(alloc, &found)?;
-        Ok(JudgedTrace {
+        let mut judged = JudgedTrace {
             found,
-            race,
-            unprotected,
-            waits,
+            race: None,
+            unprotected: Vec::new(alloc),
+            waits: Vec::new(alloc),
             unfinished: self.reader.unfinished_line(),
-        })
+        };
+        self.complete(alloc, &mut judged)?;
+        Ok(judged)
     }
 
     /// The events that can be told: those at hand, with their labels, and of those before the accesses of the race, the stores that a

@@ -82,6 +82,26 @@ fn put_unprotected_guard(
     Ok(())
 }
 
+/// Adds what kind of word it is, and its address.
+fn put_unprotected_name(
+    text: &mut Vec<u8>,
+    alloc: Global,
+    word: Unprotected,
+) -> Result<(), AllocError> {
+    let Unprotected {
+        address,
+        guarded,
+        ..
+    } = word;
+    let name = match guarded {
+        Some(_) => "unprotected",
+        None => "handed over",
+    };
+    let head = format!(in alloc; "{name} {address}: ")?;
+    text.extend_from_slice(head.as_bytes())?;
+    Ok(())
+}
+
 /// Adds the line of a word that needs a lock and has none: at times, or never, and then it is handed over.
 fn put_unprotected_word(
     text: &mut Vec<u8>,
@@ -90,16 +110,11 @@ fn put_unprotected_word(
     word: Unprotected,
 ) -> Result<(), AllocError> {
     let Unprotected {
-        address,
         unguarded,
         guarded,
+        ..
     } = word;
-    let name = match guarded {
-        Some(_) => "unprotected",
-        None => "handed over",
-    };
-    let head = format!(in alloc; "{name} {address}: ")?;
-    text.extend_from_slice(head.as_bytes())?;
+    put_unprotected_name(text, alloc, word)?;
     put_unprotected_maker(text, alloc, told, unguarded.0)?;
     text.extend_from_slice(b" and ")?;
     put_unprotected_maker(text, alloc, told, unguarded.1)?;

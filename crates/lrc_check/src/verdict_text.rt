@@ -361,6 +361,50 @@ fn verdict_text_opening(
     Ok(text)
 }
 
+/// Adds what was found of a faithful trace: what isn't judged, its race, its words without a lock, who waits, and its traffic.
+fn put_verdict_faithful_text(
+    text: &mut Vec<u8>,
+    alloc: Global,
+    told: ToldEvents<'_>,
+    judged: &JudgedTrace,
+    rules: Rules,
+    traffic: Traffic,
+    unjudged: usize,
+) -> Result<(), AllocError> {
+    let is_racy = judged.found.race.is_some();
+    text.extend_from_slice(b"faithful\n")?;
+    put_verdict_unjudged_text(text, rules)?;
+    put_verdict_unjudged_loads_text(text, alloc, rules, is_racy, unjudged)?;
+    if !is_racy {
+        text.extend_from_slice(b"verdict race-free\n")?;
+    }
+    put_verdict_race_text(text, alloc, told, judged)?;
+    put_unprotected_text(text, alloc, told, &judged.unprotected)?;
+    put_waits_text(text, alloc, &judged.waits)?;
+    put_verdict_traffic_text(text, alloc, traffic)?;
+    put_verdict_unfinished_text(text, alloc, judged.unfinished)
+}
+
+/// Adds what was found of the trace.
+fn put_verdict_found_text(
+    text: &mut Vec<u8>,
+    alloc: Global,
+    told: ToldEvents<'_>,
+    judged: &JudgedTrace,
+    rules: Rules,
+) -> Result<(), AllocError> {
+    match &judged.found.verdict {
+        TraceVerdict::Faithful { traffic, unjudged } => {
+            put_verdict_faithful_text(text, alloc, told, judged, rules, *traffic, *unjudged)
+        }
+        TraceVerdict::Lie(lie) => {
+            put_verdict_race_text(text, alloc, told, judged)?;
+            put_verdict_lie_text(text, alloc, told, lie)
+        }
+        TraceVerdict::Racy => put_verdict_race_text(text, alloc, told, judged),
+    }
+}
+
 /// The text of what was found of this trace. The only error is running out of memory.
 pub(crate) fn verdict_text_of(
     alloc: Global,
@@ -368,27 +412,7 @@ pub(crate) fn verdict_text_of(
     judged: &JudgedTrace,
     rules: Rules,
 ) -> Result<Vec<u8>, AllocError> {
-    let is_racy = judged.found.race.is_some();
     let mut text = verdict_text_opening(alloc, judged.found.count, rules.model)?;
-    match &judged.found.verdict {
-        TraceVerdict::Faithful { traffic, unjudged } => {
-            text.extend_from_slice(b"faithful\n")?;
-            put_verdict_unjudged_text(&mut text, rules)?;
-            put_verdict_unjudged_loads_text(&mut text, alloc, rules, is_racy, *unjudged)?;
-            if !is_racy {
-                text.extend_from_slice(b"verdict race-free\n")?;
-            }
-            put_verdict_race_text(&mut text, alloc, told, judged)?;
-            put_unprotected_text(&mut text, alloc, told, &judged.unprotected)?;
-            put_waits_text(&mut text, alloc, &judged.waits)?;
-            put_verdict_traffic_text(&mut text, alloc, *traffic)?;
-            put_verdict_unfinished_text(&mut text, alloc, judged.unfinished)?;
-        }
-        TraceVerdict::Lie(lie) => {
-            put_verdict_race_text(&mut text, alloc, told, judged)?;
-            put_verdict_lie_text(&mut text, alloc, told, lie)?;
-        }
-        TraceVerdict::Racy => put_verdict_race_text(&mut text, alloc, told, judged)?,
-    }
+    put_verdict_found_text(&mut text, alloc, told, judged, rules)?;
     Ok(text)
 }
