@@ -82,7 +82,7 @@ events_noted_next s rows come steps now g e h old step at fits = record {
 pub events_noted_call : (s : Plan) (rows : List (Vec ScriptCall)) (come : List Come) (steps : List ScriptCall) (now next : Come) (g : List Event) (e : Event)
     → IsNextCallNoted s rows come steps now e → HaveCome s come g
     → (step : ScriptCall) × (slice_get steps now.made ≡ Some step) × FitsScriptCall now.reply step e.kind
-      × (next.made ≡ now.made + 1) × (next.reply ≡ script_call_reply_after now.reply e.kind)
+    × (next.made ≡ now.made + 1) × (next.reply ≡ script_call_reply_after now.reply e.kind)
     → HaveCome s (slice_set come e.processor next) (g ++ e ∷ [])
 events_noted_call s rows come steps now next g e h old is = record {
   long = length-set come e.processor next ∙ old.long;

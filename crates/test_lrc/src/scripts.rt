@@ -1,7 +1,7 @@
 //! Scripts that are printed: drawn ones, and the greatest. What is read of scripts is in `tests/texts` and `tests/sweeping`.
 
-use lrc_tester::drawing::draw::{free, guarded};
 use lrc_script::script::{Instruction, MOST_BYTES, Script, parse};
+use lrc_tester::drawing::draw::{free, guarded};
 use std::alloc::{AllocError, Global};
 use std::process::Abort;
 use std::test::Fail;
