@@ -237,17 +237,6 @@ ready_access_full l n a r room unready = elim (ready_access_why l a BlockFull un
   ]
 ]
 
--- an access that is refused otherwise is refused at once
-pub ready_access_otherwise : (l : Local) (a : ℕ) (e : Refused) → ((page : ℕ) → e ≢ Invalid page) → e ≢ BlockFull
-    → IsAccessUnready l a e → IsReadyAccessRefused l a l e
-ready_access_otherwise l a e stale full unready = elim (ready_access_why l a e unready) [
-  | inl past ↦ inl (past.1 ∙ ap Some (sym past.0), refl)
-  | inr inside ↦ elim inside.1 [
-    | inl one ↦ absurd (stale (a / l.sizes.words) one.0)
-    | inr one ↦ absurd (full one.0)
-  ]
-]
-
 -- an access that found all ready
 pub ready_access_found : (m n : Local) (a : ℕ) (x : WordAccess) (v : ℕ) → processor_refusal_of_access m a ≡ None → HasCoverage m
     → IsWordAccessDone m x a v n → HasCoverage n → IsReadyAccess m a x n (Ok v)

@@ -1,5 +1,6 @@
-use Rattle.std.proofs.Common.{subst, sym}
+use Rattle.std.proofs.Common.{subst, sym, arith}
 use Rattle.std.proofs.lemmas.Result.{err_from_is_err_and}
+use Rattle.std.proofs.lemmas.Grind.{common_steps}
 use Rattle.cluster.specs.ReadyAccess.{IsAccessUnready, IsReadyAccessRefused}
 use Rattle.cluster.proofs.ReadyAccess.{ready_access_after_fetch, ready_access_fetch_refused, ready_access_full}
 use Rattle.cluster.proofs.cluster.Cluster.make_ready.Goals as goal
@@ -25,3 +26,6 @@ returns-in-BlockFull g c = λ a unready.
     let m = c.args.processor.now in
     let room = c.make_room-in-BlockFull in
     ready_access_full m room.new.processor a room.result room.ensures.room (subst (IsAccessUnready m a) c.in-BlockFull.is unready)
+
+pub returns-in_default : goal.returns-in_default
+returns-in_default g c = grind (arith, common_steps)
