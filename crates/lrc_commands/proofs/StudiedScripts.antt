@@ -1,5 +1,5 @@
 -- A script that was read and then studied.
-use Rattle.std.proofs.Common.{◌≡◌, ◌∙◌, ℕ, Bool, true, List, subst, Option, Some, None, Result, Ok, Err, OnOk}
+use Rattle.std.proofs.Common.{◌≡◌, ◌∙◌, ℕ, Bool, true, List, subst, sym, Option, Some, None, Result, Ok, Err, OnOk}
 use Rattle.std.specs.Prelude.{IfErr, IfOk, is_some, option_map, string_bytes}
 use Rattle.std.proofs.lemmas.Option.{none-some, same_Some}
 use Rattle.conformance.specs.declared.ended.Ended.{Ended}
@@ -10,7 +10,7 @@ use Rattle.lrc_script.specs.Plan.{Plan}
 use Rattle.lrc_program.specs.Served.{IsServedWithoutScript, IsServedScriptRead}
 use Rattle.lrc_options.specs.declared.options.ExplainOptions.{ExplainOptions}
 use Rattle.lrc_commands.specs.declared.fault.CommandFault.{CommandFault}
-use Rattle.lrc_commands.specs.ExplainCommand.{IsExplainCommandEnd, IsExplainCommandOnSource, IsExplainCommandRun}
+use Rattle.lrc_commands.specs.ExplainCommand.{ExplainCommandWritten, is_explain_command_halted, IsExplainCommandEnd, IsExplainCommandOnSource, IsExplainCommandRun}
 use Rattle.lrc_sample.specs.SampleRuns.{IsSampleOfRuns}
 use Rattle.lrc_sample.specs.declared.detail.SampleDetail.{SampleDetail}
 use Rattle.lrc_sample.specs.declared.sampling.Sampled.{Sampled}
@@ -49,6 +49,15 @@ pub studied_script_sampled : {A : Type 0} (came : Plan → Option ℕ → DrawnR
 studied_script_sampled came d runs json script source old new (Ok x) read written =
     record { script = script; read = read; sample = written }
 studied_script_sampled came d runs json script source old new (Err fault) read written = tt
+
+-- its run was told
+pub studied_script_told : {A : Type 0} (picture : Bool) (o : ExplainOptions) (script : Plan) (ended : Ended) (old new : Option (List ℕ))
+    (result : Result (Option A) CommandFault) → IsExplainCommandEnd o script ended
+    → IfOk result (λ line. is_some line ≡ is_explain_command_halted ended) → IfOk result (λ _. ExplainCommandWritten picture old new ended)
+    → IfOk result (λ line. IsExplainCommandRun picture (is_some line) o script old new)
+studied_script_told picture o script ended old new (Ok line) end halted told =
+    record { ended = ended; end = end; halted_is = sym halted; told = told }
+studied_script_told picture o script ended old new (Err fault) end halted told = tt
 
 -- it was explained
 pub studied_script_explained : {A : Type 0} (picture : Bool) (o : ExplainOptions) (script : Plan)

@@ -350,7 +350,7 @@ fn check_command_judges_and_tells<S: Read, W: Write>(
 }
 
 /// Reads a trace, judges it as it is read, and writes what was found: how judging ended.
-// What is judged is large and wants a drop: so it stands beside one call alone, which borrows it.
+// What is judged is large and wants a drop: so it stands beside one call alone, which borrows it, and its drop is a call.
 fn check_command_on_source<S: Read, W: Write>(
     alloc: Global,
     options: &TraceOptions,
@@ -365,7 +365,9 @@ fn check_command_on_source<S: Read, W: Write>(
         (λ fault. IsCommandExitStatusBeforeAnswer fault → Keeps (W.contents out.old) (W.contents out.new)) }
 {
     let mut stream = TraceStream::new(alloc, check_command_rules(options));
-    check_command_judges_and_tells(alloc, options, source, &mut stream, refused, out)
+    let judged = check_command_judges_and_tells(alloc, options, source, &mut stream, refused, out);
+    drop(stream);
+    judged
 }
 
 /// Judges the trace of `source` as the options say: writes what was found to `out`, or one line to `err`, and answers

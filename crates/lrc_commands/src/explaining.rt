@@ -141,8 +141,28 @@ fn explain_command_end<T: ScriptRunner, R: Wait>(
     }
 }
 
-/// Runs a script and tells the run, or draws it. Answers the line that standard error gets if it can't go on: there is
-/// memory for that before anything is written.
+/// Tells how a run of the script ended, or draws it. Answers the line that standard error gets if it can't go on: there is memory
+/// for that before anything is written.
+fn explain_command_tells_end<W: Write>(
+    alloc: Global,
+    options: &ExplainOptions,
+    script: &Script,
+    ended: &Ended,
+    out: &mut W,
+) -> Result<Option<String>, CommandFault>
+    ensures halted { IfOk result (λ line. is_some line ≡ is_explain_command_halted ended.now) }
+    ensures told { IfOk result (λ _. ExplainCommandWritten options.now.showing.picture
+        (W.contents out.old) (W.contents out.new) ended.now) }
+    ensures runs { IfErr result (λ fault. IsCommandExitStatusOfInput fault → ⊥) }
+    ensures early { IfErr result
+        (λ fault. IsCommandExitStatusBeforeAnswer fault → Keeps (W.contents out.old) (W.contents out.new)) }
+{
+    let line = explain_command_halt_line(alloc, options.file.as_deref(), ended)?;
+    explain_command_prints_end(alloc, options, script, ended, out)?;
+    Ok(line)
+}
+
+/// Runs a script and tells the run, or draws it. Answers the line that standard error gets if it can't go on.
 fn explain_command_prints_run<T: ScriptRunner, R: Wait, W: Write>(
     study: &Study<'_, T, R>,
     options: &ExplainOptions,
@@ -156,11 +176,10 @@ fn explain_command_prints_run<T: ScriptRunner, R: Wait, W: Write>(
     ensures early { IfErr result
         (λ fault. IsCommandExitStatusBeforeAnswer fault → Keeps (W.contents out.old) (W.contents out.new)) }
 {
-    let alloc = study.alloc;
     let ended = explain_command_end(study, options, script)?;
-    let line = explain_command_halt_line(alloc, options.file.as_deref(), &ended)?;
-    explain_command_prints_end(alloc, options, script, &ended, out)?;
-    Ok(line)
+    let told = explain_command_tells_end(study.alloc, options, script, &ended, out);
+    drop(ended);
+    told
 }
 
 /// Reads a script, runs it and tells the run, or draws it.

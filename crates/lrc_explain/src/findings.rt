@@ -2,7 +2,8 @@
 ghost use Rattle.std.specs.Prelude.{◌≡◌, ◌≤◌, IfOk, IsTrue, MatchOption, length, vec_len};
 ghost use Rattle.base.specs.Prelude.{most_processors};
 ghost use Rattle.journal.specs.Prelude.{IsFirstRace, RaceFree};
-ghost use Rattle.causes.specs.Prelude.{IsRaceApart};
+ghost use Rattle.judge.specs.Sources.Prelude.{AreLatestRows};
+ghost use Rattle.causes.specs.Prelude.{ArePathWays, IsRaceApart};
 
 use crate::earlier::{Earlier, earlier_stores_before};
 use crate::journey::journey_to_each_load;
@@ -90,6 +91,46 @@ pub fn race_finding_of(
     }
 }
 
+/// Adds what is found of the loads of the history by the latest stores before each event, and by the ways between events. The
+/// only error is running out of memory.
+fn add_load_findings_by(
+    found: &mut LoadFindings,
+    alloc: Global,
+    history: &History<'_>,
+    words: Option<usize>,
+    latest: &[Vec<usize>],
+    ways: &Ways,
+) -> Result<(), AllocError>
+    requires long { length latest.now ≡ length history.now.events }
+    requires latest { AreLatestRows history.now.events latest.now }
+    requires ways { ArePathWays history.now.events ways.now }
+    requires origins { vec_len found.old.origins ≡ length history.now.events }
+{
+    let events = history.events();
+    let sources = sources_of_loads(alloc, history, latest, &found.origins)?;
+    found.sources = sources;
+    found.rivals = rivals_of(alloc, ways, events, words, latest, &found.sources)?;
+    found.ways = journey_to_each_load(alloc, ways, events, &found.sources)?;
+    found.strays = strays_of(alloc, ways, events, &found.sources)?;
+    Ok(())
+}
+
+/// Adds what is found of the loads of the history, of which the words are told if they have so many a page. The only error is
+/// running out of memory.
+fn add_load_findings(
+    found: &mut LoadFindings,
+    alloc: Global,
+    history: &History<'_>,
+    words: Option<usize>,
+) -> Result<(), AllocError>
+    requires { vec_len found.old.origins ≡ length history.now.events }
+{
+    found.earlier = earlier_stores_before(alloc, history)?;
+    let latest = latest_rows(alloc, history)?;
+    let ways = Ways::new(alloc, history)?;
+    add_load_findings_by(found, alloc, history, words, &latest, &ways)
+}
+
 /// What is found of the loads of the history, whose words come from these origins; with pages, also where what they answer was
 /// fetched. The only error is running out of memory.
 fn load_findings_of(
@@ -100,23 +141,19 @@ fn load_findings_of(
 ) -> Result<LoadFindings, AllocError>
     requires { vec_len origins ≡ length history.now.events }
 {
-    let events = history.events();
     let words = pages.then_some(history.sizes().words);
-    let latest = latest_rows(alloc, history)?;
-    let sources = sources_of_loads(alloc, history, &latest, &origins)?;
-    let earlier = earlier_stores_before(alloc, history)?;
-    let all_ways = Ways::new(alloc, history)?;
-    let rivals = rivals_of(alloc, &all_ways, events, words, &latest, &sources)?;
-    let ways = journey_to_each_load(alloc, &all_ways, events, &sources)?;
-    let strays = strays_of(alloc, &all_ways, events, &sources)?;
-    Ok(LoadFindings {
-        sources,
+    let mut found = LoadFindings {
+        sources: Vec::new(alloc),
         origins,
-        rivals,
-        earlier,
-        ways,
-        strays,
-    })
+        rivals: Vec::new(alloc),
+        earlier: Vec::new(alloc),
+        ways: Vec::new(alloc),
+        strays: Vec::new(alloc),
+    };
+    match add_load_findings(&mut found, alloc, history, words) {
+        Ok(()) => Ok(found),
+        Err(error) => Err(error),
+    }
 }
 
 /// The protocol's state at each event of the history that is asked for; nothing where `asked` hasn't one for each event. The

@@ -38,7 +38,9 @@ fn explore_script<T: ScriptRunner, R: Wait, W: Write, P: Progress>(
         (λ fault. IsCommandExitStatusBeforeAnswer fault → Keeps (W.contents out.old) (W.contents out.new)) }
 {
     let found = answer(study, options, script, progress)?;
-    tell_answer(study.alloc, options, script, &found, out)
+    let told = tell_answer(study.alloc, options, script, &found, out);
+    drop(found);
+    told
 }
 
 /// Reads a script, looks for what the options ask for, and writes what was found. Answers whether nothing is open.

@@ -60,6 +60,20 @@ struct Misuse<'a> {
     owner: &'static str,
 }
 
+/// The fault of usage of this kind that a command is given, as this text says.
+fn usage_fault(
+    alloc: Global,
+    command: &str,
+    kind: ErrorKind,
+    text: &str,
+) -> Result<Error, AllocError>
+    ensures { IfOk result (λ e. kind_of e ≡ kind) }
+{
+    let usage = format!(in alloc; "lrc {command} [OPTIONS] [FILE]")?;
+    let mut lrc = Command::new(alloc, "lrc").override_usage(&usage);
+    lrc.error(kind, text)
+}
+
 impl Misuse<'_> {
     /// The fault of usage, which says who has the option.
     fn fault(self, alloc: Global) -> Result<Error, AllocError>
@@ -73,9 +87,7 @@ impl Misuse<'_> {
         let text = format!(in alloc;
             "unexpected argument '{option}' found\n\n  tip: 'lrc {owner}' has '{option}'"
         )?;
-        let usage = format!(in alloc; "lrc {command} [OPTIONS] [FILE]")?;
-        let mut lrc = Command::new(alloc, "lrc").override_usage(&usage);
-        lrc.error(ErrorKind::UnknownArgument, &text)
+        usage_fault(alloc, command, ErrorKind::UnknownArgument, &text)
     }
 }
 
@@ -87,9 +99,7 @@ pub(crate) fn misuse_by_exclusion(
 ) -> Result<Error, AllocError>
     ensures { IfOk result (λ e. kind_of e ≡ ErrorKind.ArgumentConflict) }
 {
-    let usage = format!(in alloc; "lrc {command} [OPTIONS] [FILE]")?;
-    let mut lrc = Command::new(alloc, "lrc").override_usage(&usage);
-    lrc.error(ErrorKind::ArgumentConflict, text)
+    usage_fault(alloc, command, ErrorKind::ArgumentConflict, text)
 }
 
 /// The fault of usage that what the command is given for this option, whose value is written so, isn't what this says.
@@ -107,9 +117,7 @@ pub(crate) fn misuse_by_unread_value(
     let text = format!(in alloc;
         "invalid value '{given}' for '--{option} <{value}>': it isn't {want}"
     )?;
-    let usage = format!(in alloc; "lrc {command} [OPTIONS] [FILE]")?;
-    let mut lrc = Command::new(alloc, "lrc").override_usage(&usage);
-    lrc.error(ErrorKind::ValueValidation, &text)
+    usage_fault(alloc, command, ErrorKind::ValueValidation, &text)
 }
 
 /// Whether it is a command.

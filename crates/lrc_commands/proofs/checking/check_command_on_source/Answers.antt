@@ -8,4 +8,4 @@ returns-clause-judged g c =
     judged_source_answered_by c.new-stream.result.rules _ _ _ _ _
     (ap (λ (r : Rules). r.model) c.new-stream.ensures.rules ∙ c.check_command_rules.ensures.model)
     (ap (λ (r : Rules). r.lax) c.new-stream.ensures.rules ∙ c.check_command_rules.ensures.lax)
-    c.check_command_judges_and_tells.ensures.judged
+    c.check_command_judges_and_tells-judged.ensures.judged
