@@ -1,2 +1,3 @@
 pub mod EventsNoted
 pub mod Promised
+pub mod Followed
