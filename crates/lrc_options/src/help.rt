@@ -269,9 +269,10 @@ pub(crate) const FOLLOWS: &str =
     "The script is as `lrc run --help` tells it, and a trace as `lrc check --help` does; both can't be standard input.
 What is printed:
   follows                each processor's events, fetches aside, are what its section says, then a last barrier,
-                         and of processor 0 the loads of the shown words
-  strays I               what stands before event I does so, and with event I it doesn't; then the event's line
-  unfinished P           all events do so, and processor P hasn't come to its end
+                         and of processor 0 the loads of the shown words; asks and watches have to be written
+  strays I               what stands before event I does so, and with event I it doesn't
+  unfinished P           all events do so, and processor P is the least that hasn't come to its end
+  other sizes            the first line of the trace isn't the script's
 
 Statuses: 0 it follows; 2 the script or the trace is refused; 4 out of memory, or a failed write; 5 usage, or
 a file can't be read; 6 it doesn't follow.";
