@@ -1,5 +1,5 @@
 -- What the commands `draw` and `follows` have done.
-use Rattle.std.specs.Prelude.{ℕ, ◌≡◌, Bool, true, false, IsTrue, List, Option, codes, cond, option_map, string_bytes}
+use Rattle.std.specs.Prelude.{ℕ, ◌≡◌, Bool, true, false, IsTrue, List, Option, None, Some, codes, cond, option_map, string_bytes}
 use Rattle.std.specs.Option.{option_map_or}
 use Rattle.std.specs.Str.{bytes_eq}
 use Rattle.std.specs.Io.KnownBytes.{Appends}
@@ -12,7 +12,9 @@ use Rattle.conformance.specs.Follows.{Follows, plan_sizes}
 use Rattle.lrc_options.specs.declared.options.DrawOptions.{DrawOptions}
 use Rattle.lrc_program.specs.Prelude.{IsServedScriptRead}
 use Rattle.lrc_commands.specs.Prelude.{HasTraceCommandText}
-use Rattle.lrc_tester.specs.Patterns.{NeverHangsFlat, never_races_by_pattern}
+use Rattle.lrc_tester.specs.Drawing.Draw.{drawn, seeded}
+use Rattle.lrc_tester.specs.Patterns.{NeverHangsFlat, never_races_by_pattern, plain_style}
+use Rattle.lrc_tester.specs.declared.drawing.draw.Style.{Style}
 use Rattle.lrc_tester.specs.declared.pattern.Pattern.{Pattern}
 use Rattle.lrc_tester.specs.declared.pattern.Pattern.TheVariants as pattern
 
@@ -31,12 +33,27 @@ pattern_of_name name = cond (bytes_eq name (codes "guarded")) pattern.Guarded
 abbrev pub drawn_pattern : DrawOptions → Pattern
 drawn_pattern o = option_map_or (λ name. pattern_of_name (string_bytes name)) o.pattern pattern.Mixed
 
--- a lawful script was written which never hangs, and never races if its pattern promises so
+-- the seed that they give, or 0
+abbrev pub drawn_seed : DrawOptions → ℕ
+drawn_seed o = option_map_or (λ n. n) o.seed 0
+
+-- they give no size
+pub record AreSizesLeftOut (o : DrawOptions) : Type 0 where
+  pub processors : o.processors ≡ None
+  pub pages : o.pages ≡ None
+  pub words : o.words ≡ None
+  pub locks : o.locks ≡ None
+  pub flags : o.flags ≡ None
+  pub length : o.length ≡ None
+
+-- a lawful script was written which never hangs, and never races if its pattern promises so; it is the stated one of this seed, if its
+-- pattern has stated draws and no size is given
 pub record IsScriptDrawn (o : DrawOptions) (old new : Option (List ℕ)) : Type 0 where
   pub script : Plan
   pub lawful : IsLawful script
   pub race_free : IsTrue (never_races_by_pattern (drawn_pattern o)) → NeverRacesFlat script
   pub never_hangs : NeverHangsFlat script
+  pub stated : AreSizesLeftOut o → (style : Style) → plain_style (drawn_pattern o) ≡ Some style → script ≡ drawn style (seeded (drawn_seed o))
   pub written : Appends old new (text script)
 
 -- the sources have this script, and a trace of these sizes and events

@@ -1,8 +1,9 @@
 //! The command that draws a script, over its writers.
-ghost use Rattle.std.specs.Prelude.{◌≡◌, ◌≢◌, IfErr, IfOk, OnOk, string_bytes};
+ghost use Rattle.std.specs.Prelude.{◌≡◌, ◌≢◌, IfErr, IfOk, None, OnOk, string_bytes};
 ghost use Rattle.std.specs.Io.KnownBytes.{Appends, Keeps};
 ghost use Rattle.lrc_script.specs.Prelude.{IsLawful, plan_of, text};
-ghost use Rattle.lrc_tester.specs.Commands.{IsScriptDrawn, drawn_pattern, pattern_of_name};
+ghost use Rattle.lrc_tester.specs.Commands.{AreSizesLeftOut, IsScriptDrawn, drawn_pattern, drawn_seed, pattern_of_name};
+ghost use Rattle.lrc_tester.specs.Patterns.{without_sizes};
 ghost use Rattle.lrc_tester.specs.declared.tester.DrawFault.TheVariants as why;
 
 use crate::pattern::Pattern;
@@ -56,7 +57,9 @@ fn pattern_given(options: &DrawOptions) -> Pattern
 }
 
 /// A size that is given.
-fn size(given: Option<u64>) -> Option<u32> {
+fn size(given: Option<u64>) -> Option<u32>
+    ensures { given ≡ None → result ≡ None }
+{
     match given {
         Some(size) => u32::try_from(size).ok(),
         None => None,
@@ -64,7 +67,9 @@ fn size(given: Option<u64>) -> Option<u32> {
 }
 
 /// The sizes that the options give.
-fn sizes_given(options: &DrawOptions) -> GivenSizes {
+fn sizes_given(options: &DrawOptions) -> GivenSizes
+    ensures { AreSizesLeftOut options.now → result ≡ without_sizes }
+{
     GivenSizes {
         processors: size(options.processors),
         pages: size(options.pages),
@@ -90,12 +95,22 @@ fn write_script<W: Write>(alloc: Global, script: &Script, out: &mut W) -> Result
     }
 }
 
+/// The seed that the options give, or 0.
+fn seed_given(options: &DrawOptions) -> u64
+    ensures { result ≡ drawn_seed options.now }
+{
+    match options.seed {
+        Some(seed) => seed,
+        None => 0,
+    }
+}
+
 /// Draws a script, and writes it.
 fn draw_to<W: Write>(alloc: Global, options: &DrawOptions, out: &mut W) -> Result<(), DrawFault>
     ensures drawn { OnOk result (IsScriptDrawn options.now (W.contents out.old) (W.contents out.new)) }
     ensures early { IfErr result (λ e. e ≢ why.Output → Keeps (W.contents out.old) (W.contents out.new)) }
 {
-    let seed = options.seed.unwrap_or(0);
+    let seed = seed_given(options);
     let script = draw(alloc, pattern_given(options), seed, sizes_given(options))?;
     write_script(alloc, &script, out)
 }
