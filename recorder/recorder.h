@@ -24,6 +24,9 @@
 #include <stddef.h>
 #include <stdint.h>
 
+/* What isn't PUBLIC has no name outside: the program may use the same names. */
+#pragma GCC visibility push(hidden)
+
 /* What a trace may have: the judge's limits. */
 enum {
     MOST_PROCESSORS = 64,
@@ -261,4 +264,5 @@ static inline struct thread *known(void)
         found; \
     }))
 
+#pragma GCC visibility pop
 #endif

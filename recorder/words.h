@@ -4,6 +4,8 @@
 
 #include "recorder.h"
 
+#pragma GCC visibility push(hidden)
+
 /*
  * A word of four bytes has a cell: 0 before it is touched, and then its number, or where its parts stand if it was
  * accessed in parts. The cells of each mebibyte of memory stand together, and take memory as they are touched.
@@ -87,4 +89,5 @@ static inline void access_words(struct thread *thread, uintptr_t address, size_t
     }
 }
 
+#pragma GCC visibility pop
 #endif

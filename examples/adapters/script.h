@@ -91,6 +91,7 @@ static void read_script(void)
 /* The first line of the trace is that of the script. */
 static inline void print_sizes(void)
 {
+    setvbuf(stdout, NULL, _IOLBF, 0); /* a hang or a crash shows how far it came */
     printf("cluster %d %d %d %d", script.processors, script.pages, script.words, script.locks);
     printf(script.flags ? " %d\n" : "\n", script.flags);
 }

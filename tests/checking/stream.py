@@ -9,6 +9,7 @@ lies there; and one whose locks go round, under the models that look at earlier 
 fetches count what they bring, of 16 processors that share 112 pages. What is told has its labels as long as it is at hand, and so has the race if more than a window comes behind it.
 With --locksets the memory doesn't grow either. Accesses that were let go of are told with their labels, if they have one and a finder keeps
 them, and so is the first one of a race; others are told by number and processor.
+With --program all races of a long trace are told with their labels, those between the same two together.
 `explain --trace` refuses a trace of more events than it has at hand.
 The last line is `N passed, M failed`.
 """
@@ -320,5 +321,15 @@ for words in ((), ("--locksets", "all")):
     status, said, wrong = long_judged([*FARTHER, *numbered(["6 store 4100 2  end"], BEHIND)], *words)
     count(f"the first access of a race is told though it came long ago, {words}",
           f"verdict racy\nevent {RACE_FAR} 5 store 4100 1  race.c:5\nevent {BEHIND} 6 store 4100 2  end\n" in said, status, said[:600], wrong)
+
+# Words 4099 and 4100 race early and at the end, between lines with the same two labels; the first access of the second race came long ago.
+RACING = ["0 store 4099 1  one.c:1", "1 store 4099 2  other.c:2", "5 store 4100 1  one.c:1"]
+BEHIND = EVENTS + len(RACING)
+MOVED = [b"event %d %s" % (int(line.split(b" ", 2)[1]) + len(RACING), line.split(b" ", 2)[2]) for line in LINES[1:]]
+for last, told in (("6 store 4100 2  other.c:2", ", and of 1 more with these labels"), ("6 store 4100 2  third.c:3", "")):
+    status, said, wrong = long_judged([SIZES, *numbered(RACING, 0), *MOVED, *numbered([last], BEHIND)], "--program")
+    second = "" if told else f"race of word 4100\nevent 2 5 store 4100 1  one.c:1\nevent {BEHIND} {last}\n"
+    count(f"all races of a long trace are told, {last}", status == 0 and f"verdict racy\nrace of word 4099{told}\nevent 0 0 store 4099 1  one.c:1\n"
+          f"event 1 1 store 4099 2  other.c:2\n{second}racing words 2\n" in said, status, said[:900], wrong)
 print(f"{passed} passed, {failed} failed")
 sys.exit(failed > 0)

@@ -89,18 +89,40 @@ def locks_asked_within(section):
     return pairs
 
 
+def has_circle(pairs):
+    """Whether pairs of a lock that is held and one that is asked for lead from some lock back to it."""
+    while pairs:
+        lowest = {asked for _, asked in pairs} - {held for held, _ in pairs}
+        if not lowest:
+            return True
+        pairs = {(held, asked) for held, asked in pairs if asked not in lowest}
+    return False
+
+
 def are_locks_ranked(script):
     """Whether locks are asked for in some order within each other, and none is held at a wait for others."""
     of_sections = [locks_asked_within(section) for section in script.sections]
     if None in of_sections:
         return False
-    pairs = set().union(*of_sections)
-    while pairs:
-        lowest = {inner for _, inner in pairs} - {outer for outer, _ in pairs}
-        if not lowest:
-            return False
-        pairs = {(outer, inner) for outer, inner in pairs if inner not in lowest}
-    return True
+    return not has_circle(set().union(*of_sections))
+
+
+def draw_wrong_lock(seed):
+    """A script as long as can be in which each word has a lock, but for one access: the script, that word, and the access's line."""
+    random_ = random.Random(seed)
+    groups = 3333
+    wrong = (random_.randrange(16), random_.randrange(groups))
+    sections, word, line = [], None, None
+    for processor in range(16):
+        section = []
+        for group in range(groups):
+            address = random_.randrange(16)
+            lock = address % 8
+            if (processor, group) == wrong:
+                lock, word, line = (lock + 1) % 8, address, 1 + processor * (3 * groups + 1) + 3 * group + 3
+            section += [("acquire", lock), ("add", address, 1), ("release", lock)]
+        sections.append(tuple(section))
+    return Script(16, 1, 16, 8, 0, tuple(sections), (0,)), word, line
 
 
 def read(text):

@@ -171,7 +171,7 @@ def reasons(table, race):
     if any(it.kind in ("set", "watch", "await") for it in table.events[:later]):
         yield f"Flags aren't among these locks: {one} {awaited_by(table.events, place)}, {other} {awaited_by(table.events, later)}."
     yield ("What would order them: one lock round both, a barrier between them, or a flag that "
-           f"{one} sets behind event {place} and {other} awaits before event {later}.")
+           f"{one} sets after event {place} and {other} awaits before event {later}.")
 
 
 def race_lines(table, race):

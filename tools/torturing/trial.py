@@ -6,7 +6,7 @@ import resource
 import signal
 import subprocess
 import tempfile
-import time
+import threading
 from pathlib import Path
 
 # What a trial may come to. Each but RIGHT is a fault.
@@ -36,9 +36,25 @@ class Trial:
     trace: bytes
 
 
+# Whether Ctrl-C has ended the trials of this process.
+INTERRUPTED = threading.Event()
+
+
 def adopt():
-    """Lets this process adopt what an adapter leaves behind, so that it can be ended."""
+    """Lets this process adopt what an adapter leaves, so that it can be ended."""
     ctypes.CDLL(None).prctl(PR_SET_CHILD_SUBREAPER, 1, 0, 0, 0)
+
+
+def interrupt(*_):
+    """Ends the trial that is under way."""
+    INTERRUPTED.set()
+    raise KeyboardInterrupt
+
+
+def begin_worker():
+    """Begins a process that makes trials: after Ctrl-C it makes no more, whatever was handed to it before."""
+    adopt()
+    signal.signal(signal.SIGINT, interrupt)
 
 
 def children():
@@ -114,7 +130,7 @@ def judged(task, script, trace):
         file.flush()
         status, text = said_by([task.lrc, "follows", file.name], trace)
     if status == 6:
-        return Trial(STRAYS, " ".join(text.splitlines()), trace)
+        return Trial(STRAYS, "; ".join(line.strip() for line in text.splitlines()), trace)
     if status != 0:
         raise OSError(f"lrc follows ended with status {status}: {text}")
     return Trial(RIGHT, "", trace)
@@ -122,6 +138,8 @@ def judged(task, script, trace):
 
 def tried(task, script):
     """A trial of the script."""
+    if INTERRUPTED.is_set():
+        raise KeyboardInterrupt
     with tempfile.TemporaryFile() as output:
         status = run_adapter(task, script, output)
         output.seek(0)

@@ -1,9 +1,9 @@
 //! The journal that is measured: the same for the same number of events.
 //!
 //! Its rounds have eight events each. Eight processors hold a lock one after the other, then the next
-//! lock; each of the 64 locks guards the page of its number. The holder fetches the page where others
-//! stored to it since its last fetch, and loads and stores two neighbouring words of it, which the next
-//! turns of the lock leave alone until all of the page had theirs.
+//! lock; each of the 64 locks guards the page of its number. The holder fetches the page if others
+//! stored to it since its last fetch. Then it loads and stores two neighbouring words of it. The next
+//! turns of the lock leave these alone until all of the page had theirs.
 ghost use Rattle.std.specs.Prelude.{◌≡◌, ◌^◌, ◌≤◌, ◌<◌, IfOk, length};
 ghost use Rattle.journal.specs.Prelude.{EventAddressInRange};
 

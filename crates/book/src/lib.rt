@@ -1,7 +1,7 @@
 //! The book: what the processors of a cluster share, as one value behind the book lock.
 //!
-//! It has the journal, the closed intervals, the distributed locks, the barrier, the flags, the timestamps, what each
-//! processor waits for, and the messages on their way (Keleher, Cox and Zwaenepoel, Lazy Release Consistency for
+//! It has the journal, the closed intervals, the distributed locks, the barrier and the flags. It has the timestamps,
+//! what each processor waits for, and the messages on their way (Keleher, Cox and Zwaenepoel, Lazy Release Consistency for
 //! Software Distributed Shared Memory, ISCA 1992, sections 3 and 4).
 //!
 //! **What contracts see**: a [`Book`] as its parts' own values in one record, `BookState`. Each call's new value is a

@@ -1,5 +1,5 @@
 -- What C hands in, and what it stands for.
-use Rattle.std.specs.Prelude.{ℕ, ◌==◌, ◌<◌, All, List, [], ◌∷◌, None, slice_index_or}
+use Rattle.std.specs.Prelude.{ℕ, ◌==◌, ◌<◌, All, List, [], ◌∷◌, None, false, slice_index_or}
 use Rattle.journal.specs.declared.event.Event.{Event}
 use Rattle.journal.specs.declared.event.Kind.{Kind}
 use Rattle.journal.specs.declared.event.Kind.TheVariants.{Load, Store, Fetch, Ask, Acquire, Release, Arrive, Depart, Set, Watch, Await}
@@ -41,7 +41,7 @@ abbrev pub given_model_of : ℕ → MemoryModel
 given_model_of m = slice_index_or (model.RaceFree ∷ (model.HappensBefore ∷ (model.LazyRelease ∷ []))) m model.Sequential
 
 abbrev pub given_rules_of : GivenRules → Rules
-given_rules_of r = record { model = given_model_of r.model; lax = r.lax == 1; ends_at_race = r.ends_at_race == 1; locksets = None }
+given_rules_of r = record { model = given_model_of r.model; lax = r.lax == 1; ends_at_race = r.ends_at_race == 1; locksets = None; all_races = false }
 
 -- each number has a meaning
 pub record AreGivenRules (r : GivenRules) : Type 0 where

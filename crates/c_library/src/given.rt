@@ -103,6 +103,7 @@ impl GivenRules {
             lax: self.lax == 1,
             ends_at_race: self.ends_at_race == 1,
             locksets: None,
+            all_races: false,
         }
     }
 }

@@ -5,10 +5,10 @@
 //! `given_sizes` and `given_rules_of` (specs/Given) say what the first stand for, `told_verdict_of` and `told_verdict_race` (specs/ToldVerdicts) and
 //! `told_exploration` (specs/ToldExploration) what the second tell. `CallFault` is why a call did nothing, `call_fault_code` its number.
 //!
-//! **What is proved.** Each export answers 0 only if all that was handed in is in range; then what it wrote is what the
+//! **What is proved.** Each export returns 0 only if all that was handed in is in range. Then what it wrote is what the
 //! function below promises of these very events or of this very script (`IsGivenJudgedTold`, `IsGivenLocksetsTold`, `IsGivenHistoryRaceTold`, `IsGivenHistoryReplayTold`,
-//! `IsGivenTextTold`). It answers another code only if that is the code of the first thing that is out of range, that of
-//! memory only if nothing is; then it wrote nothing, but of a text that is no script's the fault (`IsGivenTextFaultTold`). No
+//! `IsGivenTextTold`). It returns another code only if that is the code of the first thing that is out of range, and that of
+//! memory only if nothing is. Then it wrote nothing, but of a text that is no script's the fault (`IsGivenTextFaultTold`). No
 //! export has a premise, since nothing checks what C hands in.
 //!
 //! **What is only tested** (`tests/c_library`): that the header has these structs and numbers, and that null is refused: that

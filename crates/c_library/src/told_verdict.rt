@@ -32,8 +32,8 @@ pub struct ToldTraffic {
 #[repr(C)]
 #[derive(Clone, Copy)]
 pub struct ToldLie {
-    /// 1 it is a load of a value that it may not answer, 2 a fetch that counts what it should not, from 3 on it may not
-    /// follow, by the reasons of `judge::Why` in their order; 0 where there is no lie.
+    /// 1 it is a load that returned what it may not. 2 it is a fetch that counts what it should not. From 3 on it may not
+    /// follow, by the reasons of `judge::Why` in their order. 0 there is no lie.
     pub why: u64,
     /// Its place in the history, counted from 0.
     pub place: u64,

@@ -16,3 +16,5 @@ pub mod BroughtStores
 pub mod OriginSteps
 pub mod RecordRows
 pub mod WrittenWords
+pub mod WaitingWalks
+pub mod WaitCircles

@@ -17,4 +17,5 @@ pub mod Notices
 pub mod ClosedRecords
 pub mod EventStates
 pub mod EventWrites
+pub mod WaitingCircles
 pub mod Prelude

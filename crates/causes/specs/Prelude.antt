@@ -18,3 +18,4 @@ pub use Rattle.causes.specs.Notices.{AreNoticesAt, HasNoticeOf, NoticesBelow}
 pub use Rattle.causes.specs.ClosedRecords.{AreClosedRecords, AreClosedRecordWordsBelow, IsClosedRecordValue, IsNotInClosedRecord, IsClosedRecordIndex}
 pub use Rattle.causes.specs.EventStates.{AreEventStates, IsEventStateDirty, IsEventState, IsEventStateStale, IsEventStateIfAsked}
 pub use Rattle.causes.specs.EventWrites.{AreAllEventWrites, AreEventWrites, AreEventWritesAmong, IsEventWriteOfStore, IsEventWriteRange}
+pub use Rattle.causes.specs.WaitingCircles.{AreWaitCircles, IsWaitingCircle, waited_for, waits_for}

@@ -174,9 +174,9 @@ fn all_dues(alloc: Global, gaps: &mut Gaps, events: &[Event]) -> Result<Vec<Vec<
     Ok(rows)
 }
 
-/// Of each event of the history: of a fetch, which records its processor's copy of the page lacked, by writers; of an event that
-/// takes, which records its processor's copies lack after it that they did not lack before, by pages and then by writers; and
-/// nothing of any other. A page with such records is stale.
+/// What each event of the history tells of. A fetch: which records its processor's copy of the page lacked, by writers. An event
+/// that takes: which records its processor's copies lack after it that they did not lack before, by pages and then by writers.
+/// Any other event: nothing. A page with such records is stale.
 ///
 /// It has at most 16 processors. The only error is running out of memory. It takes time in the order of the events, and for each
 /// event that takes that of the pages times the processors of which it brings news, times the logarithm of the events.

@@ -167,7 +167,7 @@ pub(crate) fn no_origins(alloc: Global, count: usize) -> Result<Vec<Option<WordO
 /// load, or if no store has come into the copy there.
 ///
 /// A copy has a word from its processor's own store, or from a fetch. A fetch applies the intervals of its gap in the order
-/// in which they were closed, so of a word it has the gap's store whose interval was closed last, the last of them in it.
+/// in which they were closed. So of a word it has the gap's store whose interval was closed last, the last of them in it.
 ///
 /// It has at most 16 processors. The only error is running out of memory. It takes time in the order of the events, and for each
 /// fetch that of the page's words times the processors times the logarithm of the events.

@@ -150,9 +150,9 @@ fn all_event_states(
 /// Of each event of the history, which has at most 16 processors, the protocol's state, if `asked` has true for it; else None. The
 /// only error is running out of memory.
 ///
-/// It takes time in the order of the events, and for each event whose state is asked for that of the pages times the
-/// processors times the logarithm of the events; for a closing event besides that of the words of the pages that it has
-/// records of, and for one that takes or fetches that of the intervals that it brings, times the pages.
+/// It takes time in the order of the events. For each event whose state is asked for it also takes that of the pages times
+/// the processors times the logarithm of the events. A closing event adds that of the words of the pages that it has
+/// records of. One that takes or fetches adds that of the intervals that it brings, times the pages.
 pub fn event_states(
     alloc: Global,
     history: &History<'_>,

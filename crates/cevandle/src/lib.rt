@@ -1,9 +1,12 @@
 //! Cevandle in one library: the cluster and its calls, scripts and their runs, and the program over a reader and writers.
 //!
-//! An embedder lists this crate and finds each type and call that it needs below it by name. The parts of the book are in
-//! module [`parts`]. Nothing is defined here but [`program`]: what is proved of each name stands in its own crate.
+//! An embedder lists this crate and finds each type and call that it needs below it by name. Module [`parts`] has the parts
+//! of the book, [`judging`] what judges histories, [`exploring`] what looks at all schedules of a script. Nothing is defined
+//! here but [`program`]: what is proved of each name stands in its own crate.
 #![tactic(auto)]
 
+pub mod exploring;
+pub mod judging;
 mod on_cluster;
 pub mod parts;
 

@@ -34,11 +34,6 @@ pub ready_access_handed : {A : Type 0} (m n : Local) (r : Result A Refused) → 
 ready_access_handed m n (Ok x) full call = inr (full, call)
 ready_access_handed m n (Err e) full call = (full, call)
 
-pub ready_access_room_lock : {A : Type 0} (m n : Local) (r : Result A Refused) → IsAccessRoomBy m n r → n.lock ≡ m.lock
-ready_access_room_lock m n (Ok x) (inl had) = ap (λ (l : Local). l.lock) had.1
-ready_access_room_lock m n (Ok x) (inr handed) = handed.1.same.lock
-ready_access_room_lock m n (Err e) handed = handed.1.same.lock
-
 -- with room it is the same processor, awaits the same, and has the same copies
 record IsAccessRoomMade (old new : Local) : Type 0 where
   sizes : new.sizes ≡ old.sizes

@@ -1,6 +1,6 @@
 //! Processors over one book. Each has copies of all pages, an open block of events that no journal has yet, and a
-//! chair at the book's lock (Keleher, Cox and Zwaenepoel, Lazy Release Consistency for Software Distributed Shared
-//! Memory, ISCA 1992).
+//! chair at the book's lock. The protocol is that of Keleher, Cox and Zwaenepoel, Lazy Release Consistency for Software
+//! Distributed Shared Memory, ISCA 1992.
 //!
 //! **What contracts see.** A `Processor` is a `Local` (specs/Copies/Local): its lock and entries, number, sizes, what
 //! it has seen of the journal, its open block, copies, marks, timestamp, locks held and what it waits for. A `Cluster`

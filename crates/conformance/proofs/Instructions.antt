@@ -1,7 +1,6 @@
 -- The events of instructions, put together.
 use Rattle.std.proofs.Common.{ℕ, ◌≡◌, List, [], ◌∷◌, ◌++◌, filter, map, refl, sym, ap, ◌∙◌, append_assoc, append-nil}
 use Rattle.std.specs.Prelude.{not}
-use Rattle.std.proofs.lemmas.List.Elements.{filter-append}
 use Rattle.journal.specs.declared.event.Kind.{Kind}
 use Rattle.journal.specs.declared.event.Kind.TheVariants as kind
 use Rattle.lrc_script.specs.declared.script.Instruction.{Instruction}
@@ -41,11 +40,6 @@ instructions_follow_section section shown kinds own loads are is addresses =
 abbrev pub NoInstructionFetches : List Kind → Type 0
 NoInstructionFetches kinds = filter (λ k. not (is_fetch k)) kinds ≡ kinds
 
-pub instructions_no_fetch-append : (xs ys : List Kind) → NoInstructionFetches xs → NoInstructionFetches ys → NoInstructionFetches (xs ++ ys)
-instructions_no_fetch-append xs ys first second =
-    filter-append (λ k. not (is_fetch k)) xs ys ∙ ap (λ zs. zs ++ filter (λ k. not (is_fetch k)) ys) first
-    ∙ ap (λ zs. xs ++ zs) second
-
 pub instruction_no_fetch : (i : Instruction) (kinds : List Kind) → AreEventsOfInstruction i kinds → NoInstructionFetches kinds
 instruction_no_fetch (Load a) kinds are = rw are.1 refl
 instruction_no_fetch (Store a v) kinds are = rw are refl
@@ -56,13 +50,3 @@ instruction_no_fetch Barrier kinds are = rw are refl
 instruction_no_fetch (Set f) kinds are = rw are refl
 instruction_no_fetch (Await f) kinds are = rw are refl
 instruction_no_fetch Cut kinds are = rw are refl
-
--- an instruction makes no fetch of its own
-pub instructions_no_fetch : (is : List Instruction) (kinds : List Kind) → AreEventsOfInstructions is kinds → NoInstructionFetches kinds
-instructions_no_fetch [] kinds are = rw are refl
-instructions_no_fetch (i ∷ is) kinds are =
-    rw are.2 (instructions_no_fetch-append are.0 are.1 (instruction_no_fetch i are.0 are.3) (instructions_no_fetch is are.1 are.4))
-
-pub instructions_no_fetch_loads : (loads : List (ℕ × ℕ)) → NoInstructionFetches (map load_of loads)
-instructions_no_fetch_loads [] = refl
-instructions_no_fetch_loads (x ∷ loads) = ap (λ ks. load_of x ∷ ks) (instructions_no_fetch_loads loads)

@@ -2,8 +2,8 @@
 ghost use Rattle.conformance.specs.Prelude.{RecomputedLaw, OnlyRecomputedLaw, RaceFreeRecomputedLaw, SameEndsLaw, SameReportsLaw, SameTurnsLaw};
 ghost use Rattle.conformance.specs.Prelude.{SameValuesLaw, TurnCallsLaw};
 
-/// A history that is well formed and follows a script, with the replies of its loads and the values that its adds store
-/// computed again on one flat memory, is well formed, follows the script, replays, and has the same races. For a lawful
+/// Take a history that is well formed and follows a script. Compute the replies of its loads, and the values that its adds
+/// store, again on one flat memory. It is still well formed, follows the script, replays, and has the same races. For a lawful
 /// script there is one such history only.
 pub fn conformance_recomputed_law()
     ensures exists { RecomputedLaw }

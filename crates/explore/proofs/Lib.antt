@@ -22,10 +22,12 @@ pub mod ChoosingFree
 pub mod Persistence
 pub mod SearchedStates
 pub mod ShownRuns
-pub mod GivenUpRuns
+pub mod Trials
 pub mod SearchGoals
 pub mod Locksets
 pub mod TextWalks
+pub mod UnguardedWords
+pub mod TextAskPaths
 pub mod RankedLocks
 pub mod Reduced
 pub mod AllowedRuns

@@ -19,6 +19,9 @@ pub mod CallTables
 pub mod KeptStates
 pub mod TextGuards
 pub mod LockRanks
+pub mod UnguardedWords
+pub mod UnrankedLocks
+pub mod TextGaps
 pub mod Users
 pub mod WalkedWords
 pub mod TextWalks
@@ -38,4 +41,5 @@ pub mod SearchGoals
 pub mod Prelude
 pub mod Prefixes
 pub mod WholeRuns
+pub mod Trials
 pub mod MemoryShown

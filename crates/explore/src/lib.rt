@@ -11,7 +11,8 @@
 //! (`call_waiting`). `FoundStates` has the states, each once, with where it comes from (`AreFoundStates`); `Search` has looked
 //! at the first of them (`FlatSearchedUpTo`).
 //!
-//! Each search is for all that there is, or for a run that ends with some words (`Goal`). Module `search` goes through states on
+//! Each search is for all that there is, or for a run that ends with some words (`Goal`). One that is given up makes *trials*, runs by
+//! a few orders of turns (`AreTrials`). Module `search` goes through states on
 //! the flat memory, `rules` through beginnings of runs by the rules, `memory` through orders of turns on this memory. Module `text`
 //! has what the script's text shows, `state` what a state is, `outcomes` what is said of runs.
 //!
@@ -22,8 +23,8 @@
 //! **What is proved.** `allowed_outcomes` answers what `AreAllowedRunOutcomes` says: exactly these outcomes, each once, or
 //! some of them if there are more beginnings of runs than were to be looked at. `allowed_until` answers what
 //! `IsAllowedUntil` says. `explore` answers what `IsExplored` says, and `explore_until` what `IsExploredUntil` says.
-//! `guarded_words` says of a word only if it is so that no two accesses of it race; `never_gets_stuck_by_text` says that no
-//! schedule hangs only if that is so; `free_choice` leaves out only what may as well come later (`proofs/Reduced`).
+//! `guarded_words` says of a word only if it is so that no two accesses of it race. `never_gets_stuck_by_text` says that no
+//! schedule hangs only if that is so. `free_choice` leaves out only what may as well come later (`proofs/Reduced`).
 //! `what_memory_shows` tells outcomes of a script on this memory, each with a schedule: a whole run comes by its turns, and its
 //! history shows the outcome (`IsMemoryShown`).
 //! `Waiting` tells exactly whether an event may follow, also where it is put together of what the calls made tell.
@@ -59,3 +60,7 @@ pub use search::until::explore_until;
 pub use state::wait_code::ProcessorNumber;
 pub use state::waits::Waiting;
 pub use text::lock_ranks::ranked_locks_law;
+pub use text::text_accesses::TextAccess;
+pub use text::text_gaps::{TextGaps, text_gaps};
+pub use text::unguarded_words::UnguardedWord;
+pub use text::unranked_locks::{TextAsk, TextWait, UnrankedLocks};

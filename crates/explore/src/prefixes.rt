@@ -1,7 +1,7 @@
 //! Prefixes of a script's runs on one flat memory: definitions, and laws of them.
 //!
 //! **What contracts see.** A history is a prefix of a script's runs (`IsFlatBeginning`) if it is well formed, begins the
-//! script, replays from zeros and fetches nothing; it is whole (`IsFlatBeginningWhole`) if it follows the script, and a hang
+//! script, replays from zeros and fetches nothing. It is whole (`IsFlatBeginningWhole`) if it follows the script, and a hang
 //! (`IsFlatBeginningHanging`) if it isn't and nothing may come next. A script is seen as steps, one a call (`script_calls_of_section`).
 //!
 //! **What is proved.** The laws (module `laws`): a script of which no prefix races never races; nothing begins each

@@ -1,5 +1,5 @@
 //! The search: each state of a script on one flat memory is looked at once.
-ghost use Rattle.std.specs.Prelude.{◌≡◌, ◌↔◌, ◌+◌, ◌<◌, ◌≤◌, ◌++◌, ⊤, ℕ, IfOk, IfSome, OnOk, IsTrue, List, MatchOption, Some, length, map, option_to_list};
+ghost use Rattle.std.specs.Prelude.{◌≡◌, ◌↔◌, ◌+◌, ◌<◌, ◌≤◌, ◌++◌, ⊤, ℕ, IfOk, IfSome, OnOk, IsTrue, List, MatchOption, Bool, None, Option, false, length, map};
 ghost use Rattle.std.specs.Global.{Vec as AVec};
 ghost use Rattle.base.specs.Prelude.{most_processors};
 ghost use Rattle.lrc_script.specs.Prelude.{IsLawful, Plan, plan_of};
@@ -8,7 +8,7 @@ ghost use Rattle.explore.specs.declared.prefixes.script_call.ScriptCall.{ScriptC
 ghost use Rattle.explore.specs.Prefixes.Prelude.{AreFlatBeginningsRaceFree, IsFlatBeginningHanging};
 ghost use Rattle.journal.specs.declared.event.Event.{Event as AnEvent};
 ghost use Rattle.explore.specs.FreeChoice.{AreFreeChoiceTextFacts};
-ghost use Rattle.explore.specs.Explored.{AreExploredOutcomes, IsExplored, IsExploredHang, IsExploredHanging, IsExploredVerdict, IsRunOfShownOutcome, explored_outcome, shown_outcome};
+ghost use Rattle.explore.specs.Explored.{AreExploredOutcomes, IsExplored, IsExploredHang, IsExploredHanging, IsExploredRacy, IsExploredVerdict, IsRunOfShownOutcome, explored_outcome, shown_outcome};
 ghost use Rattle.explore.specs.declared.outcomes.answer.ShownOutcome.{ShownOutcome as AShownOutcome};
 ghost use Rattle.base.specs.InOrderOnce.{Has};
 ghost use Rattle.explore.specs.FoundStates.{AreFoundStates, HasRoomForStates, IsFoundStateAt, KeepsFoundStates, found_states};
@@ -20,19 +20,25 @@ ghost use Rattle.explore.specs.declared.outcomes.telling.Detail.{Detail as ADeta
 ghost use Rattle.explore.specs.OutcomeTelling.{outcome_telling_of_script};
 ghost use Rattle.explore.specs.FlatSearch.{FlatSearchHasHang, IsFlatSearchedAt, AreFlatSearchNotes, FlatSearchedUpTo, HasMoreToFlatSearch};
 ghost use Rattle.explore.specs.FlatSearch.{AreFlatSearchPlaces, IsFlatSearchHangingOpen, IsFlatSearchVerdictOpen, IsFlatSearched, MayNoteInFlatSearch};
+ghost use Rattle.explore.specs.declared.search.Met.{Met as AMet};
 ghost use Rattle.explore.specs.FlatSearchEnds.{IsFlatSearchEnd, IsFlatSearchedThrough, IsMetByFlatSearch};
 ghost use Rattle.explore.specs.NotedOutcomes.{IsNotedOutcome, noted_outcomes};
+ghost use Rattle.explore.specs.Trials.{AreTrialOutcomes, AreTrials, trial_outcome};
 
 pub mod free_choice;
 pub mod free_run;
 pub mod neighbours;
 pub mod persistent_set;
 pub mod racing_history;
+pub mod trial_order;
+pub mod trials;
 pub mod until;
 pub mod whole_run;
 
 use crate::goal::Goal;
-use crate::outcomes::answer::{Explored, Hang, Hanging, ScriptOutcome, ShownOutcome, Verdict};
+use crate::outcomes::answer::{
+    Explored, Hang, Hanging, RacyEvents, ScriptOutcome, ShownOutcome, Verdict,
+};
 use crate::outcomes::telling::Detail;
 use crate::prefixes::{ScriptCall, script_calls_of_all};
 use crate::progress::Progress;
@@ -41,10 +47,12 @@ use crate::search::neighbours::{
     Neighbours, are_neighbours_over, neighbour_nexts_of, neighbours_in,
 };
 use crate::search::racing_history::racing_history;
-use crate::search::whole_run::{never_gets_stuck_by_text, shown_whole_run};
+use crate::search::trials::{Trials, trials_within};
+use crate::search::whole_run::never_gets_stuck_by_text;
 use crate::state::flat_state::FlatState;
 use crate::state::found_states::FoundStates;
 use crate::state::room::state_room_at_most;
+use crate::state::wait_code::ProcessorNumber;
 use crate::text::facts::{TextFacts, text_facts};
 use crate::text::guards::are_all_guarded;
 use indexmap::IndexMap;
@@ -120,54 +128,37 @@ fn is_search_through(met: Option<Met>, states: usize, most: usize) -> bool
     }
 }
 
-/// The one run that is made where a search is given up, if it comes to its end: two events conflict or all states were looked at
-/// otherwise. The only error is running out of memory.
-fn run_of_given_up(
-    alloc: Global,
-    script: &Script,
-    steps: &[Vec<ScriptCall>],
-    detail: Detail,
-    end: SearchEnd,
-) -> Result<Option<ShownOutcome>, AllocError>
-    requires { AreLawfulMachineSteps (plan_of script.now) steps.now }
-    ensures { IfOk result (λ o. IfSome o (IsRunOfShownOutcome (plan_of script.now) detail)) }
+/// The race that a trial met, if one did, as the verdict of a search that is given up.
+fn verdict_of_trials(racy: Option<RacyEvents>) -> Verdict
+    ensures verdict { (s : Plan) → IfSome racy (IsExploredRacy s) → IsExploredVerdict s result }
+    ensures opens { (met : Option AMet) (through : Bool) → met ≡ None → through ≡ false → IsFlatSearchVerdictOpen met through result }
 {
-    match end.met {
-        None if !end.through => shown_whole_run(alloc, script, steps, detail),
-        _ => Ok(None),
+    match racy {
+        Some(racy) => Verdict::Racy(racy),
+        None => Verdict::Undecided,
     }
 }
 
-/// The run, if the script is known to be race-free: else this memory may show something else by its turns.
-fn run_to_tell(race_free: bool, run: Option<ShownOutcome>) -> Option<ShownOutcome>
-    ensures { (s : Plan) (d : ADetail) → IfSome run (IsRunOfShownOutcome s d) → IfSome result (IsRunOfShownOutcome s d) }
+/// The hang that a trial met, if one did, of a search that met none and is given up.
+fn hanging_of_trials(hang: Option<Hang>) -> Hanging
+    ensures hanging { (s : Plan) → IfSome hang (IsExploredHang s) → IsExploredHanging s result }
+    ensures opens { (through : Bool) → through ≡ false → IsFlatSearchHangingOpen through result }
 {
-    if race_free { run } else { None }
-}
-
-/// The run, if none of these outcomes is what it shows.
-fn unnoted_run(
-    outcomes: &IndexMap<ScriptOutcome, usize>,
-    run: Option<ShownOutcome>,
-) -> Option<ShownOutcome>
-    ensures { MatchOption result (IfSome run (λ x. Has (noted_outcomes outcomes.now.entries) (shown_outcome x)))
-        (λ x. (run ≡ Some x) × ¬ Has (noted_outcomes outcomes.now.entries) (shown_outcome x)) }
-{
-    let Some(run) = run else {
-        return None;
-    };
-    if outcomes.contains_key(&run.outcome) {
-        return None;
+    match hang {
+        Some(hang) => Hanging::Hangs(hang),
+        None => Hanging::Undecided,
     }
-    Some(run)
 }
 
-/// Puts the run at the end, if it is there.
-fn push_run(shown: &mut Vec<ShownOutcome>, run: Option<ShownOutcome>) -> Result<(), AllocError>
-    ensures { OnOk result (shown.new.items ≡ shown.old.items ++ option_to_list run) }
+/// Puts what trials show at the end.
+fn push_trial_outcomes(
+    shown: &mut Vec<ShownOutcome>,
+    outcomes: IndexMap<ScriptOutcome, Vec<ProcessorNumber>>,
+) -> Result<(), AllocError>
+    ensures { OnOk result (shown.new.items ≡ shown.old.items ++ map trial_outcome outcomes.entries) }
 {
-    if let Some(run) = run {
-        shown.push(run)?;
+    for (outcome, makers) in outcomes {
+        shown.push(ShownOutcome { outcome, makers })?;
     }
     Ok(())
 }
@@ -329,8 +320,8 @@ impl Search {
         })
     }
 
-    /// Whether a state hangs, if all states have been looked at or not; it may be known that none does. The only error is running
-    /// out of memory.
+    /// Whether a state hangs, if all states have been looked at or not; it may be known that none does, and a trial may have met a
+    /// hang. The only error is running out of memory.
     fn hanging(
         &self,
         alloc: Global,
@@ -338,8 +329,10 @@ impl Search {
         steps: &[Vec<ScriptCall>],
         through: bool,
         never: bool,
+        hang: Option<Hang>,
     ) -> Result<Hanging, AllocError>
         requires steps { AreLawfulMachineSteps (plan_of script.now) steps.now }
+        requires hang { IfSome hang (IsExploredHang (plan_of script.now)) }
         requires never { IsTrue never → (g : List AnEvent) → ¬ IsFlatBeginningHanging (plan_of script.now) g }
         requires searched { IsFlatSearched (plan_of script.now) self.now steps.now through }
         ensures hanging { IfOk result (IsExploredHanging (plan_of script.now)) }
@@ -348,12 +341,12 @@ impl Search {
         match self.hang {
             Some(place) => Ok(Hanging::Hangs(self.hang_at(alloc, script, steps, place)?)),
             None if through | never => Ok(Hanging::Never),
-            None => Ok(Hanging::Undecided),
+            None => Ok(hanging_of_trials(hang)),
         }
     }
 
     /// Whether the script races, if a search for all that there is met this: it does if two events conflict; it may be known to be
-    /// race-free. The only error is running out of memory.
+    /// race-free, and a trial may have met a race. The only error is running out of memory.
     fn verdict(
         &self,
         alloc: Global,
@@ -361,8 +354,10 @@ impl Search {
         steps: &[Vec<ScriptCall>],
         met: Option<Met>,
         race_free: bool,
+        racy: Option<RacyEvents>,
     ) -> Result<Verdict, AllocError>
         requires lawful { IsLawful (plan_of script.now) }
+        requires racy { IfSome racy (IsExploredRacy (plan_of script.now)) }
         requires free { IsTrue race_free → AreFlatBeginningsRaceFree (plan_of script.now) }
         requires found { AreFoundStates (plan_of script.now) self.now.found }
         requires met { MatchOption met ⊤ (IsMetByFlatSearch (plan_of script.now) self.now steps.now (λ _. ⊥)) }
@@ -377,12 +372,12 @@ impl Search {
             // No state ends a search for all that there is.
             Some(Met::Ending(_)) => Ok(Verdict::Undecided),
             None if race_free => Ok(Verdict::RaceFree),
-            None => Ok(Verdict::Undecided),
+            None => Ok(verdict_of_trials(racy)),
         }
     }
 
-    /// Whether the script races and whether it hangs, if the search ended so; it may be known to be race-free, and never to hang. The
-    /// only error is running out of memory.
+    /// Whether the script races and whether it hangs, if the search ended so; it may be known to be race-free, and never to hang, and
+    /// trials may have met a race and a hang. The only error is running out of memory.
     fn findings(
         &self,
         alloc: Global,
@@ -391,8 +386,12 @@ impl Search {
         end: SearchEnd,
         race_free: bool,
         never: bool,
+        racy: Option<RacyEvents>,
+        hang: Option<Hang>,
     ) -> Result<Findings, AllocError>
         requires steps { AreLawfulMachineSteps (plan_of script.now) steps.now }
+        requires racy { IfSome racy (IsExploredRacy (plan_of script.now)) }
+        requires hang { IfSome hang (IsExploredHang (plan_of script.now)) }
         requires free { IsTrue race_free → AreFlatBeginningsRaceFree (plan_of script.now) }
         requires never { IsTrue never → (g : List AnEvent) → ¬ IsFlatBeginningHanging (plan_of script.now) g }
         requires ended { (most : ℕ) × IsFlatSearchEnd (plan_of script.now) self.now steps.now (λ _. ⊥) most end }
@@ -401,8 +400,8 @@ impl Search {
         ensures verdict_opens { IfOk result (λ found. IsFlatSearchVerdictOpen end.met race_free found.verdict) }
         ensures hanging_opens { IfOk result (λ found. IsFlatSearchHangingOpen end.through found.hanging) }
     {
-        let verdict = self.verdict(alloc, script, steps, end.met, race_free)?;
-        let hanging = self.hanging(alloc, script, steps, end.through, never)?;
+        let verdict = self.verdict(alloc, script, steps, end.met, race_free, racy)?;
+        let hanging = self.hanging(alloc, script, steps, end.through, never, hang)?;
         Ok(Findings { verdict, hanging })
     }
 
@@ -433,33 +432,107 @@ impl Search {
         })
     }
 
-    /// What whole runs show that were met, and this run if it shows another outcome: each outcome once, with a run. The search has none
-    /// of them any more. The only error is running out of memory.
+    /// What whole runs show that were met, and what trials show beside: each outcome once, with a run. The search has none of them any
+    /// more. The only error is running out of memory.
     fn outcomes_and(
         &mut self,
         alloc: Global,
-        run: Option<ShownOutcome>,
+        tried: IndexMap<ScriptOutcome, Vec<ProcessorNumber>>,
     ) -> Result<Vec<ShownOutcome>, AllocError>
         requires { (s : Plan) × IsLawful s × AreFoundStates s self.old.found
             × AreFlatSearchPlaces s (found_states self.old.found) self.old.outcomes.entries }
         ensures outcomes { IfOk result (λ v. (s : Plan) (d : ADetail) → AreExploredOutcomes s d (noted_outcomes self.old.outcomes.entries)
-            → IfSome run (IsRunOfShownOutcome s d) → AreExploredOutcomes s d (map shown_outcome v.items)) }
+            → AreTrialOutcomes s d (noted_outcomes self.old.outcomes.entries) tried.entries → AreExploredOutcomes s d (map shown_outcome v.items)) }
         ensures all { IfOk result (λ v. (replies : List (List ℕ)) → Has (noted_outcomes self.old.outcomes.entries) replies
             → Has (map shown_outcome v.items) replies) }
         ensures runs { IfOk result (λ v. (s : Plan) (d : ADetail) → AreFoundStates s self.old.found
             → AreFlatSearchPlaces s (found_states self.old.found) self.old.outcomes.entries
-            → self.old.found.first.telling ≡ outcome_telling_of_script s d → IfSome run (IsRunOfShownOutcome s d)
+            → self.old.found.first.telling ≡ outcome_telling_of_script s d
+            → AreTrialOutcomes s d (noted_outcomes self.old.outcomes.entries) tried.entries
             → (x : AShownOutcome) → Has v.items x → IsRunOfShownOutcome s d x) }
-        ensures run { IfOk result (λ v. IfSome run (λ x. Has (map shown_outcome v.items) (shown_outcome x))) }
+        ensures tried { IfOk result (λ v. (replies : List (List ℕ)) → Has (noted_outcomes tried.entries) replies
+            → Has (map shown_outcome v.items) replies) }
     {
         let outcomes = mem::replace(&mut self.outcomes, IndexMap::new(alloc));
-        let run = unnoted_run(&outcomes, run);
         let mut shown = search_outcomes_with_runs(alloc, &self.found, outcomes)?;
-        push_run(&mut shown, run)?;
+        push_trial_outcomes(&mut shown, tried)?;
         Ok(shown)
     }
 
-    /// What the search has found that ended so: it gives up its outcomes. The only error is running out of memory.
+    /// What trials show if the search is given up: nothing was met, and not all states were looked at. The only error is running
+    /// out of memory.
+    fn trials_of_given_up(
+        &self,
+        alloc: Global,
+        script: &Script,
+        steps: &[Vec<ScriptCall>],
+        detail: Detail,
+        end: SearchEnd,
+        race_free: bool,
+        trials: usize,
+    ) -> Result<Trials, AllocError>
+        requires { AreLawfulMachineSteps (plan_of script.now) steps.now }
+        ensures { IfOk result (AreTrials (plan_of script.now) detail (noted_outcomes self.now.outcomes.entries)) }
+    {
+        let mut tried = Trials::new(alloc);
+        if end.met.is_some() || end.through {
+            return Ok(tried);
+        }
+        tried.try_all(
+            alloc,
+            script,
+            steps,
+            detail,
+            &self.outcomes,
+            race_free,
+            trials,
+        )?;
+        Ok(tried)
+    }
+
+    /// What the search has found that ended so, and what trials show: it gives up its outcomes. It may be known to be race-free. The
+    /// only error is running out of memory.
+    fn answer_with(
+        &mut self,
+        alloc: Global,
+        script: &Script,
+        steps: &[Vec<ScriptCall>],
+        end: SearchEnd,
+        race_free: bool,
+        tried: Trials,
+    ) -> Result<Explored, AllocError>
+        requires steps { AreLawfulMachineSteps (plan_of script.now) steps.now }
+        requires free { IsTrue race_free → AreFlatBeginningsRaceFree (plan_of script.now) }
+        requires through { IsTrue end.through → IsTrue race_free }
+        requires ended { (most : ℕ) × IsFlatSearchEnd (plan_of script.now) self.old steps.now (λ _. ⊥) most end }
+        requires tried { (d : ADetail) × AreTrials (plan_of script.now) d (noted_outcomes self.old.outcomes.entries) tried }
+        ensures { IfOk result (λ answer. (d : ADetail) (most : ℕ)
+            → IsFlatSearchEnd (plan_of script.now) self.old steps.now (λ _. ⊥) (state_room_at_most (plan_of script.now) d most) end
+            → self.old.found.first.telling ≡ outcome_telling_of_script (plan_of script.now) d
+            → AreTrials (plan_of script.now) d (noted_outcomes self.old.outcomes.entries) tried
+            → IsExplored (plan_of script.now) d most answer) }
+    {
+        let Trials {
+            racy,
+            hang,
+            ends,
+            outcomes,
+        } = tried;
+        let never = never_gets_stuck_by_text(steps, ends);
+        let findings = self.findings(alloc, script, steps, end, race_free, never, racy, hang)?;
+        let outcomes = self.outcomes_and(alloc, outcomes)?;
+        let Findings { verdict, hanging } = findings;
+        Ok(Explored {
+            states: end.states,
+            verdict,
+            hanging,
+            outcomes,
+            are_all: end.through,
+        })
+    }
+
+    /// What the search has found that ended so, beside what so many trials show if it is given up: it gives up its outcomes. The only
+    /// error is running out of memory.
     fn answer(
         &mut self,
         alloc: Global,
@@ -468,6 +541,7 @@ impl Search {
         facts: &TextFacts,
         detail: Detail,
         end: SearchEnd,
+        trials: usize,
     ) -> Result<Explored, AllocError>
         requires steps { AreLawfulMachineSteps (plan_of script.now) steps.now }
         requires long { length facts.now.guarded.items ≡ plan_addresses (plan_of script.now) }
@@ -479,18 +553,8 @@ impl Search {
             → IsExplored (plan_of script.now) detail most answer) }
     {
         let race_free = end.through | are_all_guarded(&facts.guarded);
-        let run = run_of_given_up(alloc, script, steps, detail, end)?;
-        let never = never_gets_stuck_by_text(steps, &run);
-        let findings = self.findings(alloc, script, steps, end, race_free, never)?;
-        let outcomes = self.outcomes_and(alloc, run_to_tell(race_free, run))?;
-        let Findings { verdict, hanging } = findings;
-        Ok(Explored {
-            states: end.states,
-            verdict,
-            hanging,
-            outcomes,
-            are_all: end.through,
-        })
+        let tried = self.trials_of_given_up(alloc, script, steps, detail, end, race_free, trials)?;
+        self.answer_with(alloc, script, steps, end, race_free, tried)
     }
 
     /// Looks at all states of the script as `explore` does, from the first one on.
@@ -513,8 +577,9 @@ impl Search {
         ensures { IfOk result (IsExplored (plan_of script.now) detail most) }
     {
         let most = state_room_at_most(script, detail, most);
+        let trials = trials_within(steps, most);
         let end = self.look_to_the_end(steps, facts, Goal::All, most, progress)?;
-        self.answer(alloc, script, steps, facts, detail, end)
+        self.answer(alloc, script, steps, facts, detail, end, trials)
     }
 }
 
@@ -541,8 +606,10 @@ fn search_steps<P: Progress>(
 /// show, told by this detail. If all words are guarded (`guarded_words`), it says race-free whatever it finds, and if the
 /// text shows that no schedule hangs (`never_gets_stuck_by_text`), it says that. It ends at the first two accesses that
 /// race, and gives up once it finds more than `most` states. Either way it says what it has found: a hang and outcomes that
-/// it met are there. If it gives up, and all words are guarded, so is what one run shows, if that comes to its end. The only error
-/// is running out of memory.
+/// it met are there. The only error is running out of memory.
+///
+/// If it gives up, it makes a few runs (`Trials`), no more than `most` states and one. A race or a hang that they show is told, and
+/// outcomes of those without a race. So a hang or an outcome may be known of a script with many states.
 ///
 /// It gives up, too, if it finds more states than fit (`state_room_size`): those of which each has as many words as the
 /// memory, and the replies of the script's loads that are told, and which have 2^27 words together. So the memory that
@@ -550,9 +617,9 @@ fn search_steps<P: Progress>(
 ///
 /// A state is what each processor has done, with the replies that are told or that its next step adds to, the words, and who
 /// waits for what. So the less is told, the fewer states there are. If some
-/// processor may do next what commutes with all that others may do, that alone is followed (`free_choice`); else the asks for free
-/// locks of some processors who don't go on by what others do until one of them asks: persistent sets (Godefroid, Partial-order
-/// methods for the verification of concurrent systems, 1996). A state between events that are followed alone is passed over
+/// processor may do next what commutes with all that others may do, that alone is followed (`free_choice`). Else the asks for free
+/// locks of some processors are followed who don't go on by what others do until one of them asks. These are persistent sets
+/// (Godefroid, Partial-order methods for the verification of concurrent systems, 1996). A state between events that are followed alone is passed over
 /// (`make_free_run`).
 /// Two accesses that conflict and may both come next make a race; if no state that was found has such, no run races, on one
 /// flat memory or on the real one.

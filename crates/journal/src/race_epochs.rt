@@ -245,15 +245,15 @@ impl RaceEpochs {
 /// Nothing was cut off before them. They need not be ones that a cluster can make, and none of them is copied.
 ///
 /// Before the first race all stores of an address happen before the last one, or are it. So a timestamp that
-/// counts the last store's interval counts them all, and of the loads since then mostly the last one is enough
-/// too; only if these are unordered, the last one of each processor is looked at. The least first place is
+/// counts the last store's interval counts them all. Of the loads since then mostly the last one is enough,
+/// too. Only if these are unordered, the last one of each processor is looked at. The least first place is
 /// looked for once, at the end.
 ///
-/// An access takes a constant time, except for unordered loads; such a load, and an event of a lock, a flag or the
-/// barrier, takes time in the order of the processors, and for a lock or a flag of a number from 1024 on the
-/// logarithm of how many of these occur besides. It takes memory in the order of the addresses, the locks and
-/// flags that occur and the open episodes, times the processors, and a table of 64 KiB at most for the locks
-/// and one for the flags, however great their numbers are.
+/// An access takes a constant time, except for unordered loads. Such a load, and an event of a lock, a flag or the
+/// barrier, takes time in the order of the processors. A lock or a flag of a number from 1024 on adds the
+/// logarithm of how many of these occur. It takes memory in the order of the addresses, the locks and
+/// flags that occur and the open episodes, times the processors. It also takes a table of 64 KiB at most for the
+/// locks and one for the flags, however great their numbers are.
 pub fn first_race_of(
     alloc: Global,
     processors: usize,

@@ -31,7 +31,7 @@ cut_of_equal j p t u is a = record {
 -- a processor that is there has its cut
 pub cut_of_present : {j : List Event} {c : Cuts} → AreCuts j c → (p : ℕ) → p < c.present
     → IsCutOf j p (entry c.processors.items p)
-cut_of_present a p lt = a.cuts p (let few = a.few in omega arith)
+cut_of_present a p lt = a.cuts p lt
 
 -- another processor's event happens before one that comes next and takes nothing, exactly if it is in the cut
 pub cut_tells_happens_before : {j : List Event} {f : Event} {t : ℕ → ℕ} {i : ℕ} → (e : Event) → IsCutOf j e.processor t

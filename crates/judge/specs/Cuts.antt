@@ -32,13 +32,13 @@ pub record CutsAfterArrival (c d : Cuts) (p : ℕ) : Type 0 where
 -- the cuts of the processors, locks, flags and episodes, and the counts of arrivals and departures, are those of the history
 pub record AreCuts (j : List Event) (c : Cuts) : Type 0 where
   pub place : c.place ≡ length j
-  pub long : vec_len c.processors ≡ most_judged_processors
+  pub long : vec_len c.processors ≡ c.present
   pub few : c.present ≤ most_judged_processors
-  pub cuts : (p : ℕ) → p < most_judged_processors → IsCutOf j p (entry c.processors.items p)
+  pub cuts : (p : ℕ) → p < c.present → IsCutOf j p (entry c.processors.items p)
   pub locks : (l : ℕ) → IsCutIn j (InPastOfSome j (BringsFromKind j (Release l))) (numbered_cut_at c.locks l)
   pub flags : (f : ℕ) → IsCutIn j (InPastOfSome j (BringsFromKind j (Set f))) (numbered_cut_at c.flags f)
   pub episodes : (n : ℕ) → c.gone ≤ n
       → IsCutIn j (InPastOfSome j (BringsFromSomeArrival j n)) (entry c.episodes.items (n - c.gone))
   pub left : (p : ℕ) → p < c.present → c.gone ≤ slice_index c.departures p
-  pub arrivals : (p : ℕ) → p < most_judged_processors → slice_index c.arrivals p ≡ event_count event_arrives j p
-  pub departures : (p : ℕ) → p < most_judged_processors → slice_index c.departures p ≡ event_count event_departs j p
+  pub arrivals : (p : ℕ) → p < c.present → slice_index c.arrivals p ≡ event_count event_arrives j p
+  pub departures : (p : ℕ) → p < c.present → slice_index c.departures p ≡ event_count event_departs j p

@@ -6,8 +6,8 @@ ghost use Rattle.judge.specs.Prelude.{is_asked_between};
 use std::alloc::{AllocError, Global};
 
 /// Of a page and a processor, the places of which it may still be asked what the processor had stored in the page before them. A
-/// fetch by another processor asks of two: of the entry that it has in its cut then, which may be any from the one that it has
-/// now on, since entries only rise, and of the one that it had at its last fetch of the page.
+/// fetch by another processor asks of two. One is the entry that it has in its cut then, which may be any from the one that it
+/// has now on, since entries only rise. The other is the one that it had at its last fetch of the page.
 ///
 /// It takes 4 bytes for each other processor.
 #[derive(Drop)]

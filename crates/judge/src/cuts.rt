@@ -45,7 +45,7 @@ fn episode_counts_are_past(counts: &[u32], number: usize) -> bool
 #[inline(always)]
 fn mark_own_events(processors: &mut Vec<Cut>, processor: usize, limit: usize)
     requires processor { processor < most_judged_processors }
-    requires long { vec_len processors.old ≡ most_judged_processors }
+    requires long { processor < vec_len processors.old }
     requires limit { limit ≤ most_judged_events }
     ensures long { vec_len processors.new ≡ vec_len processors.old }
     ensures marked { CutEntriesMarkedAt (entry processors.old.items) (entry processors.new.items) processor limit }
@@ -79,7 +79,7 @@ impl Cuts {
         ensures present { IfOk result (λ c. c.present ≡ processors) }
     {
         Ok(Cuts {
-            processors: zero_cuts(alloc, MOST_JUDGED_PROCESSORS)?,
+            processors: zero_cuts(alloc, processors)?,
             locks: NumberedCuts::new(alloc),
             flags: NumberedCuts::new(alloc),
             episodes: VecDeque::new(alloc),
@@ -102,8 +102,8 @@ impl Cuts {
 
     /// Takes note of the processor's release of a lock at this place: joins what it knows into what the lock keeps.
     fn release(&mut self, processor: usize, lock: usize, place: usize) -> Result<(), AllocError>
-        requires processor { processor < most_judged_processors }
-        requires long { vec_len self.old.processors ≡ most_judged_processors }
+        requires processor { processor < self.old.present }
+        requires long { vec_len self.old.processors ≡ self.old.present }
         requires few { self.old.present ≤ most_judged_processors }
         requires place { place < most_judged_events }
         ensures rest { self.new ≡ record self.old {
@@ -123,8 +123,8 @@ impl Cuts {
 
     /// Takes note of the processor's set of a flag at this place: joins what it knows into what the flag keeps.
     fn set_flag(&mut self, processor: usize, flag: usize, place: usize) -> Result<(), AllocError>
-        requires processor { processor < most_judged_processors }
-        requires long { vec_len self.old.processors ≡ most_judged_processors }
+        requires processor { processor < self.old.present }
+        requires long { vec_len self.old.processors ≡ self.old.present }
         requires few { self.old.present ≤ most_judged_processors }
         requires place { place < most_judged_events }
         ensures rest { self.new ≡ record self.old {
@@ -144,8 +144,8 @@ impl Cuts {
 
     /// Takes note of the processor's arrival at this place: joins what it knows into what the episode keeps.
     fn arrive(&mut self, processor: usize, place: usize) -> Result<(), AllocError>
-        requires processor { processor < most_judged_processors }
-        requires long { vec_len self.old.processors ≡ most_judged_processors }
+        requires processor { processor < self.old.present }
+        requires long { vec_len self.old.processors ≡ self.old.present }
         requires few { self.old.present ≤ most_judged_processors }
         requires place { place < most_judged_events }
         requires arrivals_room { slice_index self.old.arrivals processor < most_judged_events }
@@ -171,8 +171,8 @@ impl Cuts {
 
     /// Takes note of the processor's departure: joins what the episode keeps into what it knows.
     fn depart(&mut self, processor: usize)
-        requires processor { processor < most_judged_processors }
-        requires long { vec_len self.old.processors ≡ most_judged_processors }
+        requires processor { processor < self.old.present }
+        requires long { vec_len self.old.processors ≡ self.old.present }
         requires few { self.old.present ≤ most_judged_processors }
         requires left { self.old.gone ≤ slice_index self.old.departures processor }
         requires room { slice_index self.old.departures processor < most_judged_events }

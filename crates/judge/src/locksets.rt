@@ -9,8 +9,8 @@
 //! `PairsTellUnprotected` of specs/Locksets/Pairs; `IsLocksetFinderOf` of specs/Locksets/KeptLocksets says by what events a
 //! `LocksetFinder` is what it is.
 //!
-//! **What is proved.** A `LocksetFinder` takes a history an event at a time, and answers exactly its words of this sort, with two
-//! accesses that hold no lock in common, and two that do, if there are such.
+//! **What is proved.** A `LocksetFinder` takes a history an event at a time, and returns exactly its words of this sort. Each
+//! comes with two accesses that hold no lock in common, and two that do, if there are such.
 //!
 //! **What is only tested**: that these definitions say what they are to say, by histories worked by hand.
 

@@ -19,8 +19,8 @@ use std::alloc::{AllocError, Global};
 /// What each processor has stored in each page: in all, and before each place of which it may still be asked, where one of its
 /// intervals ends.
 ///
-/// Of a page and a processor it keeps each interval that stores in the page and that some other processor doesn't know of yet,
-/// and the first one after each other processor's last fetch of the page; the others go, when the row is full. It takes 12 bytes
+/// Of a page and a processor it keeps each interval that stores in the page and of which some other processor doesn't know yet.
+/// It also keeps the first one after each other processor's last fetch of the page. The others go when the row is full. It takes 12 bytes
 /// for each that is kept, up to twice that, 12 for each processor and page that it stores in, and 4 for each processor and word.
 #[derive(Drop)]
 pub(crate) struct StoredCounts {
@@ -195,8 +195,8 @@ impl StoredCounts {
         Ok(false)
     }
 
-    /// Lets go of the steps of the page and the processor that tell of no place that may still be asked, and makes room for as
-    /// many again as are left, and for a few at least. The only error is running out of memory, after which it may tell no
+    /// Lets go of the steps of the page and the processor that tell of no place that may still be asked. Makes room for as
+    /// many again as are left, and for a few at least. The only error is running out of memory. After that it may tell no
     /// history.
     pub(crate) fn let_go(
         &mut self,

@@ -2,13 +2,13 @@
 use Rattle.std.proofs.Common.{ℕ, ◌≡◌, ◌≢◌, ◌<◌, ◌≤◌, Option, Some, None, List, [], ◌∷◌, ◌++◌, length, sym, ap, ◌∙◌, subst, append_assoc, arith, inl, inr}
 use Rattle.std.specs.Option.{option_to_list}
 use Rattle.std.specs.List.{range_with_len}
-use Rattle.std.proofs.lemmas.List.{length-append, get_or-set_same}
+use Rattle.std.proofs.lemmas.List.{length-append}
 use Rattle.std.proofs.lemmas.List.FromFn.{length-range_with_len, get_or-range_with_len}
 use Rattle.std.proofs.lemmas.Option.{slice_get-get_or}
 use Rattle.base.specs.InOrderOnce.{Has, IsOnce}
 use Rattle.base.proofs.JoinedLists.{joined_list_has-append, joined_list_has-cons, joined_list_has-nil, joined_list_in_order-nil, joined_list_in_order-cons, joined_list_in_order_tail}
 use Rattle.base.proofs.OnceWithout.{once_le, once-append}
-use Rattle.lockq.specs.LockQueues.{LockQueue, Locks, lock_queue_at, with_lock_queue, lock_queue_unheld, lock_queue_line, lock_queue_asked, lock_queue_joined, IsOrderlyLockQueue}
+use Rattle.lockq.specs.LockQueues.{LockQueue, lock_queue_line, IsOrderlyLockQueue}
 
 -- a list of one item
 orderly_queue_of_one : (p : ℕ) → IsOnce (p ∷ [])
@@ -89,11 +89,3 @@ orderly_queue_passed n k next queue time orderly is held long =
       held = held;
       long = long;
     }
-
--- what lock l is after it was changed
-pub orderly_queue_lock_changed : (s : Locks) (l : ℕ) (k : LockQueue) → l < length s.locks → lock_queue_at (with_lock_queue s l k) l ≡ k
-orderly_queue_lock_changed s l k lt = get_or-set_same s.locks l k (lock_queue_unheld s.processors) lt
-
--- who asks while the lock is held is last in the queue
-pub orderly_queue_asked_while_held : (k : LockQueue) (q p : ℕ) → k.holder ≡ Some q → lock_queue_asked k p ≡ record k { queue = k.queue ++ p ∷ [] }
-orderly_queue_asked_while_held k q p held = ap (λ (h : Option ℕ). lock_queue_joined h k p) held

@@ -1,5 +1,5 @@
-//! `lrc`: runs scripts of a shared memory and prints the final words, a race verdict and the traffic; explains a run;
-//! samples the runs of a script; looks at all its schedules; or judges or tells a trace.
+//! `lrc`: runs scripts of a shared memory, and prints the final words, a race verdict and the traffic. It explains a run,
+//! samples the runs of a script, looks at all its schedules, and judges or tells a trace.
 //!
 //! Crate `lrc_program` says how a script is run, and what is proved of that; `lrc_commands` and `lrc_exploring` have the other
 //! commands. What runs scripts is handed in here.

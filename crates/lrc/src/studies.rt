@@ -7,10 +7,12 @@ use crate::terminal::TerminalProgress;
 use lrc_commands::Study;
 use lrc_commands::checking::run_check_command;
 use lrc_commands::explaining::run_explain_command;
+use lrc_commands::left_out::read_left_out;
 use lrc_commands::sampling::run_sample_command;
 use lrc_commands::telling::run_tell_command;
 use lrc_exploring::exploring::run_explore_command;
-use lrc_options::options::{Asked, FollowOptions};
+use lrc_options::options::{Asked, FollowOptions, TraceOptions};
+use lrc_pages::pages_command::run_pages_command;
 use lrc_program::fault::ProgramFault;
 use lrc_program::program::{program, program_says};
 use lrc_program::{ProgramSource, ProgramStreams};
@@ -36,6 +38,31 @@ fn follow<S: Read, W: Write, E: Write>(
             let fault = ProgramFault::from(error);
             program_says(alloc, options.script.as_deref(), fault, err)
         }
+    }
+}
+
+/// The texts by which races are left out, of the file that names them, which is opened here.
+fn left_out(rt: &HostRuntime, file: Option<&str>) -> Result<Vec<Vec<u8>>, ProgramFault> {
+    let alloc = rt.alloc();
+    if file.is_none() {
+        return Ok(Vec::new(alloc));
+    }
+    let mut source = ProgramSource::open(rt, file)?;
+    read_left_out(alloc, &mut source)
+}
+
+/// Judges a trace.
+fn check<S: Read, W: Write, E: Write>(
+    rt: &HostRuntime,
+    options: &TraceOptions,
+    source: &mut S,
+    out: &mut W,
+    err: &mut E,
+) -> u8 {
+    let alloc = rt.alloc();
+    match left_out(rt, options.suppress.as_deref()) {
+        Ok(left_out) => run_check_command(alloc, options, left_out, source, out, err),
+        Err(fault) => program_says(alloc, options.suppress.as_deref(), fault, err),
     }
 }
 
@@ -67,9 +94,10 @@ fn study<R: Threads + Wait + Sync>(
             let mut progress = TerminalProgress::new(rt, 0);
             run_explore_command(&study, options, source, out, err, &mut progress)
         }
-        Asked::Trace(options) => run_check_command(alloc, options, source, out, err),
+        Asked::Trace(options) => check(rt, options, source, out, err),
         Asked::Draw(options) => run_draw_command(alloc, options, out, err),
         Asked::Follow(options) => follow(rt, options, source, out, err),
+        Asked::Pages(options) => run_pages_command(alloc, options, source, out, err),
     }
 }
 

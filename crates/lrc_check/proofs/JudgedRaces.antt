@@ -2,7 +2,7 @@
 use Rattle.std.proofs.Common.{◌≡◌, ℕ, Bool, true, false, List, [], ◌∷◌, ◌++◌, inl, inr, Option, Some, length, subst, sym}
 use Rattle.std.specs.Prelude.{None, is_some}
 use Rattle.journal.specs.declared.event.Event.{Event}
-use Rattle.journal.specs.Races.{RaceFree}
+use Rattle.journal.specs.Races.{Race, RaceFree}
 use Rattle.judge.specs.NearestRaces.{IsNearestRace, IsNearestRaceTo}
 use Rattle.judge.specs.Owed.{IsOwedRacy}
 use Rattle.judge.proofs.NearestRaceSteps.{nearest_race_longer, nearest_race_new, race_for_nearest_cases, nearest_race_none_next}
@@ -40,3 +40,16 @@ judged_race_at_end j e i k free x = elim (race_for_nearest_cases j e i k x.race)
   | inl old ↦ absurd (free i k old)
   | inr is ↦ is
 ]
+
+-- without a race so far, the first race that the event ends is the nearest to it
+pub judged_race_nearest : (j : List Event) (e : Event) (i k : ℕ) → IsCheckVerdictRace j None → IsCheckVerdictRace (j ++ e ∷ []) (Some (i, k))
+    → IsNearestRaceTo j e (Some i)
+judged_race_nearest j e i k free x =
+    let at = judged_race_at_end j e i k free x in (
+      subst (Race (j ++ e ∷ []) i) at x.race,
+      λ m r. x.greatest_first m (subst (Race (j ++ e ∷ []) m) (sym at) r),
+    )
+
+-- and where it ends none, none is near
+pub judged_race_nearest_none : (j : List Event) (e : Event) → IsCheckVerdictRace (j ++ e ∷ []) None → IsNearestRaceTo j e None
+judged_race_nearest_none j e free i r = free i (length j) r

@@ -8,6 +8,6 @@ pub mod ToldHistories
 pub mod HistoryEnds
 pub mod HistoryNext
 pub mod HistoryLocksets
+pub mod RacingWords
 pub mod StreamedTraces
-pub mod WaitingWalks
 pub mod ReadLabels

@@ -52,6 +52,7 @@ pub record IsHistoryJudgeOf (j : List Event) (x : HistoryJudge) : Type 0 where
   pub unjudged : x.unjudged ≡ unjudged_in_check_verdict x.rules.model x.judge.race j
   pub unraced : x.rules.ends_at_race ≡ true → x.judge.race ≡ None
   pub locksets : HasHistoryLocksets x.rules.locksets x.judge.race x.judge.sizes j x.locksets
+  pub racing : is_some x.judge.racing ≡ x.rules.all_races
 
 -- if the history is found faithful, the judge was told it, and its race is the one that was found
 pub record HasJudgedToEnd (j : List Event) (found : Checked) (x : HistoryJudge) : Type 0 where
@@ -87,6 +88,7 @@ pub record HasJudgedNext (j : List Event) (e : Event) (x : TraceJudge) (y : Hist
   pub model : y.judge.model ≡ x.model
   pub lax : y.judge.lax ≡ x.lax
   pub sizes : y.judge.sizes ≡ x.sizes
+  pub racing : is_some y.judge.racing ≡ is_some x.racing
   pub unraced : y.rules.ends_at_race ≡ true → y.judge.race ≡ None
 
 -- one event may be counted more

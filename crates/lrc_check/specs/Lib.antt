@@ -8,7 +8,7 @@ pub mod TraceStreams
 pub mod FoundInBytes
 pub mod ToldLines
 pub mod ToldTraces
+pub mod RacingWords
 pub mod Unprotected
-pub mod WaitingCircles
 pub mod Prelude
 pub mod Traces

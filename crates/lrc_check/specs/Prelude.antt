@@ -9,5 +9,5 @@ pub use Rattle.lrc_check.specs.HistoryJudge.{ComesNextInHistory, ComesNextToHist
 pub use Rattle.lrc_check.specs.TraceStreams.{HasStreamReadOn, IsFoundInStream, IsStreamEnd, IsStreamEndOf, IsStreamJudge, IsTraceStream}
 pub use Rattle.lrc_check.specs.ToldLines.{told_event, told_known_event, told_known_label, told_label, told_line_label_mark, told_line_labelled, told_line}
 pub use Rattle.lrc_check.specs.ToldTraces.{IsToldTraceUpToLie, IsTraceTold, is_told_trace_a_lie}
+pub use Rattle.lrc_check.specs.RacingWords.{AreRacingWords, AreRacingWordsAsked, IsFirstRaceOfWord, IsRacingWordsOf, RacesNext, racing_looked_for}
 pub use Rattle.lrc_check.specs.Unprotected.{AreUnprotectedTold, may_unprotected_be_sought, unprotected_looked_for}
-pub use Rattle.lrc_check.specs.WaitingCircles.{IsWaitingCircle, waited_for, waits_for}

@@ -1,5 +1,5 @@
 -- A judge of histories by the events that it was told.
-use Rattle.std.specs.Prelude.{ℕ, ◌≡◌, Bool, false, Option, MatchOption, List, [], ◌∷◌, ◌++◌, ◌<◌, length}
+use Rattle.std.specs.Prelude.{ℕ, ◌≡◌, Bool, false, Option, IfSome, MatchOption, List, [], ◌∷◌, ◌++◌, ◌<◌, length}
 use Rattle.journal.specs.declared.event.Event.{Event}
 use Rattle.journal.specs.Sizes.{addresses}
 use Rattle.judge.specs.declared.due_counts.DueCounts.{DueCounts}
@@ -16,6 +16,7 @@ use Rattle.judge.specs.FrontTells.{FrontTellsHistory}
 use Rattle.lrc_check.specs.declared.trace_judge.TraceJudge.{TraceJudge}
 use Rattle.lrc_check.specs.CheckVerdicts.{IsCheckVerdictRace}
 use Rattle.lrc_check.specs.Faithful.{IsFaithfulAndCounted}
+use Rattle.lrc_check.specs.RacingWords.{IsRacingWordsOf}
 
 -- what fetches have to count is kept exactly if that is judged, and tells the history
 abbrev pub TraceJudgeHasCounts : MemoryModel → Bool → Sizes → List Event → Option DueCounts → Type 0
@@ -33,6 +34,7 @@ pub record IsTraceJudgeOf (j : List Event) (x : TraceJudge) : Type 0 where
   pub addresses : x.races.addresses ≡ addresses (judged_sizes_of x.sizes)
   pub owed : AreOwedBy x.model (judged_sizes_of x.sizes) j x.owed
   pub counts : TraceJudgeHasCounts x.model x.lax x.sizes j x.counts
+  pub racing : IfSome x.racing (IsRacingWordsOf j)
 
 -- e comes behind j, at this place
 pub record ComesNextToExplain (j : List Event) (e : Event) (place : ℕ) (racy : Bool) (x : TraceJudge) : Type 0 where

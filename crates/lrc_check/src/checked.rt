@@ -17,6 +17,8 @@ pub struct Rules {
     pub ends_at_race: bool,
     /// Which words are told besides, of a faithful history without a race, whose accesses need a lock and have none.
     pub locksets: Option<LocksetWords>,
+    /// Whether of a faithful history all words are told that race, each with its first race.
+    pub all_races: bool,
 }
 
 /// Whether it is judged by these rules what fetches count: under `MemoryModel::LazyRelease` alone, and never lax.

@@ -7,7 +7,9 @@ ghost use Rattle.lrc_check.specs.Prelude.{IsTraceRaceApart, IsFaultFoundBeforeBy
 
 use crate::check_fault::CheckFault;
 use crate::checked::{Checked, Rules};
+use crate::racing_words::RacingWord;
 use crate::told_events::ToldEvents;
+use crate::told_races::ToldRaces;
 use crate::traces::trace::TraceSizes;
 use crate::verdict_text::verdict_text_of;
 use base::MOST_HELD;
@@ -68,9 +70,15 @@ pub struct JudgedTrace {
     /// By rising address the words that need a lock and have none, those that were asked for, if the trace is faithful and has
     /// no race; empty otherwise.
     pub unprotected: Vec<Unprotected>,
+    /// The words that race, each with its first race, if all were asked for and the trace is faithful; empty otherwise.
+    pub racing: Vec<RacingWord>,
+    /// How these are told.
+    pub races: ToldRaces,
     /// What each processor waits for in vain at the end of a faithful trace whose events are all at hand, if any waits; empty
     /// otherwise.
     pub waits: Vec<Wait>,
+    /// Of these the circles of processors that wait for each other.
+    pub circles: Vec<Vec<usize>>,
     /// The number of the line in whose midst the trace ends; None if it doesn't.
     pub unfinished: Option<usize>,
 }

@@ -8,11 +8,12 @@ ghost use Rattle.judge.specs.declared.locksets.lockset_finder.LocksetWords.TheVa
 ghost use Rattle.judge.specs.Locksets.Prelude.{IsGuardedPair, PairsTellUnprotected, TellsGuardedPair};
 ghost use Rattle.judge.specs.declared.sizes.Sizes.{Sizes as JudgedSizes};
 ghost use Rattle.judge.specs.Prelude.{AreStreamedSizes, judged_sizes_of, most_judged_events};
-ghost use Rattle.lrc_check.specs.Prelude.{AreUnprotectedTold, ComesNextInHistory, ComesNextToHistoryLocksets, ComesNextToTally, HasHistoryLocksets, HasJudgedNext, HasJudgedToEnd, IsHistoryLocksets, IsCheckVerdictTraffic, IsHistoryEnd, IsHistoryEndWithin, IsHistoryJudgeOf, IsHistoryTallied, IsNextPartOfHistory, IsTrueCheckVerdict};
+ghost use Rattle.lrc_check.specs.Prelude.{AreRacingWordsAsked, AreUnprotectedTold, ComesNextInHistory, ComesNextToHistoryLocksets, ComesNextToTally, HasHistoryLocksets, HasJudgedNext, HasJudgedToEnd, IsHistoryLocksets, IsCheckVerdictTraffic, IsHistoryEnd, IsHistoryEndWithin, IsHistoryJudgeOf, IsHistoryTallied, IsNextPartOfHistory, IsTrueCheckVerdict};
 ghost use Rattle.lrc_check.specs.Prelude.{is_load_in_check_verdict as is_a_load, is_unjudged_next, unprotected_looked_for};
 ghost use Rattle.lrc_check.specs.declared.trace_judge.TraceJudge.{TraceJudge as Judge};
 
 use crate::checked::{Checked, Lie, Rules, TraceVerdict};
+use crate::racing_words::RacingWord;
 use crate::trace_judge::TraceJudge;
 use crate::unprotected::unprotected_asked_for;
 use journal::{Event, Kind, Traffic, traffic_of};
@@ -120,9 +121,10 @@ impl HistoryJudge {
         ensures rules { IfOk result (λ x. x.rules ≡ rules) }
         ensures sizes { IfOk result (λ x. x.judge.sizes ≡ sizes) }
     {
+        // The judge is the larger part: so it is made last, and no failure drops it.
         Ok(HistoryJudge {
-            judge: TraceJudge::new(alloc, sizes, rules.model, rules.lax)?,
             locksets: history_locksets(alloc, sizes, rules.locksets)?,
+            judge: TraceJudge::new(alloc, sizes, rules.model, rules.lax, rules.all_races)?,
             rules,
             count: 0,
             traffic: Traffic::default(),
@@ -135,6 +137,13 @@ impl HistoryJudge {
         ensures { result ≡ self.now.judge.race }
     {
         self.judge.race()
+    }
+
+    /// The words so far that race, each with its first race, if that is asked for; none otherwise.
+    pub(crate) fn racing(&self) -> &[RacingWord]
+        ensures { (j : List Event) → IsHistoryJudgeOf j self.now → AreRacingWordsAsked self.now.rules.all_races j result.now }
+    {
+        self.judge.racing()
     }
 
     /// Counts the event, which was judged last.
@@ -326,7 +335,7 @@ impl HistoryJudge {
         }
     }
 
-    /// Two accesses so far of the word at this address that only a lock keeps apart, and that hold one in common; None if there are
+    /// Two accesses so far of the word at this address that only a lock keeps apart, and that hold one in common. None if there are
     /// none, if no words without a lock are looked for, or from the first race on.
     pub(crate) fn guarded_so_far(&self, address: usize) -> Option<Guarded>
         requires { (j : List Event) × IsHistoryJudgeOf j self.now }
@@ -341,7 +350,7 @@ impl HistoryJudge {
 }
 
 /// What is found of a history: whether a memory of the model can make it, and if not, which event is the first that none
-/// makes, and why; and the words that need a lock and have none, those that are asked for, if it is faithful and has no race.
+/// makes, and why. If it is faithful and has no race, also the words that need a lock and have none, if these are asked for.
 ///
 /// Nothing is asked of the events' own numbers, which may be out of range. Time and memory are those of `HistoryJudge`. The
 /// only error is running out of memory.
@@ -358,5 +367,7 @@ pub fn judge_history(
         (judged_sizes_of sizes) events.now x.1.items) }
 {
     let mut judge = HistoryJudge::new(alloc, sizes, rules)?;
-    judge.read_whole(alloc, events)
+    let judged = judge.read_whole(alloc, events);
+    drop(judge);
+    judged
 }

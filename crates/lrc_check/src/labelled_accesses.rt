@@ -33,9 +33,9 @@ struct LabelledAccess {
     stores: bool,
 }
 
-/// The accesses that have a label, those that a finder may still tell: of each word, processor, kind and set of locks held the
-/// last one, which `NearestRaces` and `LocksetFinder` keep, too; those of words without a lock that were found; and of each word
-/// two that hold a lock in common, which are told if the word turns out to lack one at times.
+/// The accesses that have a label, those that a finder may still tell. Of each word, processor, kind and set of locks held it is
+/// the last one, which `NearestRaces` and `LocksetFinder` keep, too. Then come those of words without a lock that were found, and
+/// of each word two that hold a lock in common. These are told if the word turns out to lack one at times.
 ///
 /// It takes memory for these accesses, 32 bytes each and up to twice that, and for their labels, of which equal ones are kept
 /// once, however long the trace is.

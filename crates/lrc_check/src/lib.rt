@@ -1,8 +1,8 @@
 //! What the command `lrc check` says of a trace: whether such a memory could have made it, and if not, where not and why.
 //!
 //! **What contracts see.** `Checked` as it is. `IsFaithfulAndCounted` (specs/Faithful) says of a history that each event
-//! may follow what stands before it, lax or not, that each load answers what it may under the model (`IsModelAnswer` of
-//! judge), and that under lazy release, unless lax, each fetch counts its gap. `IsTraceJudgeOf` says what a `TraceJudge` is
+//! may follow what stands before it, lax or not, and that each load returns what it may under the model (`IsModelAnswer` of
+//! judge). Under lazy release, unless lax, it also says that each fetch counts its gap. `IsTraceJudgeOf` says what a `TraceJudge` is
 //! by the events that it was told, `IsTrueCheckVerdict` what each answer means, and `IsFoundInBytes` that it is true of the
 //! one trace with these bytes.
 //!
@@ -24,8 +24,10 @@ mod checking_traces;
 mod history_judge;
 mod kept_lists;
 mod labelled_accesses;
+mod racing_words;
 mod telling_traces;
 mod told_events;
+mod told_races;
 mod trace_history;
 mod trace_judge;
 mod trace_stream;
@@ -38,9 +40,10 @@ pub use check_fault::CheckFault;
 pub use checked::{Checked, Lie, Rules, TraceVerdict, Unexplained, are_counts_judged};
 pub use checking_traces::{JudgedTrace, write_verdict};
 pub use history_judge::judge_history;
+pub use racing_words::RacingWord;
 pub use telling_traces::{ToldTrace, tell_trace};
 pub use told_events::{KnownEvent, ToldEvents};
+pub use told_races::{RacesAsked, ToldRace, ToldRaces};
 pub use trace_history::can_trace_be_held;
 pub use trace_stream::TraceStream;
 pub use verdict_text::{AnswersTold, verdict_reason_text, verdict_text_answers};
-pub use waiting::circle_of_waits;

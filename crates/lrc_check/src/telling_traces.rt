@@ -7,10 +7,12 @@ use crate::checked::{Rules, TraceVerdict};
 use crate::checking_traces::{JudgedTrace, trace_race_apart};
 use crate::history_judge::judge_history;
 use crate::told_events::ToldEvents;
+use crate::told_races::ToldRaces;
 use crate::trace_history::{trace_history_of, trace_history_sizes};
 use crate::traces::trace::LabelledTrace;
 use crate::verdict_text::{verdict_lie_text, verdict_text_of};
 use crate::waiting::waits_at_end_of_trace;
+use causes::wait_circles;
 use journal::Event;
 use judge::{History, MemoryModel};
 use std::alloc::{AllocError, Global};
@@ -84,11 +86,15 @@ fn judge_told_trace(
     let (found, unprotected) = judge_history(alloc, trace_history_sizes(sizes), events, rules)?;
     let race = trace_race_apart(alloc, sizes, events, found.race)?;
     let waits = waits_at_end_of_trace(alloc, sizes, events, &found.verdict)?;
+    let circles = wait_circles(alloc, &waits)?;
     Ok(JudgedTrace {
         found,
         race,
         unprotected,
+        racing: Vec::new(alloc),
+        races: ToldRaces::none(alloc),
         waits,
+        circles,
         unfinished: labelled.unfinished,
     })
 }
@@ -110,7 +116,10 @@ pub fn tell_trace(
         lax,
         ends_at_race: false,
         locksets: None,
+        all_races: false,
     };
     let judged = judge_told_trace(alloc, labelled, rules)?;
-    tell_judged_trace(alloc, labelled, &judged, rules)
+    let told = tell_judged_trace(alloc, labelled, &judged, rules);
+    drop(judged);
+    told
 }

@@ -1,14 +1,15 @@
 //! Judges the next event of a history.
-ghost use Rattle.std.specs.Prelude.{◌≡◌, ◌↔◌, ℕ, [], ◌∷◌, ◌++◌, IfOk, IsTrue, List, MatchOption, None, Ok, OnOk, true};
-ghost use Rattle.std.specs.Prelude.{false, length};
+ghost use Rattle.std.specs.Prelude.{◌≡◌, ◌↔◌, ℕ, [], ◌∷◌, ◌++◌, IfOk, IfSome, IsTrue, List, MatchOption, None, Ok, OnOk, true};
+ghost use Rattle.std.specs.Prelude.{false, is_some, length};
 ghost use Rattle.journal.specs.Sizes.{addresses};
 ghost use Rattle.journal.specs.declared.event.Event.{Event};
 ghost use Rattle.journal.specs.declared.event.Kind.TheVariants.{Load};
 ghost use Rattle.judge.specs.declared.models.MemoryModel.TheVariants.{LazyRelease};
-ghost use Rattle.judge.specs.Prelude.{AreStreamedSizes, IsEventInSizes, IsModelAnswer, IsNotMiscounted, Miscounts, judged_sizes_of};
-ghost use Rattle.lrc_check.specs.Prelude.{TraceJudgeHasCounts, IsFaithfulAndCounted, IsTraceJudgeOf, ComesNextToExplain, ComesNextToJudge, ComesNextToKeep, ComesNextToRead, IsCheckVerdictLie, IsCheckVerdictUnexplainedNext, IsCheckVerdictRace, check_verdict_race_events};
+ghost use Rattle.judge.specs.Prelude.{AreStreamedSizes, IsEventInSizes, IsModelAnswer, IsNearestRaceTo, IsNotMiscounted, Miscounts, judged_sizes_of};
+ghost use Rattle.lrc_check.specs.Prelude.{AreRacingWordsAsked, IsRacingWordsOf, TraceJudgeHasCounts, IsFaithfulAndCounted, IsTraceJudgeOf, ComesNextToExplain, ComesNextToJudge, ComesNextToKeep, ComesNextToRead, IsCheckVerdictLie, IsCheckVerdictUnexplainedNext, IsCheckVerdictRace, check_verdict_race_events};
 
 use crate::checked::{Lie, Unexplained, are_counts_judged};
+use crate::racing_words::{RacingWord, RacingWords};
 use journal::{Event, Kind};
 use judge::{
     DueCounts, Frontier, IllFormed, MemoryModel, Miscounted, NearestRaces, Owed, Sizes, miscount,
@@ -19,8 +20,8 @@ use std::alloc::{AllocError, Global};
 /// model can make.
 ///
 /// `lax` leaves out that a lock's asks are granted in their order, and that fetches count their gaps. It takes time in the
-/// order of the events times the processors times (the processors and the logarithm of the events), and memory in the order
-/// of the stores that a load may still answer, of the addresses times the processors, and of the locks and flags.
+/// order of the events times the processors times (the processors and the logarithm of the events). It takes memory in the
+/// order of the stores that a load may still return, of the addresses times the processors, and of the locks and flags.
 #[derive(Drop)]
 pub struct TraceJudge {
     model: MemoryModel,
@@ -33,6 +34,8 @@ pub struct TraceJudge {
     owed: Owed,
     /// What fetches have to count, if that is judged.
     counts: Option<DueCounts>,
+    /// The words that race, if they are told.
+    racing: Option<RacingWords>,
 }
 
 /// What fetches have to count, if that is judged. The only error is running out of memory.
@@ -53,13 +56,45 @@ fn trace_judge_counts(
     }
 }
 
+/// The words that race, before the first event, if they are told.
+fn trace_judge_racing(alloc: Global, all_races: bool) -> Option<RacingWords>
+    ensures racing { IfSome result (IsRacingWordsOf []) }
+    ensures told { is_some result ≡ all_races }
+{
+    if all_races {
+        Some(RacingWords::new(alloc))
+    } else {
+        None
+    }
+}
+
+/// Takes note of the event, which comes next, at this place, for the words that race, if they are told; `nearest` is the last event
+/// that races with it. The only error is running out of memory.
+fn note_trace_race(
+    racing: &mut Option<RacingWords>,
+    event: Event,
+    place: usize,
+    nearest: Option<usize>,
+) -> Result<(), AllocError>
+    ensures told { is_some racing.new ≡ is_some racing.old }
+    ensures racing { OnOk result ((j : List Event) → length j ≡ place → (IsTrue (is_some racing.old) → IsNearestRaceTo j event nearest)
+        → IfSome racing.old (IsRacingWordsOf j) → IfSome racing.new (IsRacingWordsOf (j ++ event ∷ []))) }
+{
+    match racing {
+        Some(words) => words.note(event, place, nearest),
+        None => Ok(()),
+    }
+}
+
 impl TraceJudge {
-    /// Before the first event of a history of these sizes. The only error is running out of memory.
+    /// Before the first event of a history of these sizes. With `all_races` the words that race are told. The only error is running
+    /// out of memory.
     pub fn new(
         alloc: Global,
         sizes: Sizes,
         model: MemoryModel,
         lax: bool,
+        all_races: bool,
     ) -> Result<TraceJudge, AllocError>
         requires { AreStreamedSizes (judged_sizes_of sizes) }
         ensures judged { IfOk result (IsTraceJudgeOf []) }
@@ -67,6 +102,7 @@ impl TraceJudge {
         ensures lax { IfOk result (λ x. x.lax ≡ lax) }
         ensures sizes { IfOk result (λ x. x.sizes ≡ sizes) }
         ensures race { IfOk result (λ x. x.race ≡ None) }
+        ensures racing { IfOk result (λ x. is_some x.racing ≡ all_races) }
     {
         let addresses = sizes.pages * sizes.words;
         Ok(TraceJudge {
@@ -78,6 +114,7 @@ impl TraceJudge {
             race: None,
             owed: Owed::new(alloc, model, sizes)?,
             counts: trace_judge_counts(alloc, sizes, model, lax)?,
+            racing: trace_judge_racing(alloc, all_races),
         })
     }
 
@@ -183,6 +220,26 @@ impl TraceJudge {
         }
     }
 
+    /// The last event that races with the event, which comes next, at this place, with this first race; it is looked for if the words
+    /// that race are told.
+    #[inline(always)]
+    fn nearest_to(&self, event: Event, place: usize, race: Option<(usize, usize)>) -> Option<usize>
+        requires { (j : List Event) × ComesNextToKeep j event place race self.now }
+        ensures { (j : List Event) → ComesNextToKeep j event place race self.now → IsTrue (is_some self.now.racing)
+            → IsNearestRaceTo j event result }
+    {
+        if self.racing.is_none() {
+            return None;
+        }
+        if self.race.is_some() {
+            return self.races.nearest(event);
+        }
+        match race {
+            Some((first, _)) => Some(first),
+            None => None,
+        }
+    }
+
     /// Keeps the event, at this place, which with those before it is faithful and has this race. The only error is running out of
     /// memory.
     #[inline(always)]
@@ -199,8 +256,11 @@ impl TraceJudge {
         ensures model { self.new.model ≡ self.old.model }
         ensures lax { self.new.lax ≡ self.old.lax }
         ensures sizes { self.new.sizes ≡ self.old.sizes }
+        ensures racing { is_some self.new.racing ≡ is_some self.old.racing }
     {
+        let nearest = self.nearest_to(event, place, race);
         self.race = race;
+        note_trace_race(&mut self.racing, event, place, nearest)?;
         self.front.note(event);
         self.races.note(event)?;
         self.owed.note(event, place)?;
@@ -223,6 +283,7 @@ impl TraceJudge {
         ensures model { self.new.model ≡ self.old.model }
         ensures lax { self.new.lax ≡ self.old.lax }
         ensures sizes { self.new.sizes ≡ self.old.sizes }
+        ensures racing { is_some self.new.racing ≡ is_some self.old.racing }
     {
         let place = self.front.count();
         if let Some(why) = self.front.may_follow(event, self.lax) {
@@ -257,6 +318,7 @@ impl TraceJudge {
         ensures model { self.new.model ≡ self.old.model }
         ensures lax { self.new.lax ≡ self.old.lax }
         ensures sizes { self.new.sizes ≡ self.old.sizes }
+        ensures racing { is_some self.new.racing ≡ is_some self.old.racing }
     {
         let place = self.front.count();
         if self.front.may_follow(event, self.lax).is_some() {
@@ -278,5 +340,15 @@ impl TraceJudge {
         ensures { result ≡ self.now.race }
     {
         self.race
+    }
+
+    /// The words so far that race, if they are told; none otherwise.
+    pub(crate) fn racing(&self) -> &[RacingWord]
+        ensures { (j : List Event) → IsTraceJudgeOf j self.now → AreRacingWordsAsked (is_some self.now.racing) j result.now }
+    {
+        match &self.racing {
+            Some(words) => words.so_far(),
+            None => &[],
+        }
     }
 }

@@ -4,21 +4,25 @@ ghost use Rattle.journal.specs.declared.event.Event.{Event as AnEvent};
 ghost use Rattle.journal.specs.Prelude.{Race};
 ghost use Rattle.lrc_script.specs.Prelude.{HasNoLineFeed};
 ghost use Rattle.lrc_check.specs.Traces.Prelude.{FedTextBeginsTrace, IsNoLawfulTrace, IsFedLineRefused, IsNoUnfinishedTrace, IsTraceSoFar, trace_sizes_of, without_trace_labels};
-ghost use Rattle.lrc_check.specs.Prelude.{AreUnprotectedTold, HasStreamReadOn, IsFaultFoundInBytes, IsFoundInBytes, IsFoundInStream, IsFoundInUnfinished, IsHistoryJudgeOf, IsStreamEnd, IsStreamEndOf, IsStreamJudge, IsTraceStream, unprotected_looked_for};
+ghost use Rattle.causes.specs.Prelude.{AreWaitCircles};
+ghost use Rattle.lrc_check.specs.Prelude.{AreRacingWordsAsked, AreUnprotectedTold, HasStreamReadOn, IsFaultFoundInBytes, IsFoundInBytes, IsFoundInStream, IsFoundInUnfinished, IsHistoryJudgeOf, IsStreamEnd, IsStreamEndOf, IsStreamJudge, IsTraceStream, racing_looked_for, unprotected_looked_for};
 
 use crate::check_fault::CheckFault;
 use crate::checked::{Checked, Lie, Rules, TraceVerdict};
 use crate::checking_traces::{JudgedTrace, trace_race_apart};
 use crate::history_judge::HistoryJudge;
 use crate::labelled_accesses::LabelledAccesses;
+use crate::racing_words::RacingWord;
 use crate::told_events::{KnownEvent, ToldEvents};
+use crate::told_races::{RacesAsked, ToldRaces};
 use crate::trace_history::trace_history_sizes;
 use crate::traces::fault::TraceFault;
 use crate::traces::reader::Reader;
 use crate::traces::trace::TraceSizes;
+use crate::unprotected::is_faithful;
 use crate::verdict_text::{AnswersTold, verdict_text_answers};
 use crate::waiting::waits_at_end_of_trace;
-use causes::{RaceApart, Wait};
+use causes::{RaceApart, Wait, wait_circles};
 use journal::{Event, Kind};
 use judge::FlatStore;
 use judge::locksets::Unprotected;
@@ -40,6 +44,8 @@ pub struct TraceStream {
     /// What is told of the events that were let go of: the accesses of the race, the stores that a lie may answer, and accesses of
     /// words without a lock.
     kept: Vec<KnownEvent>,
+    /// The races that are told, if all are.
+    races: ToldRaces,
 }
 
 /// Keeps the event at this place with its label, if it is at hand. The only error is running out of memory.
@@ -124,8 +130,8 @@ fn keep_owed_stores(
 }
 
 impl TraceStream {
-    /// Before the first piece.
-    pub fn new(alloc: Global, rules: Rules) -> TraceStream
+    /// Before the first piece. If all races are told by the rules, those that are `asked` for are.
+    pub fn new(alloc: Global, rules: Rules, asked: RacesAsked) -> TraceStream
         ensures stream { IsTraceStream [] result }
         ensures rules { result.rules ≡ rules }
     {
@@ -135,6 +141,7 @@ impl TraceStream {
             judge: None,
             earlier: LabelledAccesses::new(alloc, rules.locksets.is_some()),
             kept: Vec::new(alloc),
+            races: ToldRaces::new(alloc, asked),
         }
     }
 
@@ -154,8 +161,19 @@ impl TraceStream {
         Ok(())
     }
 
+    /// Takes note of the races whose second accesses are at hand, if all races are told. The only error is running out of memory.
+    fn note_races(&mut self, alloc: Global) -> Result<(), AllocError>
+        ensures { self.new ≡ record self.old { races = self.new.races } }
+    {
+        if let Some(judge) = &self.judge {
+            self.races
+                .note(alloc, &self.reader, &self.earlier, judge.racing())?;
+        }
+        Ok(())
+    }
+
     /// Keeps the accesses that have a label and may still be told, before the events at hand are let go of. Behind a race no other
-    /// ones are told. The only error is running out of memory.
+    /// ones are told, unless all races are. The only error is running out of memory.
     fn keep_labelled(&mut self, alloc: Global) -> Result<(), AllocError>
         requires { (bytes : List ℕ) × IsTraceStream bytes self.old }
         ensures { self.new ≡ record self.old { earlier = self.new.earlier } }
@@ -163,7 +181,7 @@ impl TraceStream {
         let (Some(judge), Some(sizes)) = (&self.judge, self.reader.sizes()) else {
             return Ok(());
         };
-        if judge.race().is_some() {
+        if judge.race().is_some() && !self.rules.all_races {
             return Ok(());
         }
         let gone = self.reader.gone();
@@ -182,6 +200,7 @@ impl TraceStream {
     {
         if self.reader.events().len() >= MOST_AT_HAND {
             self.keep_race(alloc)?;
+            self.note_races(alloc)?;
             self.keep_labelled(alloc)?;
             self.reader.let_go();
         }
@@ -308,8 +327,8 @@ impl TraceStream {
         self.reader.sizes()
     }
 
-    /// What each processor waits for in vain at the end of the trace, of which this was found, if it is faithful, somebody waits, and all
-    /// events are at hand and no more than `MOST_HELD`; empty otherwise. The only error is running out of memory.
+    /// What each processor waits for in vain at the end of the trace, of which this was found. It is empty unless the trace is
+    /// faithful, somebody waits, and all events are at hand and no more than `MOST_HELD`. The only error is running out of memory.
     fn waits(&self, alloc: Global, found: &Checked) -> Result<Vec<Wait>, AllocError> {
         match self.reader.sizes() {
             Some(sizes) if self.reader.gone() == 0 => {
@@ -371,6 +390,21 @@ impl TraceStream {
         }
     }
 
+    /// The words that race, each with its first race, if all are asked for and the trace, of which this was found, is faithful; none
+    /// otherwise. The only error is running out of memory.
+    fn racing(&self, alloc: Global, found: &Checked) -> Result<Vec<RacingWord>, AllocError>
+        ensures { IfOk result (λ v. (front : List AnEvent) → IsFoundInStream front found.now self.now
+            → AreRacingWordsAsked (racing_looked_for self.now.rules.all_races found.now) (front ++ self.now.reader.events) v.items) }
+    {
+        let mut words = Vec::new(alloc);
+        if is_faithful(&found.verdict)
+            && let Some(judge) = &self.judge
+        {
+            words.extend_from_slice(judge.racing())?;
+        }
+        Ok(words)
+    }
+
     /// Keeps what is told of the accesses that aren't at hand any more: of the race, of this verdict's lie, and of these words without
     /// a lock. The only error is running out of memory.
     fn keep_told(
@@ -395,33 +429,52 @@ impl TraceStream {
         ensures unprotected { OnOk result ((front : List AnEvent) (is : IsFoundInStream front judged.old.found self.old)
             → AreUnprotectedTold (unprotected_looked_for self.old.rules.locksets judged.old.found) (trace_sizes_of is.known)
             (front ++ self.old.reader.events) judged.new.unprotected.items) }
+        ensures racing { OnOk result ((front : List AnEvent) → IsFoundInStream front judged.old.found self.old
+            → AreRacingWordsAsked (racing_looked_for self.old.rules.all_races judged.old.found) (front ++ self.old.reader.events)
+            judged.new.racing.items) }
+        ensures circles { OnOk result (AreWaitCircles judged.new.waits.items (length judged.new.waits.items) judged.new.circles.items) }
     {
         judged.race = self.race_apart(alloc, judged.found.race)?;
         judged.unprotected = self.unprotected(alloc, &judged.found)?;
+        judged.racing = self.racing(alloc, &judged.found)?;
+        self.note_races(alloc)?;
+        judged.races = self.races.taken(alloc);
         self.keep_told(alloc, &judged.found.verdict, &judged.unprotected)?;
         judged.waits = self.waits(alloc, &judged.found)?;
+        judged.circles = wait_circles(alloc, &judged.waits)?;
         Ok(())
     }
 
-    /// What was found, as it is told: with what keeps the race's accesses apart, and who waits at the end, if all events are at hand
-    /// and no more than `MOST_HELD`, and with the words that need a lock and have none, if these are asked for and it is faithful
-    /// without a race. The only error is running out of memory.
+    /// What was found, as it is told. It has what keeps the race's accesses apart, and who waits at the end, if all events are at
+    /// hand and no more than `MOST_HELD`. It has the words that need a lock and have none, if these are asked for and it is
+    /// faithful without a race. The only error is running out of memory.
     pub fn judged(&mut self, alloc: Global, found: Checked) -> Result<JudgedTrace, AllocError>
         requires { (front : List AnEvent) × IsFoundInStream front found self.old }
         ensures found { IfOk result (λ x. x.found ≡ found) }
         ensures unprotected { IfOk result (λ x. (front : List AnEvent) (is : IsFoundInStream front found self.old)
             → AreUnprotectedTold (unprotected_looked_for self.old.rules.locksets found) (trace_sizes_of is.known)
             (front ++ self.old.reader.events) x.unprotected.items) }
+        ensures racing { IfOk result (λ x. (front : List AnEvent) → IsFoundInStream front found self.old
+            → AreRacingWordsAsked (racing_looked_for self.old.rules.all_races found) (front ++ self.old.reader.events) x.racing.items) }
+        ensures circles { IfOk result (λ x. AreWaitCircles x.waits.items (length x.waits.items) x.circles.items) }
     {
         let mut judged = JudgedTrace {
             found,
             race: None,
             unprotected: Vec::new(alloc),
+            racing: Vec::new(alloc),
+            races: ToldRaces::none(alloc),
             waits: Vec::new(alloc),
+            circles: Vec::new(alloc),
             unfinished: self.reader.unfinished_line(),
         };
-        self.complete(alloc, &mut judged)?;
-        Ok(judged)
+        match self.complete(alloc, &mut judged) {
+            Ok(()) => Ok(judged),
+            Err(fault) => {
+                drop(judged);
+                Err(fault)
+            }
+        }
     }
 
     /// The events that can be told: those at hand, with their labels, and of those before the accesses of the race, the stores that a

@@ -8,7 +8,7 @@ use judge::locksets::{Guarded, LocksetWords, PairedAccess, Unprotected};
 use std::alloc::{AllocError, Global};
 
 /// Whether the trace is faithful.
-fn is_faithful(verdict: &TraceVerdict) -> bool
+pub(crate) fn is_faithful(verdict: &TraceVerdict) -> bool
     ensures { result ≡ may_unprotected_be_sought verdict.now }
 {
     match verdict {

@@ -1,10 +1,12 @@
 //! The text of what was found of a trace.
 ghost use Rattle.std.specs.Prelude.{◌≡◌, ◌++◌, OnOk};
-ghost use Rattle.lrc_check.specs.Prelude.{told_line_label_mark, told_line};
+ghost use Rattle.lrc_report.specs.ReportText.{report_event_text};
+ghost use Rattle.lrc_check.specs.Prelude.{told_line_label_mark, told_line_labelled, told_line};
 
 use crate::checked::{Lie, Rules, TraceVerdict, Unexplained};
 use crate::checking_traces::JudgedTrace;
-use crate::told_events::ToldEvents;
+use crate::told_events::{KnownEvent, ToldEvents};
+use crate::told_races::ToldRace;
 use crate::unprotected::put_unprotected_text;
 use crate::waiting::put_waits_text;
 use causes::RaceApart;
@@ -34,6 +36,24 @@ fn put_verdict_label_text(text: &mut Vec<u8>, label: &[u8]) -> Result<(), AllocE
     Ok(())
 }
 
+/// Adds the line of this event, as the trace has it, with its label.
+pub(crate) fn put_verdict_line_text(
+    text: &mut Vec<u8>,
+    place: usize,
+    event: Event,
+    label: &[u8],
+) -> Result<(), AllocError>
+    ensures { OnOk result (text.new.items ≡ text.old.items ++ told_line_labelled (report_event_text place event) label.now) }
+{
+    let mut line = ReportLine::new();
+    render::render_report_event(&mut line, place as u64, &event);
+    let bytes = line.bytes();
+    text.extend_from_slice(&bytes[..bytes.len() - 1])?;
+    put_verdict_label_text(text, label)?;
+    text.push(b'\n')?;
+    Ok(())
+}
+
 /// Adds the line of the event at this place, as the trace has it, with its label; nothing if the event isn't known.
 fn put_verdict_event_text(
     text: &mut Vec<u8>,
@@ -46,13 +66,7 @@ fn put_verdict_event_text(
     let Some(event) = told.event(place) else {
         return Ok(());
     };
-    let mut line = ReportLine::new();
-    render::render_report_event(&mut line, place as u64, &event);
-    let bytes = line.bytes();
-    text.extend_from_slice(&bytes[..bytes.len() - 1])?;
-    put_verdict_label_text(text, told.label(place))?;
-    text.push(b'\n')?;
-    Ok(())
+    put_verdict_line_text(text, place, event, told.label(place))
 }
 
 /// Adds the lines of these stores.
@@ -243,11 +257,87 @@ fn put_verdict_race_text(
     text.extend_from_slice(b"verdict racy\n")?;
     put_verdict_event_text(text, told, first)?;
     put_verdict_event_text(text, told, second)?;
+    put_verdict_reasons_text(text, alloc, told, judged)
+}
+
+/// Adds the sentences on the first race, if what keeps its accesses apart is known.
+fn put_verdict_reasons_text(
+    text: &mut Vec<u8>,
+    alloc: Global,
+    told: ToldEvents<'_>,
+    judged: &JudgedTrace,
+) -> Result<(), AllocError> {
     if let Some(apart) = &judged.race {
         let reasons = verdict_reasons_text(alloc, told.events, apart)?;
         text.extend_from_slice(&reasons)?;
     }
     Ok(())
+}
+
+/// Adds the line of an access, if it is known.
+fn put_verdict_access_text(
+    text: &mut Vec<u8>,
+    access: &Option<KnownEvent>,
+) -> Result<(), AllocError> {
+    match access {
+        Some(known) => put_verdict_line_text(text, known.place, known.event, &known.label),
+        None => Ok(()),
+    }
+}
+
+/// Adds a race that is told with others: its word, how many others race between the same labels, and its two events.
+fn put_verdict_told_race_text(
+    text: &mut Vec<u8>,
+    alloc: Global,
+    race: &ToldRace,
+) -> Result<(), AllocError> {
+    let address = race.word.address;
+    let others = race.words.saturating_sub(1);
+    let line = match others {
+        0 => format!(in alloc; "race of word {address}\n")?,
+        1 => format!(in alloc; "race of word {address}, and of 1 more with these labels\n")?,
+        _ => format!(in alloc; "race of word {address}, and of {others} more with these labels\n")?,
+    };
+    text.extend_from_slice(line.as_bytes())?;
+    put_verdict_access_text(text, &race.first)?;
+    put_verdict_access_text(text, &race.second)
+}
+
+/// Adds how many words race, and how many of them are left out, if any are.
+fn put_verdict_racing_text(
+    text: &mut Vec<u8>,
+    alloc: Global,
+    judged: &JudgedTrace,
+) -> Result<(), AllocError> {
+    let words = judged.racing.len();
+    let left_out = judged.races.left_out;
+    let line = format!(in alloc; "racing words {words}\n")?;
+    text.extend_from_slice(line.as_bytes())?;
+    if left_out > 0 {
+        let line = format!(in alloc; "left out {left_out} words\n")?;
+        text.extend_from_slice(line.as_bytes())?;
+    }
+    Ok(())
+}
+
+/// Adds all races of a faithful trace, those that are told: with the sentences on the first one, if that is told.
+fn put_verdict_all_races_text(
+    text: &mut Vec<u8>,
+    alloc: Global,
+    told: ToldEvents<'_>,
+    judged: &JudgedTrace,
+) -> Result<(), AllocError> {
+    let Some((_, second)) = judged.found.race else {
+        return Ok(());
+    };
+    text.extend_from_slice(b"verdict racy\n")?;
+    for race in &judged.races.races {
+        put_verdict_told_race_text(text, alloc, race)?;
+        if race.word.second == second {
+            put_verdict_reasons_text(text, alloc, told, judged)?;
+        }
+    }
+    put_verdict_racing_text(text, alloc, judged)
 }
 
 /// The place of the lie.
@@ -378,9 +468,13 @@ fn put_verdict_faithful_text(
     if !is_racy {
         text.extend_from_slice(b"verdict race-free\n")?;
     }
-    put_verdict_race_text(text, alloc, told, judged)?;
+    if rules.all_races {
+        put_verdict_all_races_text(text, alloc, told, judged)?;
+    } else {
+        put_verdict_race_text(text, alloc, told, judged)?;
+    }
     put_unprotected_text(text, alloc, told, &judged.unprotected)?;
-    put_waits_text(text, alloc, &judged.waits)?;
+    put_waits_text(text, alloc, &judged.waits, &judged.circles)?;
     put_verdict_traffic_text(text, alloc, traffic)?;
     put_verdict_unfinished_text(text, alloc, judged.unfinished)
 }

@@ -1,6 +1,4 @@
 //! Who waits at the end of a trace, and who wait for each other.
-ghost use Rattle.std.specs.Prelude.{◌≡◌, ◌≢◌, ℕ, [], IfOk, List};
-ghost use Rattle.lrc_check.specs.Prelude.{IsWaitingCircle, waited_for, waits_for};
 
 use crate::checked::TraceVerdict;
 use crate::trace_history::trace_history_sizes;
@@ -73,53 +71,6 @@ pub(crate) fn waits_at_end_of_trace(
     }
 }
 
-/// The one processor that is waited for: a lock's holder, or who alone hasn't arrived at the barrier.
-fn waited_for(wait: &Wait) -> Option<usize>
-    ensures { result ≡ waited_for wait.now }
-{
-    match wait {
-        Wait::Lock { holder, .. } => *holder,
-        Wait::Barrier { absent } => match absent.as_slice() {
-            [processor] => Some(*processor),
-            _ => None,
-        },
-        _ => None,
-    }
-}
-
-/// The one processor that this one waits for, by what each waits for.
-fn waits_for(waits: &[Wait], processor: usize) -> Option<usize>
-    ensures { result ≡ waits_for waits.now processor }
-{
-    match waits.get(processor) {
-        Some(wait) => waited_for(wait),
-        None => None,
-    }
-}
-
-/// The processors that wait for each other in a circle of which this one is the least, each before the one that it waits for;
-/// none if there is no such circle. `waits` has what each processor waits for. The only error is running out of memory.
-pub fn circle_of_waits(
-    alloc: Global,
-    waits: &[Wait],
-    least: usize,
-) -> Result<Vec<usize>, AllocError>
-    ensures circle { IfOk result (λ v. v.items ≢ [] → IsWaitingCircle waits.now least v.items) }
-    ensures none { IfOk result (λ v. v.items ≡ [] → (circle : List ℕ) → ¬ IsWaitingCircle waits.now least circle) }
-{
-    let mut circle = Vec::new(alloc);
-    let mut at = least;
-    for _ in 0..waits.len() {
-        circle.push(at)?;
-        match waits_for(waits, at) {
-            Some(next) if next == least => return Ok(circle),
-            Some(next) if next > least => at = next,
-            _ => return Ok(Vec::new(alloc)),
-        }
-    }
-    Ok(Vec::new(alloc))
-}
-
 /// Adds some processors, with commas between them.
 fn put_waiting_processors_text(
     text: &mut Vec<u8>,
@@ -178,21 +129,20 @@ fn put_each_wait_text(text: &mut Vec<u8>, alloc: Global, waits: &[Wait]) -> Resu
     Ok(())
 }
 
-/// Adds a line for each processor that waits, and behind these one for each circle of processors that wait for each other.
+/// Adds a line for each processor that waits, and after these one for each of these circles of processors that wait for
+/// each other.
 /// `waits` has what each waits for.
 pub(crate) fn put_waits_text(
     text: &mut Vec<u8>,
     alloc: Global,
     waits: &[Wait],
+    circles: &[Vec<usize>],
 ) -> Result<(), AllocError> {
     put_each_wait_text(text, alloc, waits)?;
-    for least in 0..waits.len() {
-        let circle = circle_of_waits(alloc, waits, least)?;
-        if !circle.is_empty() {
-            text.extend_from_slice(b"circle ")?;
-            put_waiting_processors_text(text, alloc, &circle)?;
-            text.push(b'\n')?;
-        }
+    for circle in circles {
+        text.extend_from_slice(b"circle ")?;
+        put_waiting_processors_text(text, alloc, circle)?;
+        text.push(b'\n')?;
     }
     Ok(())
 }

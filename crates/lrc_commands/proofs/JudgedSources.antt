@@ -1,9 +1,10 @@
 -- A trace that was read and judged.
-use Rattle.std.proofs.Common.{◌≡◌, ◌≢◌, ◌∙◌, ℕ, inl, suc, Bool, true, false, List, [], ◌++◌, ◌≤◌, Option, Some, None, Result, Ok, Err, length, take, drop, refl, sym, ap, subst, append_assoc, append-nil, take-append-drop, arith}
+use Rattle.std.proofs.Common.{◌≡◌, ◌≢◌, ◌∙◌, ℕ, inl, inr, suc, Bool, true, false, List, [], ◌++◌, ◌≤◌, Option, Some, None, Result, Ok, Err, length, take, drop, refl, sym, ap, subst, append_assoc, append-nil, take-append-drop, arith}
 use Rattle.std.proofs.lemmas.List.{take_all}
-use Rattle.std.specs.Prelude.{IfErr, IfOk, IfSome}
+use Rattle.std.specs.Prelude.{IfErr, IfOk, IfSome, IsTrue, is_some}
 use Rattle.std.specs.Io.KnownBytes.{Consumes, IsAtEnd}
 use Rattle.journal.specs.declared.event.Event.{Event}
+use Rattle.journal.specs.Races.{Race}
 use Rattle.journal.specs.Sizes.{Sizes}
 use Rattle.judge.specs.declared.models.MemoryModel.{MemoryModel}
 use Rattle.lrc_check.specs.declared.checked.Checked.{Checked}
@@ -15,18 +16,19 @@ use Rattle.lrc_check.specs.Faithful.{IsFaithfulAndCounted}
 use Rattle.lrc_check.specs.HistoryJudge.{HasEndedEarly}
 use Rattle.lrc_check.specs.TraceStreams.{IsStreamEnd}
 use Rattle.lrc_check.specs.ToldTraces.{IsToldTraceUpToLie}
-use Rattle.lrc_check.specs.CheckVerdicts.{IsCheckVerdictLie, IsCheckVerdictOf, IsCheckVerdictWhole, check_verdict_lie_place}
+use Rattle.lrc_check.specs.CheckVerdicts.{IsCheckVerdictLie, IsCheckVerdictOf, IsCheckVerdictWhole, IsTrueCheckVerdict, check_verdict_lie_place}
 use Rattle.lrc_check.specs.declared.traces.fault.TraceFault.{TraceFault}
 use Rattle.lrc_check.specs.declared.traces.fault.TraceFault.TheVariants.{NoMemory}
-use Rattle.lrc_check.proofs.FoundRaces.{found_race_of_front}
+use Rattle.lrc_check.proofs.FoundRaces.{found_is_race, found_race_of_front}
 use Rattle.lrc_check.specs.Traces.FedText.{FedTextBeginsTrace, IsFedTextOf, FedText}
 use Rattle.lrc_check.specs.Traces.Labels.{without_trace_labels}
 use Rattle.lrc_check.specs.Traces.LawfulTraces.{IsLawfulTrace}
 use Rattle.lrc_check.specs.Traces.TraceText.{trace_text}
 use Rattle.lrc_commands.specs.declared.checking.Judgement.{Judgement}
+use Rattle.lrc_commands.specs.declared.checking.Judgement.TheVariants as judgement
 use Rattle.lrc_commands.specs.declared.fault.CommandFault.{CommandFault}
 use Rattle.lrc_commands.specs.ExitStatus.{IsCommandExitStatusOfInput}
-use Rattle.lrc_commands.specs.TraceCommand.{BeginsWithTraceCommandText, HasNoTraceCommandFront, HasTraceCommandText, IsTraceCommandFound, IsTraceCommandText, IsTraceCommandJudgedAs, IsTraceCommandNoText, IsTraceCommandOnNone, IsTraceCommandToldAs, IsTraceCommandReadSoFar, trace_command_judgement}
+use Rattle.lrc_commands.specs.TraceCommand.{BeginsWithTraceCommandText, HasNoTraceCommandFront, HasTraceCommandText, IsTraceCommandEnding, IsTraceCommandFound, IsTraceCommandOnRacy, IsTraceCommandText, IsTraceCommandJudgedAs, IsTraceCommandNoText, IsTraceCommandOnNone, IsTraceCommandToldAs, IsTraceCommandReadSoFar, trace_command_judgement}
 
 -- nothing was read yet
 pub judged_source_fed_none : (source : Option (List ℕ)) (x : FedText) → IsFedTextOf [] [] [] x → IsTraceCommandReadSoFar source source (Ok x)
@@ -102,16 +104,6 @@ pub judged_source_full_refused : (unfinished : Bool) (source : Option (List ℕ)
     → IsTraceCommandNoText unfinished fed → IsTraceCommandOnNone unfinished source
 judged_source_full_refused unfinished None fed same none = tt
 judged_source_full_refused unfinished (Some xs) fed same none = subst (IsTraceCommandNoText unfinished) (sym same) none
-
--- a history that begins with a lie isn't faithful
-no_judged_source_faithful : (m : MemoryModel) (lax : Bool) (s : Sizes) (j : List Event) (n : ℕ) (x : Lie)
-    → IsCheckVerdictLie m lax s (take n j) x → ¬ IsFaithfulAndCounted m lax s j
-no_judged_source_faithful m lax s j n x lie faithful =
-    let last = lie.last in
-    let le : length (take n j) ≤ suc (check_verdict_lie_place x) = omega arith in
-    let whole = take_all (suc (check_verdict_lie_place x)) (take n j) le in
-    let split = ap (λ (xs : List Event). xs ++ drop n j) whole ∙ take-append-drop n j in
-    lie.first.never (drop n j) (subst (IsFaithfulAndCounted m lax s) (sym split) faithful)
 
 -- no history that begins with a lie is faithful
 no_judged_source_faithful_on : (m : MemoryModel) (lax : Bool) (s : Sizes) (j : List Event) (n : ℕ) (x : Lie)
@@ -206,6 +198,61 @@ pub judged_source_stream_whole : (r : Rules) (unfinished : Bool) (source left : 
 judged_source_stream_whole r unfinished source left fed found had end is =
     judged_source_stream_found r unfinished source fed found (judged_source_consumed_fully source left fed had end) is
 
+-- a race that was found is one of a trace with whose text the source begins
+judged_source_racy : (r : Rules) (source : Option (List ℕ)) (s : Sizes) (es : List Event) (found : Checked) → IsLawfulTrace s es
+    → BeginsWithTraceCommandText source s es → IsTrueCheckVerdict r s es found → IfSome found.race (λ _. IsTraceCommandOnRacy source)
+judged_source_racy r source s es found trace begins says = go found.race (found_is_race r s es found says)
+  where
+    go : (o : Option (ℕ × ℕ)) → IfSome o (λ x. Race es x.0 x.1) → IfSome o (λ _. IsTraceCommandOnRacy source)
+    go None is = tt
+    go (Some x) is = record { sizes = s; events = es; trace = trace; begins = begins; first = x.0; second = x.1; race = is }
+
+-- if judging ended as it was read
+pub judged_source_ended_racy : (r : Rules) (source left : Option (List ℕ)) (fed : List ℕ) (found : Checked) → Consumes source left fed
+    → IsStreamEnd r fed found → IfSome found.race (λ _. IsTraceCommandOnRacy source)
+judged_source_ended_racy r source left fed found had end =
+    judged_source_racy r source end.sizes end.events found end.trace
+    (judged_source_stream_begins source left fed end.sizes end.events had end.begins) end.end.says
+
+-- and if all was read
+judged_source_found_racy : (r : Rules) (unfinished : Bool) (source : Option (List ℕ)) (fed : List ℕ) (found : Checked)
+    → IfSome source (λ xs. xs ≡ fed) → IsTraceCommandFound unfinished r fed found → IfSome found.race (λ _. IsTraceCommandOnRacy source)
+judged_source_found_racy r true source fed found same is =
+    judged_source_racy r source is.sizes is.events found is.trace
+    (judged_source_begins true source is.sizes is.events (judged_source_full_text true source fed is.sizes is.events same is.text_is)) is.checked
+judged_source_found_racy r false source fed found same is =
+    judged_source_racy r source is.sizes is.events found is.trace
+    (judged_source_begins false source is.sizes is.events (judged_source_full_text false source fed is.sizes is.events same is.text_is)) is.checked
+
+pub judged_source_whole_racy : (r : Rules) (unfinished : Bool) (source left : Option (List ℕ)) (fed : List ℕ) (found : Checked)
+    → Consumes source left fed → IsAtEnd left → IsTraceCommandFound unfinished r fed found → IfSome found.race (λ _. IsTraceCommandOnRacy source)
+judged_source_whole_racy r unfinished source left fed found had end is =
+    judged_source_found_racy r unfinished source fed found (judged_source_consumed_fully source left fed had end) is
+
+-- how it ended is said of the source
+judged_source_ending : (m : MemoryModel) (lax unfinished : Bool) (source : Option (List ℕ)) (found : Checked) (x : Judgement)
+    → IsTraceCommandJudgedAs m lax unfinished source (trace_command_judgement found.verdict) → IfSome found.race (λ _. IsTraceCommandOnRacy source)
+    → IsTraceCommandEnding found x → IsTraceCommandJudgedAs m lax unfinished source x
+judged_source_ending m lax unfinished source found x judged racy ends = elim ends [
+  | inl same ↦ subst (IsTraceCommandJudgedAs m lax unfinished source) (sym same) judged
+  | inr other ↦ elim other [
+    | inl both ↦ subst (IsTraceCommandJudgedAs m lax unfinished source) (sym both.0) (go found.race both.1 racy)
+    | inr hung ↦ subst (IsTraceCommandJudgedAs m lax unfinished source) (sym hung.0)
+        (subst (IsTraceCommandJudgedAs m lax unfinished source) hung.1 judged)
+  ]
+]
+  where
+    go : (o : Option (ℕ × ℕ)) → IsTrue (is_some o) → IfSome o (λ _. IsTraceCommandOnRacy source) → IsTraceCommandOnRacy source
+    go None some is = absurd cc
+    go (Some r) some is = is
+
+pub judged_source_answered_ending : {E : Type 0} (m : MemoryModel) (lax unfinished : Bool) (source : Option (List ℕ)) (found : Checked)
+    (x : Result Judgement E) → IfOk x (IsTraceCommandEnding found)
+    → IsTraceCommandJudgedAs m lax unfinished source (trace_command_judgement found.verdict) → IfSome found.race (λ _. IsTraceCommandOnRacy source)
+    → IfOk x (IsTraceCommandJudgedAs m lax unfinished source)
+judged_source_answered_ending m lax unfinished source found (Ok b) ends judged racy = judged_source_ending m lax unfinished source found b judged racy ends
+judged_source_answered_ending m lax unfinished source found (Err e) ends judged racy = tt
+
 -- and so by the rules that were asked for
 pub judged_source_by : (r : Rules) (m : MemoryModel) (lax unfinished : Bool) (source : Option (List ℕ)) (a b : Judgement) → r.model ≡ m
     → r.lax ≡ lax → b ≡ a → IsTraceCommandJudgedAs r.model r.lax unfinished source a → IsTraceCommandJudgedAs m lax unfinished source b
@@ -214,12 +261,6 @@ judged_source_by r m lax unfinished source a b model same is judged =
     (subst (λ x. IsTraceCommandJudgedAs x lax unfinished source a) model (subst (λ y. IsTraceCommandJudgedAs r.model y unfinished source a) same judged))
 
 -- also of the judgement that a call answers
-pub judged_source_answered : {E : Type 0} (m : MemoryModel) (lax unfinished : Bool) (source : Option (List ℕ)) (a : Judgement)
-    (x : Result Judgement E) → IfOk x (λ b. b ≡ a) → IsTraceCommandJudgedAs m lax unfinished source a
-    → IfOk x (IsTraceCommandJudgedAs m lax unfinished source)
-judged_source_answered m lax unfinished source a (Ok b) is judged = subst (IsTraceCommandJudgedAs m lax unfinished source) (sym is) judged
-judged_source_answered m lax unfinished source a (Err e) is judged = tt
-
 pub judged_source_answered_by : {E : Type 0} (r : Rules) (m : MemoryModel) (lax unfinished : Bool) (source : Option (List ℕ))
     (x : Result Judgement E) → r.model ≡ m → r.lax ≡ lax → IfOk x (IsTraceCommandJudgedAs r.model r.lax unfinished source)
     → IfOk x (IsTraceCommandJudgedAs m lax unfinished source)

@@ -1,5 +1,5 @@
 -- What the program does with a trace.
-use Rattle.std.specs.Prelude.{◌≡◌, ◌≢◌, ◌⊎◌, ℕ, Bool, true, false, List, [], ◌++◌, Option, Result, Ok, Err, IfSome}
+use Rattle.std.specs.Prelude.{◌≡◌, ◌≢◌, ◌⊎◌, ℕ, Bool, true, false, List, [], ◌++◌, Option, Result, Ok, Err, IfSome, IsTrue, is_some}
 use Rattle.std.specs.Io.KnownBytes.{Consumes}
 use Rattle.journal.specs.declared.event.Event.{Event}
 use Rattle.journal.specs.Sizes.{Sizes}
@@ -40,6 +40,16 @@ abbrev pub trace_command_judgement : TraceVerdict → Judgement
 trace_command_judgement (verdict.Faithful traffic unjudged) = judgement.Faithful
 trace_command_judgement (verdict.Lie x) = judgement.Unfaithful
 trace_command_judgement verdict.Racy = judgement.Racy
+
+-- how a trace ends of which this was found: as it was judged, as racy if it has a race, or as one that hangs if it is faithful
+abbrev pub IsTraceCommandEnding : Checked → Judgement → Type 0
+IsTraceCommandEnding found x = (x ≡ trace_command_judgement found.verdict) ⊎ ((x ≡ judgement.Racy) × IsTrue (is_some found.race))
+    ⊎ ((x ≡ judgement.Hung) × (trace_command_judgement found.verdict ≡ judgement.Faithful))
+
+-- a faithful trace that hangs ends so, every other one as it was judged
+abbrev pub trace_command_ending : Bool → Judgement → Judgement
+trace_command_ending true judgement.Faithful = judgement.Hung
+trace_command_ending _ x = x
 
 -- the bytes are, without labels, the text of this trace; if it may end in the midst of a line, and behind that the beginning of a line
 abbrev pub IsTraceCommandText : Bool → List ℕ → Sizes → List Event → Type 0
@@ -116,6 +126,7 @@ abbrev pub IsTraceCommandJudgedAs : MemoryModel → Bool → Bool → Option (Li
 IsTraceCommandJudgedAs m lax unfinished source judgement.Faithful = IsTraceCommandOnFaithful m lax unfinished source
 IsTraceCommandJudgedAs m lax unfinished source judgement.Unfaithful = IsTraceCommandOnLie m lax source
 IsTraceCommandJudgedAs m lax unfinished source judgement.Racy = IsTraceCommandOnRacy source
+IsTraceCommandJudgedAs m lax unfinished source judgement.Hung = IsTraceCommandOnFaithful m lax unfinished source
 
 -- the text of no trace begins with the first of the bytes
 abbrev pub HasNoTraceCommandFront : List ℕ → Type 0

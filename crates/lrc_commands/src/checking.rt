@@ -1,11 +1,12 @@
 //! The program that judges traces, over its reader and its writers.
-ghost use Rattle.std.specs.Prelude.{◌≡◌, ◌≢◌, ◌⊎◌, ℕ, ◌<◌, ◌≤◌, List, [], Option, IfErr, IfOk, length, option_map, take};
+ghost use Rattle.std.specs.Prelude.{◌≡◌, ◌≢◌, ◌⊎◌, ℕ, ◌<◌, ◌≤◌, List, [], Option, IfErr, IfOk, IfSome, length, option_map, take};
 ghost use Rattle.std.specs.Io.KnownBytes.{Consumes, IsAtEnd, Keeps};
 ghost use Rattle.lrc_check.specs.Traces.Prelude.{IsFedTextOf, IsLawfulTrace, trace_sizes_of};
 ghost use Rattle.journal.specs.declared.event.Event.{Event};
 ghost use Rattle.lrc_check.specs.Prelude.{IsFaultFoundInBytes, IsFoundInStream, IsTraceStream};
-ghost use Rattle.lrc_commands.specs.Prelude.{HasTraceCommandText, IsTraceCommandFound, IsTraceCommandText, IsCommandExitStatusBeforeAnswer, IsTraceCommandOnFaithful, IsCommandExitStatusOfInput, IsTraceCommandJudgedAs, IsTraceCommandNoText, IsTraceCommandOnNone};
-ghost use Rattle.lrc_commands.specs.Prelude.{IsTraceCommandOnLie, IsTraceCommandOnRacy, IsTraceCommandReadSoFar, trace_command_locksets, trace_command_model, trace_command_judgement};
+ghost use Rattle.lrc_commands.specs.declared.checking.Judgement.TheVariants as judgement;
+ghost use Rattle.lrc_commands.specs.Prelude.{HasTraceCommandText, IsTraceCommandEnding, IsTraceCommandFound, IsTraceCommandText, IsCommandExitStatusBeforeAnswer, IsTraceCommandOnFaithful, IsCommandExitStatusOfInput, IsTraceCommandJudgedAs, IsTraceCommandNoText, IsTraceCommandOnNone};
+ghost use Rattle.lrc_commands.specs.Prelude.{IsTraceCommandOnLie, IsTraceCommandOnRacy, IsTraceCommandReadSoFar, trace_command_ending, trace_command_locksets, trace_command_model, trace_command_judgement};
 
 use crate::fault::CommandFault;
 use crate::refused_line::RefusedLine;
@@ -15,7 +16,8 @@ use lrc_check::traces::fault::TraceFault;
 use lrc_check::traces::reader::Reader;
 use lrc_check::traces::trace::LabelledTrace;
 use lrc_check::{
-    CheckFault, Checked, JudgedTrace, Rules, ToldEvents, TraceStream, TraceVerdict, write_verdict,
+    CheckFault, Checked, JudgedTrace, RacesAsked, Rules, ToldEvents, TraceStream, TraceVerdict,
+    write_verdict,
 };
 use lrc_json::write_checked_json;
 use lrc_options::options::{TraceLocksets, TraceModel, TraceOptions};
@@ -28,13 +30,19 @@ use std::io::{ErrorKind, Read, Write};
 const MOST_READ: usize = (1 << 27) + 128;
 
 /// How many bytes are read at once, at most.
-const PIECE: usize = 1 << 16;
+pub(crate) const PIECE: usize = 1 << 16;
 
 /// The exit status of a trace that isn't faithful.
 pub(crate) const UNFAITHFUL: u8 = 6;
 
+/// How many races of a program's trace are told at most if no number is given.
+const DEFAULT_RACES: u64 = 100;
+
 /// The exit status of a trace whose judging ended with its race.
 const RACY: u8 = 8;
+
+/// The exit status of a program's trace at whose end processors wait for each other in a circle.
+const HUNG: u8 = 9;
 
 /// How judging a trace ended.
 #[derive(Clone, Copy)]
@@ -45,13 +53,15 @@ pub enum Judgement {
     Unfaithful,
     /// It races, which was to end the judging.
     Racy,
+    /// It is faithful, and a program's that hangs: at its end processors wait for each other in a circle.
+    Hung,
 }
 
 /// What is read of a trace so far, or its first line with a fault.
 type Reading = Result<Reader, (usize, TraceFault)>;
 
 /// Reads some bytes, and none at the end alone. A read that a signal broke off is made again.
-fn check_command_reads_some<S: Read>(source: &mut S, piece: &mut [u8]) -> io::Result<usize>
+pub fn check_command_reads_some<S: Read>(source: &mut S, piece: &mut [u8]) -> io::Result<usize>
     requires { 0 < length piece.old }
     ensures bound { IfOk result (λ n. n ≤ length piece.new) }
     ensures bytes { IfOk result (λ n. Consumes (S.remaining source.old) (S.remaining source.new) (take n piece.new)) }
@@ -180,6 +190,7 @@ fn check_command_streams<S: Read>(
     requires stream { IsTraceStream [] stream.old }
     ensures judged { IfOk result (λ x. IsTraceCommandJudgedAs stream.old.rules.model stream.old.rules.lax unfinished (S.remaining source.old)
         (trace_command_judgement x.verdict)) }
+    ensures racy { IfOk result (λ x. IfSome x.race (λ _. IsTraceCommandOnRacy (S.remaining source.old))) }
     ensures at_hand { IfOk result (λ x. (front : List Event) × IsFoundInStream front x stream.new) }
     ensures refused { IfErr result (λ fault. IsCommandExitStatusOfInput fault → IsTraceCommandOnNone unfinished (S.remaining source.old)) }
 {
@@ -196,7 +207,7 @@ fn check_command_streams<S: Read>(
 }
 
 /// Room for so many bytes.
-fn room(alloc: Global, size: usize) -> Result<Vec<u8>, AllocError>
+pub(crate) fn room(alloc: Global, size: usize) -> Result<Vec<u8>, AllocError>
     ensures { IfOk result (λ v. length v.items ≡ size) }
 {
     vec![in alloc; 0; size]
@@ -217,15 +228,30 @@ pub fn check_command_reads_all<S: Read>(
     check_command_reads_pieces(alloc, source, &mut piece, unfinished, refused)
 }
 
-/// How judging ended, by what was found.
-fn check_command_judgement(found: &Checked) -> Judgement
-    ensures { result ≡ trace_command_judgement found.now.verdict }
+/// How judging ended, by what was found. A faithful trace hangs if this says so.
+fn check_command_judgement_of(verdict: &TraceVerdict, is_hung: bool) -> Judgement
+    ensures { result ≡ trace_command_ending is_hung (trace_command_judgement verdict.now) }
 {
-    match found.verdict {
+    match verdict {
+        TraceVerdict::Faithful { .. } if is_hung => Judgement::Hung,
         TraceVerdict::Faithful { .. } => Judgement::Faithful,
         TraceVerdict::Lie(_) => Judgement::Unfaithful,
         TraceVerdict::Racy => Judgement::Racy,
     }
+}
+
+/// How judging ended, by what was found. If a race is an error, a trace of which all races are told ends so as soon as one is told.
+/// If not, a program's hangs if processors wait for each other in a circle.
+fn check_command_judgement(options: &TraceOptions, judged: &JudgedTrace) -> Judgement
+    ensures ending { IsTraceCommandEnding judged.now.found result }
+    ensures hung { result ≡ judgement.Hung → judged.now.circles.items ≢ [] }
+{
+    let is_racy = judged.found.race.is_some();
+    if options.race_is_error && is_racy && !judged.races.races.is_empty() {
+        return Judgement::Racy;
+    }
+    let is_hung = options.program && !judged.circles.is_empty();
+    check_command_judgement_of(&judged.found.verdict, is_hung)
 }
 
 /// The model that is asked for.
@@ -259,8 +285,9 @@ fn check_command_rules(options: &TraceOptions) -> Rules
     Rules {
         model: check_command_model(options.model),
         lax: options.lax,
-        ends_at_race: options.race_is_error,
+        ends_at_race: options.race_is_error && !options.program,
         locksets: options.locksets.map(check_command_locksets),
+        all_races: options.program,
     }
 }
 
@@ -296,6 +323,7 @@ fn check_command_judges<S: Read>(
     requires { IsTraceStream [] stream.old }
     ensures judged { IfOk result (λ x. IsTraceCommandJudgedAs stream.old.rules.model stream.old.rules.lax unfinished (S.remaining source.old)
         (trace_command_judgement x.verdict)) }
+    ensures racy { IfOk result (λ x. IfSome x.race (λ _. IsTraceCommandOnRacy (S.remaining source.old))) }
     ensures at_hand { IfOk result (λ x. (front : List Event) × IsFoundInStream front x stream.new) }
     ensures refused { IfErr result (λ fault. IsCommandExitStatusOfInput fault → IsTraceCommandOnNone unfinished (S.remaining source.old)) }
 {
@@ -308,24 +336,45 @@ fn check_command_judges<S: Read>(
     found
 }
 
+/// Writes what was found of a trace of which these events can be told: how judging ended.
+fn check_command_tells_judged<W: Write>(
+    alloc: Global,
+    options: &TraceOptions,
+    told: ToldEvents<'_>,
+    rules: Rules,
+    judged: &JudgedTrace,
+    out: &mut W,
+) -> Result<Judgement, CommandFault>
+    ensures judgement { IfOk result (IsTraceCommandEnding judged.now.found) }
+    ensures refused { IfErr result (λ fault. IsCommandExitStatusOfInput fault → ⊥) }
+    ensures early { IfErr result
+        (λ fault. IsCommandExitStatusBeforeAnswer fault → Keeps (W.contents out.old) (W.contents out.new)) }
+{
+    check_command_writes(alloc, options.json, told, rules, judged, out)?;
+    Ok(check_command_judgement(options, judged))
+}
+
 /// Writes what was found of a trace that was judged as it was read: how that ended.
+// What was judged is large and wants a drop: so it stands beside one call alone, which borrows it.
 fn check_command_tells<W: Write>(
     alloc: Global,
-    json: bool,
+    options: &TraceOptions,
     rules: Rules,
     stream: &mut TraceStream,
     found: Checked,
     out: &mut W,
 ) -> Result<Judgement, CommandFault>
     requires { (front : List Event) × IsFoundInStream front found stream.old }
-    ensures judgement { IfOk result (λ x. x ≡ trace_command_judgement found.verdict) }
+    ensures judgement { IfOk result (IsTraceCommandEnding found) }
     ensures refused { IfErr result (λ fault. IsCommandExitStatusOfInput fault → ⊥) }
     ensures early { IfErr result
         (λ fault. IsCommandExitStatusBeforeAnswer fault → Keeps (W.contents out.old) (W.contents out.new)) }
 {
     let judged = stream.judged(alloc, found)?;
-    check_command_writes(alloc, json, stream.told(), rules, &judged, out)?;
-    Ok(check_command_judgement(&judged.found))
+    let told = stream.told();
+    let judgement = check_command_tells_judged(alloc, options, told, rules, &judged, out);
+    drop(judged);
+    judgement
 }
 
 /// Judges a trace as it is read, and writes what was found: how judging ended.
@@ -346,7 +395,7 @@ fn check_command_judges_and_tells<S: Read, W: Write>(
 {
     let found = check_command_judges(alloc, source, stream, options.unfinished, refused)?;
     let rules = check_command_rules(options);
-    check_command_tells(alloc, options.json, rules, stream, found, out)
+    check_command_tells(alloc, options, rules, stream, found, out)
 }
 
 /// Reads a trace, judges it as it is read, and writes what was found: how judging ended.
@@ -354,6 +403,7 @@ fn check_command_judges_and_tells<S: Read, W: Write>(
 fn check_command_on_source<S: Read, W: Write>(
     alloc: Global,
     options: &TraceOptions,
+    left_out: Vec<Vec<u8>>,
     source: &mut S,
     refused: &mut RefusedLine,
     out: &mut W,
@@ -364,17 +414,23 @@ fn check_command_on_source<S: Read, W: Write>(
     ensures early { IfErr result
         (λ fault. IsCommandExitStatusBeforeAnswer fault → Keeps (W.contents out.old) (W.contents out.new)) }
 {
-    let mut stream = TraceStream::new(alloc, check_command_rules(options));
+    let races = RacesAsked {
+        most: options.most.unwrap_or(DEFAULT_RACES) as usize,
+        left_out,
+    };
+    let mut stream = TraceStream::new(alloc, check_command_rules(options), races);
     let judged = check_command_judges_and_tells(alloc, options, source, &mut stream, refused, out);
     drop(stream);
     judged
 }
 
 /// Judges the trace of `source` as the options say: writes what was found to `out`, or one line to `err`, and answers
-/// the exit status. The file that the options name isn't opened here.
+/// the exit status. The files that the options name aren't opened here. Of a program's trace the races are left out that have one of
+/// the texts of `left_out` in a label.
 pub fn run_check_command<S: Read, W: Write, E: Write>(
     alloc: Global,
     options: &TraceOptions,
+    left_out: Vec<Vec<u8>>,
     source: &mut S,
     out: &mut W,
     err: &mut E,
@@ -387,19 +443,23 @@ pub fn run_check_command<S: Read, W: Write, E: Write>(
         → IsTraceCommandOnLie (trace_command_model options.now.model) options.now.lax (S.remaining source.old) }
     // What the source had begins with a trace that races.
     ensures racy { result ≡ 8 → IsTraceCommandOnRacy (S.remaining source.old) }
+    // The source had a faithful trace, as at status 0. That it hangs is tested.
+    ensures hung { result ≡ 9
+        → IsTraceCommandOnFaithful (trace_command_model options.now.model) options.now.lax options.now.unfinished (S.remaining source.old) }
     // What is refused as a trace is none.
     ensures refused { result ≡ 2 → IsTraceCommandOnNone options.now.unfinished (S.remaining source.old) }
     // At any status but 4, what was found is written whole or not at all.
-    ensures early { result ≢ 0 → result ≢ 6 → result ≢ 8 → result ≢ 4
+    ensures early { result ≢ 0 → result ≢ 6 → result ≢ 8 → result ≢ 9 → result ≢ 4
         → Keeps (W.contents out.old) (W.contents out.new) }
     // If a trace was judged, no line goes to the error output.
-    ensures quiet { (result ≡ 0) ⊎ ((result ≡ 6) ⊎ (result ≡ 8)) → Keeps (E.contents err.old) (E.contents err.new) }
+    ensures quiet { (result ≡ 0) ⊎ ((result ≡ 6) ⊎ ((result ≡ 8) ⊎ (result ≡ 9))) → Keeps (E.contents err.old) (E.contents err.new) }
 {
     let mut refused = RefusedLine::new(alloc);
-    match check_command_on_source(alloc, options, source, &mut refused, out) {
+    match check_command_on_source(alloc, options, left_out, source, &mut refused, out) {
         Ok(Judgement::Faithful) => 0,
         Ok(Judgement::Unfaithful) => UNFAITHFUL,
         Ok(Judgement::Racy) => RACY,
+        Ok(Judgement::Hung) => HUNG,
         Err(fault) => {
             fault.say_of_trace(alloc, program_file_named(&options.file), &refused, err)
         }

@@ -129,7 +129,9 @@ fn draw_story<W: Write>(
         words: drawn.words,
         changes: &changes,
     };
-    render_picture_page(alloc, story, &drawing.part, &state, out)?;
+    let written = render_picture_page(alloc, story, &drawing.part, &state, out);
+    drop(changes);
+    written?;
     Ok(())
 }
 
@@ -174,16 +176,19 @@ pub(crate) fn draw<W: Write>(
     ensures early { IfErr result
         (λ fault. IsCommandExitStatusBeforeAnswer fault → Keeps (W.contents out.old) (W.contents out.new)) }
 {
+    let race = journal.first_race()?;
     let sketch = sketch_run(alloc, history)?;
     let drawn = DrawnHistory {
         subject: Subject::Run,
         history,
-        race: journal.first_race()?,
+        race,
         halted,
         words: journal.base(),
         sketch: &sketch,
     };
-    draw_history(alloc, drawing, &drawn, out)
+    let written = draw_history(alloc, drawing, &drawn, out);
+    drop(sketch);
+    written
 }
 
 /// Of what the picture of the trace is.
@@ -209,8 +214,8 @@ pub(crate) fn draw_trace<W: Write>(
     ensures early { IfErr result
         (λ fault. IsCommandExitStatusBeforeAnswer fault → Keeps (W.contents out.old) (W.contents out.new)) }
 {
-    let sketch = sketch_trace(alloc, history, pages)?;
     let words = vec![in alloc; 0; history.history.addresses()]?;
+    let sketch = sketch_trace(alloc, history, pages)?;
     let drawn = DrawnHistory {
         subject: drawing_subject(told),
         history: history.history,
@@ -219,5 +224,7 @@ pub(crate) fn draw_trace<W: Write>(
         words: &words,
         sketch: &sketch,
     };
-    draw_history(alloc, drawing, &drawn, out)
+    let written = draw_history(alloc, drawing, &drawn, out);
+    drop(sketch);
+    written
 }

@@ -97,8 +97,8 @@ impl CommandFault {
         }
     }
 
-    /// The exit status: 2 for a trace that is refused, 4 for one that is too long or too large to hold, and for a run without its
-    /// journal, 5 for a word that isn't shown, else that of a run.
+    /// The exit status: 2 for a trace that is refused. 4 for one that is too long or too large to hold, and for a run without its
+    /// journal. 5 for a word that isn't shown. Else that of a run.
     fn status(self) -> u8
         ensures { result ≡ command_exit_status_of self }
     {

@@ -25,7 +25,7 @@ impl RefusedLine {
     }
 
     /// Keeps a line with these bytes behind so many that were passed over. If there is no memory for the bytes, none is kept.
-    pub(crate) fn keep(&mut self, bytes: &[u8], passed: usize, sizes: Option<TraceSizes>) {
+    pub fn keep(&mut self, bytes: &[u8], passed: usize, sizes: Option<TraceSizes>) {
         self.bytes.clear();
         if self.bytes.extend_from_slice(bytes).is_err() {
             self.bytes.clear();

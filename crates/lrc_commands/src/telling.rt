@@ -77,8 +77,12 @@ fn tell_command_on_source<S: Read, W: Write>(
         check_command_model(options.model),
         options.lax,
     )?;
-    tell_command_prints(alloc, options, &told, out)?;
-    Ok(told.lie.is_some())
+    let printed = tell_command_prints(alloc, options, &told, out);
+    let lies = told.lie.is_some();
+    drop(told);
+    drop(labelled);
+    printed?;
+    Ok(lies)
 }
 
 /// Tells the trace of `source` on `out` up to its first lie, or draws it there, as the options say; of what is no trace one

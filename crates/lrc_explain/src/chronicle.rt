@@ -116,7 +116,9 @@ fn put_chronicle_of_history(
     let asked: &[bool] = if extent.state { &told } else { &[] };
     let found = findings_of(alloc, history.history, extent.pages, asked)?;
     let known = HistoryNotes::new(*history, &found);
-    put_chronicle_of_known(text, alloc, &extent.part, &known, &told)
+    let put = put_chronicle_of_known(text, alloc, &extent.part, &known, &told);
+    drop(found);
+    put
 }
 
 /// Puts the sentences on the first race, where there is one, and an empty line behind them. The only error is running out of

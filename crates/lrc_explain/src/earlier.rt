@@ -98,9 +98,11 @@ pub fn earlier_stores_before(
     history: &History<'_>,
 ) -> Result<Vec<Option<Earlier>>, AllocError> {
     let events = history.events();
-    let mut cuts = Cuts::new(alloc, history.sizes().processors)?;
     let mut last = vec![in alloc; None; history.addresses()]?;
     let mut found = vec![in alloc; None; events.len()]?;
-    collect_earlier_stores(&mut found, &mut last, &mut cuts, events)?;
+    let mut cuts = Cuts::new(alloc, history.sizes().processors)?;
+    let collected = collect_earlier_stores(&mut found, &mut last, &mut cuts, events);
+    drop(cuts);
+    collected?;
     Ok(found)
 }

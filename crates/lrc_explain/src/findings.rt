@@ -205,8 +205,8 @@ fn page_findings(
     })
 }
 
-/// What is found of the history, by its pages too if these are told and it has at most 16 processors, and then the protocol's state
-/// at those events for which `asked` has true; it is empty where no state is asked for. The only error is running out of memory.
+/// What is found of the history, by its pages too if these are told and it has at most 16 processors. Then it has the protocol's
+/// state at those events for which `asked` has true, and none if no state is asked for. The only error is running out of memory.
 pub fn findings_of(
     alloc: Global,
     history: &History<'_>,
@@ -214,13 +214,13 @@ pub fn findings_of(
     asked: &[bool],
 ) -> Result<Findings, AllocError> {
     let pages = do_findings_have_pages(history, pages);
+    let incoming = incoming_news(alloc, history)?;
     let FoundByPages {
         origins,
         dues,
         states,
     } = page_findings(alloc, history, pages, asked)?;
     let loads = load_findings_of(alloc, history, pages, origins)?;
-    let incoming = incoming_news(alloc, history)?;
     Ok(Findings {
         loads,
         dues,

@@ -1,24 +1,19 @@
 //! For what each processor waits at the end of a history that can't go on.
 
-use causes::{Wait, final_waits};
-use judge::{History, MOST_JUDGED_PROCESSORS};
+use causes::{Wait, final_waits, wait_circles, waits_for};
+use judge::History;
 use lrc_prose::text::ProseText;
 use std::alloc::{AllocError, Global};
 
 /// The end of a history: for what each processor waits there.
-#[derive(Clone, Copy)]
-pub struct Halted<'a> {
-    pub waits: &'a [Wait],
+#[derive(Drop)]
+pub struct Halted {
+    /// Of each processor what it waits for.
+    pub waits: Vec<Wait>,
+    /// The circles of processors that wait for each other, each from its least processor on.
+    circles: Vec<Vec<usize>>,
     /// Whether something was cut off.
-    pub is_cut: bool,
-}
-
-/// The one processor of these; None if there is none, or more than one.
-fn single_absent(absent: &[usize]) -> Option<usize> {
-    match absent {
-        [single] => Some(*single),
-        _ => None,
-    }
+    is_cut: bool,
 }
 
 /// Whether what is waited for can't come before another processor does something.
@@ -44,31 +39,34 @@ fn put_absent(text: &mut ProseText, absent: &[usize]) {
     }
 }
 
-impl Halted<'_> {
+impl Halted {
+    /// At the end of this history. The only error is running out of memory.
+    pub fn of(alloc: Global, history: &History<'_>) -> Result<Halted, AllocError> {
+        let waits = final_waits(alloc, history)?;
+        let circles = wait_circles(alloc, &waits)?;
+        Ok(Halted {
+            waits,
+            circles,
+            is_cut: history.cut_events() > 0,
+        })
+    }
+
     /// Whether the processor waits.
     pub fn waits(&self, processor: usize) -> bool {
         !matches!(self.waits.get(processor), None | Some(Wait::Nothing))
     }
 
-    /// The one processor that the processor waits for; None where it is none or more than one.
+    /// The one processor that the processor waits for; None if it is none or more than one.
     pub fn waits_for(&self, processor: usize) -> Option<usize> {
-        match self.waits.get(processor)? {
-            Wait::Lock { holder, .. } => *holder,
-            Wait::Barrier { absent } => single_absent(absent.as_slice()),
-            _ => None,
-        }
+        waits_for(&self.waits, processor)
     }
 
-    /// The least processor of those that wait for each other in a circle with the processor, where it is in one.
-    fn circle(&self, processor: usize) -> Option<usize> {
-        let mut least = processor;
-        let mut next = self.waits_for(processor)?;
-        for _ in 0..MOST_JUDGED_PROCESSORS {
-            if next == processor {
-                return Some(least);
+    /// The circle of which the processor is one, if there is one.
+    fn circle(&self, processor: usize) -> Option<&[usize]> {
+        for circle in &self.circles {
+            if circle.contains(&processor) {
+                return Some(circle);
             }
-            least = least.min(next);
-            next = self.waits_for(next)?;
         }
         None
     }
@@ -76,7 +74,7 @@ impl Halted<'_> {
     /// Whether the processor is in a circle, or waits for one that is, or for one that waits so.
     fn hangs(&self, processor: usize) -> bool {
         let mut at = processor;
-        for _ in 0..MOST_JUDGED_PROCESSORS {
+        for _ in 0..self.waits.len() {
             if self.circle(at).is_some() {
                 return true;
             }
@@ -121,35 +119,36 @@ impl Halted<'_> {
         }
     }
 
-    /// Puts what the others of the processor's circle wait for.
-    fn put_circle(&self, text: &mut ProseText, processor: usize) {
-        let mut at = processor;
-        for _ in 0..MOST_JUDGED_PROCESSORS {
-            match self.waits_for(at) {
-                Some(next) if next != processor => at = next,
-                _ => {
-                    text.put(": a circle");
-                    return;
-                }
+    /// Puts what the processors of the circle wait for, in a line.
+    fn put_circle(&self, text: &mut ProseText, circle: &[usize]) {
+        for (index, processor) in circle.iter().enumerate() {
+            if index == 0 {
+                text.put_number("p", *processor);
+                text.put(" ");
+            } else {
+                text.put(", which ");
             }
-            text.put(", which ");
-            self.put_wait(text, at);
+            self.put_wait(text, *processor);
         }
+        text.put(": a circle");
+        text.end_line();
     }
 
     /// Puts what the processor waits for, in a line. A circle is told at its least processor.
     fn put_processor(&self, text: &mut ProseText, processor: usize) {
-        let circle = self.circle(processor);
-        if circle.unwrap_or(processor) != processor {
-            return;
+        match self.circle(processor) {
+            Some(circle) => {
+                if circle.first() == Some(&processor) {
+                    self.put_circle(text, circle);
+                }
+            }
+            None => {
+                text.put_number("p", processor);
+                text.put(" ");
+                self.put_wait(text, processor);
+                text.end_line();
+            }
         }
-        text.put_number("p", processor);
-        text.put(" ");
-        self.put_wait(text, processor);
-        if circle.is_some() {
-            self.put_circle(text, processor);
-        }
-        text.end_line();
     }
 }
 
@@ -159,12 +158,8 @@ pub fn put_halted_waits(
     alloc: Global,
     history: &History<'_>,
 ) -> Result<(), AllocError> {
-    let waits = final_waits(alloc, history)?;
-    let halted = Halted {
-        waits: waits.as_slice(),
-        is_cut: history.cut_events() > 0,
-    };
-    for processor in 0..waits.len() {
+    let halted = Halted::of(alloc, history)?;
+    for processor in 0..halted.waits.len() {
         halted.put_processor(text, processor);
     }
     Ok(())
@@ -178,14 +173,10 @@ pub fn put_trace_waits(
     alloc: Global,
     history: &History<'_>,
 ) -> Result<(), AllocError> {
-    let waits = final_waits(alloc, history)?;
-    let halted = Halted {
-        waits: waits.as_slice(),
-        is_cut: history.cut_events() > 0,
-    };
+    let halted = Halted::of(alloc, history)?;
     let is_deadlock = halted.is_deadlock();
     let start = text.lines_len();
-    for processor in 0..waits.len() {
+    for processor in 0..halted.waits.len() {
         if is_deadlock || halted.hangs(processor) {
             halted.put_processor(text, processor);
         }

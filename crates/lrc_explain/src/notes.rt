@@ -235,6 +235,16 @@ impl HistoryNotes<'_> {
         }
     }
 
+    /// Puts a set that an await follows, the one of this index among those that are told.
+    fn put_awaited_set(&self, text: &mut ProseText, index: usize, is_last: bool, set: usize) {
+        let front = match index {
+            0 => "after p",
+            _ if is_last => ", and p",
+            _ => ", p",
+        };
+        put_note_by(text, self.numbers, front, self.deed(set), "set");
+    }
+
     /// Puts what is said of the await at this place of a flag that was set first by this: all sets that bring news, or else the
     /// first one.
     fn put_await(&self, text: &mut ProseText, place: usize, first: Option<PastDeed>) {
@@ -245,13 +255,7 @@ impl HistoryNotes<'_> {
         }
         for (index, set) in sets.iter().enumerate() {
             let is_last = index.saturating_add(1) == sets.len();
-            text.put(match index {
-                0 => "",
-                _ if is_last => ", and ",
-                _ => ", ",
-            });
-            let front = if index == 0 { "after p" } else { "p" };
-            put_note_by(text, self.numbers, front, self.deed(*set), "set");
+            self.put_awaited_set(text, index, is_last, *set);
         }
     }
 

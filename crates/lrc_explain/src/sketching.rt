@@ -6,7 +6,7 @@ use crate::held_now::HeldNow;
 use crate::notes::HistoryNotes;
 use crate::stale_copies::StaleCopies;
 use crate::told_history::{ProseNumbers, ToldHistory};
-use causes::{Source, final_waits};
+use causes::Source;
 use judge::History;
 use lrc_prose::text::ProseText;
 use std::alloc::{AllocError, Global};
@@ -121,7 +121,7 @@ fn sketch_stale_of(
 /// For what the processor waits, in words; None where it waits for nothing. The only error is running out of memory.
 fn sketch_wait_of(
     alloc: Global,
-    halted: &Halted<'_>,
+    halted: &Halted,
     processor: usize,
 ) -> Result<Option<Vec<u8>>, AllocError> {
     if !halted.waits(processor) {
@@ -135,7 +135,7 @@ fn sketch_wait_of(
 /// For what each of so many processors waits. The only error is running out of memory.
 fn sketch_waits_of(
     alloc: Global,
-    halted: &Halted<'_>,
+    halted: &Halted,
     processors: usize,
 ) -> Result<Vec<Option<Vec<u8>>>, AllocError> {
     let mut waits = Vec::new(alloc);
@@ -148,7 +148,7 @@ fn sketch_waits_of(
 /// Of each of so many processors the one that could let it go on. The only error is running out of memory.
 fn sketch_holders_of(
     alloc: Global,
-    halted: &Halted<'_>,
+    halted: &Halted,
     processors: usize,
 ) -> Result<Vec<Option<usize>>, AllocError> {
     let mut holders = Vec::new(alloc);
@@ -182,7 +182,9 @@ fn add_sketch_history(
     pages: bool,
 ) -> Result<(), AllocError> {
     let found = findings_of(alloc, history.history, pages, &[])?;
-    add_sketch_findings(sketch, alloc, history, &found)
+    let added = add_sketch_findings(sketch, alloc, history, &found);
+    drop(found);
+    added
 }
 
 /// What is told of the events of the history, and of its pages, if these are told. The only error is running out of memory.
@@ -209,11 +211,7 @@ fn add_sketch_waits(
     history: &History<'_>,
 ) -> Result<(), AllocError> {
     let processors = history.sizes().processors;
-    let waits = final_waits(alloc, history)?;
-    let halted = Halted {
-        waits: waits.as_slice(),
-        is_cut: history.cut_events() > 0,
-    };
+    let halted = Halted::of(alloc, history)?;
     sketch.waits = sketch_waits_of(alloc, &halted, processors)?;
     sketch.holders = sketch_holders_of(alloc, &halted, processors)?;
     Ok(())

@@ -4,3 +4,4 @@ pub mod Showings
 pub mod AllowedShowings
 pub mod Prelude
 pub mod Schedules
+pub mod OpenTexts

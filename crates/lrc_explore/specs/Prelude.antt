@@ -4,3 +4,4 @@ pub use Rattle.lrc_explore.specs.ExploreTexts.{ExploreTextUnwritten, ExploreText
 pub use Rattle.lrc_explore.specs.Showings.{AreShowingWords, IsShowingText, IsShowingTextOfRace, IsShowingTextOfRun, IsShowingUnshown, ShowingWritten}
 pub use Rattle.lrc_explore.specs.AllowedTexts.{AllowedTextWritten, IsAllowedText, allowed_text_beginnings, allowed_text_count, allowed_text_end, allowed_text_told}
 pub use Rattle.lrc_explore.specs.AllowedShowings.{AllowedShowingWritten, IsAllowedShowingAnswer, IsAllowedShowingOfMemory, IsAllowedShowingOfRun, IsAllowedShowingOfSchedule, IsAllowedShowingText}
+pub use Rattle.lrc_explore.specs.OpenTexts.{IsOpenText, OpenTextWritten}

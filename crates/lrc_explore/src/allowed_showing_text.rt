@@ -169,8 +169,9 @@ fn allowed_showing_text(
     Ok(text)
 }
 
-/// Writes what was found of all schedules of a racy script as `render_showing_text` does, and then whether this memory shows a run that
-/// ends with the words, or the rules alone allow one, in one write if the writer takes all of it, and flushes the writer:
+/// Writes what was found of all schedules of a racy script as `render_showing_text` does. Then it writes whether this memory shows
+/// a run that ends with the words, or the rules alone allow one. It is one write if the writer takes all of it, and the writer is
+/// flushed:
 ///
 /// ```text
 /// until by the rules alone

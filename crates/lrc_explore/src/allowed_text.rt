@@ -73,7 +73,7 @@ fn allowed_text(
 }
 
 /// Writes what was found of all schedules of a racy script as `render` does, and then what its runs may show by the rules of the
-/// memory, in one write if the writer takes all of it, and flushes the writer:
+/// memory. It is one write if the writer takes all of it, and the writer is flushed:
 ///
 /// ```text
 /// outcomes 2 by the rules

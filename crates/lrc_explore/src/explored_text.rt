@@ -248,8 +248,8 @@ pub fn write_explored_text<W: Write>(text: &[u8], out: &mut W) -> Result<(), Exp
 /// answered, in order; and a schedule by which `step` shows it. The lines stand in rising order of the replies: of
 /// processor 0 first, those that show the words among them, as its last ones. If some schedule can't go on, behind `hangs`
 /// come its events, a line for each processor that waits, and one of its turns. Of a script that races come the events of a
-/// schedule whose last one races, then `race`, the lines of the two and that of the turns, and then a schedule that hangs,
-/// if one was met. Of a search that was given up there is what it has found: `verdict undecided`, `outcomes N so far`,
+/// schedule whose last one races, then `race`, the lines of the two and that of the turns. A schedule that hangs is last, if
+/// one was met. Of a search that was given up there is what it has found: `verdict undecided`, `outcomes N so far`,
 /// `hangs undecided`, or what is known in place of each.
 ///
 /// It takes time and memory in the order of the text, beside sorting the outcomes.

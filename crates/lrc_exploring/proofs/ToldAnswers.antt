@@ -1,11 +1,13 @@
 -- What was found of the script that the source had, and was written.
-use Rattle.std.proofs.Common.{◌≡◌, ◌≢◌, Bool, List, [], ℕ, Option, Result, Ok, Err, subst, sym}
-use Rattle.std.specs.Prelude.{IfOk}
+use Rattle.std.proofs.Common.{◌≡◌, ◌≢◌, ◌<◌, ◌≤◌, ◌⊎◌, inl, inr, ap, arith, Bool, false, List, [], ℕ, Option, Result, Ok, Err, subst, sym}
+use Rattle.std.specs.Prelude.{IfOk, min}
 use Rattle.std.specs.Io.KnownBytes.{Keeps}
 use Rattle.std.proofs.KnownBytes.{Keeps-refl}
 use Rattle.explore.specs.EndingWords.{IsExploredUntil}
-use Rattle.explore.specs.Explored.{IsExplored}
+use Rattle.explore.specs.Explored.{IsExplored, explored_settles, is_explored_settled}
 use Rattle.explore.specs.declared.outcomes.answer.Explored.{Explored}
+use Rattle.explore.specs.declared.outcomes.answer.Verdict.TheVariants.{Undecided}
+use Rattle.explore.specs.Prefixes.FlatBeginnings.{AreFlatBeginningsRaceFree}
 use Rattle.explore.specs.declared.outcomes.telling.Detail.{Detail}
 use Rattle.explore.specs.declared.outcomes.showing.ExploredUntil.{ExploredUntil}
 use Rattle.lrc_explore.specs.ExploreTexts.{ExploreTextUnwritten}
@@ -14,15 +16,62 @@ use Rattle.lrc_explore.specs.declared.fault.ExploreFault.{ExploreFault}
 use Rattle.lrc_explore.specs.declared.fault.ExploreFault.TheVariants.{NoMemory}
 use Rattle.lrc_script.specs.Plan.{Plan}
 use Rattle.explore.specs.MemoryShown.{ComesBySchedule}
+use Rattle.explore.specs.StateRoom.{state_room_at_most}
 use Rattle.lrc_program.specs.Served.{IsServedScriptRead}
 use Rattle.lrc_options.specs.declared.options.ExploreOptions.{ExploreOptions}
-use Rattle.lrc_exploring.specs.ExploreAnswers.{AreSchedulesExplored, AreWordsExplored, ExploreAnswerTold, ExploreAnswerWritten, ExploreCommandWritten, IsExploreAnswerTo, explore_detail, is_explore_answer_settled}
+use Rattle.lrc_exploring.specs.ExploreAnswers.{AreSchedulesExplored, AreWordsExplored, ExploreAnswerTold, ExploreAnswerWritten, ExploreCommandWritten, IsExploreAnswerTo, IsHangEnough, IsScheduleAnswerTo, explore_detail, explored_race_free, is_explore_answer_settled}
 use Rattle.lrc_exploring.specs.declared.answer.ExploreAnswer.{ExploreAnswer}
+use Rattle.lrc_exploring.specs.declared.answer.ExploreAnswer.TheVariants.{Schedules, Open, Rules, Until, RulesUntil}
 
--- all schedules were looked at, in the detail that was asked for
-pub told_schedules : (o : ExploreOptions) (s : Plan) (d : Detail) (explored : Explored) → o.until.items ≡ [] → d ≡ explore_detail o.outcomes
-    → IsExplored s d o.most explored → AreSchedulesExplored o s explored
-told_schedules o s d explored all detail is = record { all = all; is = subst (λ x. IsExplored s x o.most explored) detail is }
+-- so many states at most were looked at, in the detail that was asked for
+pub told_schedules : (o : ExploreOptions) (s : Plan) (d : Detail) (most : ℕ) (explored : Explored) → o.until.items ≡ [] → d ≡ explore_detail o.outcomes
+    → most ≤ o.most → IsExplored s d most explored
+    → (is_explored_settled explored ≡ false → (state_room_at_most s d o.most < explored.states) ⊎ IsHangEnough o most explored)
+    → AreSchedulesExplored o s explored
+told_schedules o s d most explored all detail within is given_up = record {
+  all = all;
+  most = most;
+  within = within;
+  is = subst (λ x. IsExplored s x most explored) detail is;
+  given_up =
+      subst (λ x. is_explored_settled explored ≡ false → (state_room_at_most s x o.most < explored.states) ⊎ IsHangEnough o most explored) detail given_up;
+}
+
+-- what is so of the schedules is so where the script is also known to be race-free
+pub told_race_free : (o : ExploreOptions) (s : Plan) (explored : Explored) → AreSchedulesExplored o s explored → explored.verdict ≡ Undecided
+    → AreFlatBeginningsRaceFree s → AreSchedulesExplored o s (explored_race_free explored)
+told_race_free o s explored told undecided free = record {
+  all = told.all;
+  most = told.most;
+  within = told.within;
+  is = record {
+    states = told.is.states;
+    few = told.is.few;
+    verdict = free;
+    hanging = told.is.hanging;
+    outcomes = told.is.outcomes;
+    runs = told.is.runs;
+    all = told.is.all;
+    given_up = λ opens. told.is.given_up unsettled;
+  };
+  given_up = λ opens. elim (told.given_up unsettled) [ inl past ↦ inl past | inr hang ↦ inr (record { default = hang.default; first = hang.first; hangs = hang.hangs }) ];
+}
+  where
+    unsettled : is_explored_settled explored ≡ false
+    unsettled = ap (λ v. explored_settles v explored.hanging explored.are_all) undecided
+
+-- an answer of schedules is one to what the options ask for
+pub told_schedule_answer : (comes : ComesBySchedule) (o : ExploreOptions) (s : Plan) (answer : ExploreAnswer) → IsScheduleAnswerTo o s answer
+    → IsExploreAnswerTo comes o s answer
+told_schedule_answer comes o s (Schedules explored) is = is
+told_schedule_answer comes o s (Open explored gaps) is = is
+told_schedule_answer comes o s (Rules explored allowed shown) is = absurd is
+told_schedule_answer comes o s (Until explored) is = absurd is
+told_schedule_answer comes o s (RulesUntil explored allowed shown) is = absurd is
+
+-- more states are found than fit
+pub told_more_than_fit : (a m r n : ℕ) → min a r < n → n ≤ a → min m r < n
+told_more_than_fit a m r n past few = omega arith
 
 -- the words were looked for that were asked for
 pub told_words : (o : ExploreOptions) (s : Plan) (d : Detail) (words : List (ℕ × ℕ)) (explored : ExploredUntil) → o.until.items ≢ []

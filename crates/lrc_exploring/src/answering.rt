@@ -1,36 +1,30 @@
 //! What the options ask for is looked for in a script.
 ghost use Rattle.std.specs.Prelude.{◌≡◌, ◌≢◌, ◌↔◌, [], IfErr, IfOk, IsTrue};
 ghost use Rattle.conformance.specs.declared.script_runner.LockChoice.TheVariants.{Ticket};
-ghost use Rattle.lrc_script.specs.Prelude.{IsLawful, plan_of};
+ghost use Rattle.lrc_script.specs.Prelude.{IsLawful, Plan, plan_of};
 ghost use Rattle.explore.specs.AllowedRuns.{AreAllowedRunOutcomes};
 ghost use Rattle.explore.specs.AllowedUntil.{IsAllowedUntil};
 ghost use Rattle.explore.specs.MemoryShown.{IsMemoryShown};
+ghost use Rattle.explore.specs.TextGaps.{AreTextGaps};
+ghost use Rattle.explore.specs.declared.outcomes.answer.Verdict.TheVariants.{Undecided};
+ghost use Rattle.lrc_options.specs.declared.options.ExploreOptions.{ExploreOptions as Options};
 ghost use Rattle.lrc_commands.specs.Prelude.{IsCommandExitStatusOfInput};
-ghost use Rattle.lrc_exploring.specs.Prelude.{IsExploreAnswerTo, IsRacyShowing, IsRacyVerdict, explore_detail};
+ghost use Rattle.lrc_exploring.specs.Prelude.{AreSchedulesExplored, IsExploreAnswerTo, IsRacyShowing, IsRacyVerdict, IsScheduleAnswerTo, explore_detail, explored_race_free};
 
 use crate::answer::ExploreAnswer;
+use crate::stages::{explore_detail, schedules_explored};
 use crate::unshown::refuse_unshown;
 use conformance::ScriptRunner;
 use explore::{
-    AllowedOutcomes, AllowedUntil, Detail, MemoryShown, Progress, Showing, Verdict,
-    allowed_outcomes, allowed_until, explore, explore_until, what_memory_shows,
+    AllowedOutcomes, AllowedUntil, Explored, Hanging, MemoryShown, Progress, Showing, TextGaps,
+    Verdict, allowed_outcomes, allowed_until, explore_until, text_gaps, what_memory_shows,
 };
 use lrc_commands::Study;
 use lrc_commands::fault::CommandFault;
-use lrc_options::options::{ExploreOptions, OutcomeDetail};
+use lrc_options::options::ExploreOptions;
 use lrc_script::script::Script;
+use std::alloc::{AllocError, Global};
 use std::sync::Wait;
-
-/// What outcomes tell, by the options.
-fn explore_detail(outcomes: OutcomeDetail) -> Detail
-    ensures { result ≡ explore_detail outcomes }
-{
-    match outcomes {
-        OutcomeDetail::Words => Detail::Words,
-        OutcomeDetail::Loads => Detail::Loads,
-        OutcomeDetail::All => Detail::All,
-    }
-}
 
 /// Whether a schedule races.
 fn is_racy_verdict(verdict: &Verdict) -> bool
@@ -118,6 +112,74 @@ fn what_rules_allow_until<T: ScriptRunner, R: Wait, P: Progress>(
     }
 }
 
+/// Whether it is open whether a schedule races.
+fn is_undecided(verdict: &Verdict) -> bool
+    ensures { IsTrue result → verdict.now ≡ Undecided }
+{
+    match verdict {
+        Verdict::Undecided => true,
+        _ => false,
+    }
+}
+
+/// Whether it is open whether a schedule hangs.
+fn is_hang_undecided(hanging: &Hanging) -> bool {
+    match hanging {
+        Hanging::Undecided => true,
+        _ => false,
+    }
+}
+
+/// What was found, where the script is known to be race-free.
+fn known_race_free(explored: Explored) -> Explored
+    ensures { result ≡ explored_race_free explored }
+{
+    let Explored {
+        states,
+        hanging,
+        outcomes,
+        are_all,
+        ..
+    } = explored;
+    Explored {
+        states,
+        verdict: Verdict::RaceFree,
+        hanging,
+        outcomes,
+        are_all,
+    }
+}
+
+/// What was found of a script that no schedule was found to race, with what its text leaves open. If that is no word, it is race-free.
+fn answer_by_gaps(explored: Explored, gaps: TextGaps) -> ExploreAnswer
+    ensures { (o : Options) (s : Plan) → IsLawful s → AreSchedulesExplored o s explored → (¬ IsRacyVerdict explored.verdict)
+        → AreTextGaps s gaps → IsScheduleAnswerTo o s result }
+{
+    if is_undecided(&explored.verdict) && gaps.is_race_free() {
+        return ExploreAnswer::Open(known_race_free(explored), gaps);
+    }
+    ExploreAnswer::Open(explored, gaps)
+}
+
+/// What was found of a script that no schedule was found to race, and what its text leaves open if something is.
+fn answer_with_gaps(
+    alloc: Global,
+    script: &Script,
+    explored: Explored,
+) -> Result<ExploreAnswer, AllocError>
+    requires { IsLawful (plan_of script.now) }
+    ensures { IfOk result (λ answer. (o : Options) → AreSchedulesExplored o (plan_of script.now) explored
+        → (¬ IsRacyVerdict explored.verdict) → IsScheduleAnswerTo o (plan_of script.now) answer) }
+{
+    if !is_undecided(&explored.verdict) && !is_hang_undecided(&explored.hanging) {
+        return Ok(ExploreAnswer::Schedules(explored));
+    }
+    match text_gaps(alloc, script) {
+        Ok(gaps) => Ok(answer_by_gaps(explored, gaps)),
+        Err(error) => Err(error),
+    }
+}
+
 /// Looks at all schedules of the script, and if it is racy for what the rules of the memory allow.
 fn answer_of_schedules<T: ScriptRunner, R: Wait, P: Progress>(
     study: &Study<'_, T, R>,
@@ -130,10 +192,10 @@ fn answer_of_schedules<T: ScriptRunner, R: Wait, P: Progress>(
     ensures answer { IfOk result (IsExploreAnswerTo (λ s turns end. T.followed s Ticket turns end) options.now (plan_of script.now)) }
     ensures runs { IfErr result (λ fault. IsCommandExitStatusOfInput fault → ⊥) }
 {
-    let detail = explore_detail(options.outcomes);
-    let explored = explore(study.alloc, script, detail, options.most as usize, progress)?;
+    let explored = schedules_explored(study.alloc, script, options, progress)?;
     if !is_racy_verdict(&explored.verdict) {
-        return Ok(ExploreAnswer::Schedules(explored));
+        let answer = answer_with_gaps(study.alloc, script, explored)?;
+        return Ok(answer);
     }
     match what_rules_allow(study, options, script, progress) {
         Ok((allowed, shown)) => Ok(ExploreAnswer::Rules(explored, allowed, shown)),

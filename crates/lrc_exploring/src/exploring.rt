@@ -62,8 +62,9 @@ fn explore_source<T: ScriptRunner, R: Wait, S: Read, W: Write, P: Progress>(
     explore_script(study, options, &script, out, progress)
 }
 
-/// Looks at all schedules of the script of `source`, and for what the rules of the memory allow if it is racy, or for a run that ends
-/// with the words that the options give, and writes what was found to `out`, or why nothing was to `err`; answers the exit status. The file that the options name isn't opened here. `progress` is told now and then how far the search is.
+/// Looks at all schedules of the script of `source`, and for what the rules of the memory allow if it is racy. If the options give
+/// words, it looks for a run that ends with these. It writes what was found to `out`, or why nothing was to `err`, and returns the
+/// exit status. The file that the options name isn't opened here. `progress` is told now and then how far the search is.
 pub fn run_explore_command<T: ScriptRunner, R: Wait, S: Read, W: Write, E: Write, P: Progress>(
     study: &Study<'_, T, R>,
     options: &ExploreOptions,

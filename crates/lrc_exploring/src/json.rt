@@ -3,4 +3,5 @@
 pub mod allowed;
 pub mod allowed_showing;
 pub mod explored;
+pub mod open;
 pub mod showing;

@@ -11,10 +11,12 @@ use crate::answer::ExploreAnswer;
 use crate::json::allowed::write_allowed_json;
 use crate::json::allowed_showing::write_allowed_showing_json;
 use crate::json::explored::write_explored_json;
+use crate::json::open::write_open_json;
 use crate::json::showing::write_showing_json;
 use lrc_commands::fault::CommandFault;
 use lrc_explore::{
-    ExploreFault, render, render_allowed_showing_text, render_allowed_text, render_showing_text,
+    ExploreFault, render, render_allowed_showing_text, render_allowed_text, render_open_text,
+    render_showing_text,
 };
 use lrc_json::JsonFault;
 use lrc_options::options::ExploreOptions;
@@ -36,6 +38,9 @@ fn write_text<W: Write>(
 {
     match answer {
         ExploreAnswer::Schedules(explored) => render(alloc, script, explored, out),
+        ExploreAnswer::Open(explored, gaps) => {
+            render_open_text(alloc, script, explored, gaps, out)
+        }
         ExploreAnswer::Rules(explored, allowed, shown) => {
             render_allowed_text(alloc, script, explored, allowed, shown, out)
         }
@@ -60,6 +65,9 @@ fn write_json<W: Write>(
 {
     match answer {
         ExploreAnswer::Schedules(explored) => write_explored_json(alloc, script, explored, out),
+        ExploreAnswer::Open(explored, gaps) => {
+            write_open_json(alloc, script, explored, gaps, out)
+        }
         ExploreAnswer::Rules(explored, allowed, shown) => {
             write_allowed_json(alloc, script, explored, allowed, shown, out)
         }

@@ -12,8 +12,8 @@ use journal::Traffic;
 use judge::locksets::{Guarded, PairedAccess, Unprotected};
 use judge::{FlatStore, IllFormed, MemoryModel, Miscounted};
 use lrc_check::{
-    AnswersTold, JudgedTrace, Lie, Rules, ToldEvents, TraceVerdict, Unexplained, circle_of_waits,
-    verdict_reason_text, verdict_text_answers,
+    AnswersTold, JudgedTrace, KnownEvent, Lie, Rules, ToldEvents, ToldRace, TraceVerdict,
+    Unexplained, verdict_reason_text, verdict_text_answers,
 };
 use std::alloc::{AllocError, Global};
 use std::io::Write;
@@ -208,27 +208,13 @@ fn checked_each_wait_json(alloc: Global, waits: &[Wait]) -> Values {
     list
 }
 
-/// Adds the circle of processors that wait for each other of which this one is the least, if there is one.
-fn put_checked_circle_json(
-    circles: &mut Values,
-    alloc: Global,
-    waits: &[Wait],
-    least: usize,
-) -> Result<(), AllocError> {
-    let circle = circle_of_waits(alloc, waits, least)?;
-    if !circle.is_empty() {
-        circles.put_list(Values::of_numbers(alloc, &circle));
-    }
-    Ok(())
-}
-
 /// The circles of processors that wait for each other.
-fn checked_circles_json(alloc: Global, waits: &[Wait]) -> Result<Values, AllocError> {
-    let mut circles = Values::new(alloc);
-    for least in 0..waits.len() {
-        put_checked_circle_json(&mut circles, alloc, waits, least)?;
+fn checked_circles_json(alloc: Global, circles: &[Vec<usize>]) -> Values {
+    let mut list = Values::new(alloc);
+    for circle in circles {
+        list.put_list(Values::of_numbers(alloc, circle));
     }
-    Ok(circles)
+    list
 }
 
 /// Adds who waits at the end, and who wait for each other, if any do.
@@ -236,35 +222,39 @@ fn put_checked_waits_json(
     members: &mut Members,
     alloc: Global,
     waits: &[Wait],
-) -> Result<(), AllocError> {
-    let circles = checked_circles_json(alloc, waits)?;
+    circles: &[Vec<usize>],
+) {
     let list = checked_each_wait_json(alloc, waits);
     if !list.is_empty() {
         members.put_list("waits", list);
         if !circles.is_empty() {
-            members.put_list("circles", circles);
+            members.put_list("circles", checked_circles_json(alloc, circles));
         }
     }
-    Ok(())
+}
+
+/// Adds how many words of a faithful trace race, if all are told, and how many of them are left out.
+fn put_checked_racing_json(members: &mut Members, rules: Rules, judged: &JudgedTrace) {
+    if rules.all_races && matches!(judged.found.verdict, TraceVerdict::Faithful { .. }) {
+        members.put_number("racing", judged.racing.len());
+        members.put_number("left_out", judged.races.left_out);
+    }
 }
 
 /// What was judged, and how that ended.
-fn checked_summary_json(
-    alloc: Global,
-    rules: Rules,
-    judged: &JudgedTrace,
-) -> Result<Members, AllocError> {
+fn checked_summary_json(alloc: Global, rules: Rules, judged: &JudgedTrace) -> Members {
     let mut members = Members::telling(alloc, "end");
     members.put_number("events", judged.found.count);
     members.put_text("model", checked_model_json(rules.model));
     members.put_flag("lax", rules.lax);
     members.put_flag("racy", judged.found.race.is_some());
     put_checked_verdict_json(&mut members, alloc, &judged.found.verdict);
-    put_checked_waits_json(&mut members, alloc, &judged.waits)?;
+    put_checked_racing_json(&mut members, rules, judged);
+    put_checked_waits_json(&mut members, alloc, &judged.waits, &judged.circles);
     if let Some(line) = judged.unfinished {
         members.put_number("unfinished", line);
     }
-    Ok(members)
+    members
 }
 
 /// The access of the trace: as its event, or if that isn't at hand any more by its place and its processor alone.
@@ -311,6 +301,53 @@ fn checked_unprotected_json(alloc: Global, told: ToldEvents<'_>, word: Unprotect
     members
 }
 
+/// Adds an access of a race, if it is known.
+fn put_checked_racing_access_json(
+    members: &mut Members,
+    alloc: Global,
+    key: &str,
+    access: &Option<KnownEvent>,
+) {
+    if let Some(known) = access {
+        members.put_object(
+            key,
+            event_json(alloc, known.place, known.event, &known.label),
+        );
+    }
+}
+
+/// A race that is told with others; of the first one of the trace what keeps its accesses apart, too, if that is known.
+fn checked_told_race_json(alloc: Global, judged: &JudgedTrace, race: &ToldRace) -> Members {
+    let mut members = Members::telling(alloc, "race");
+    members.put_number("address", race.word.address);
+    members.put_number("words", race.words);
+    put_checked_racing_access_json(&mut members, alloc, "first", &race.first);
+    put_checked_racing_access_json(&mut members, alloc, "second", &race.second);
+    if let (Some((_, second)), Some(apart)) = (judged.found.race, &judged.race)
+        && second == race.word.second
+    {
+        put_checked_apart_json(&mut members, alloc, apart);
+    }
+    members
+}
+
+/// Adds the lines of the races: of the first one, or of all that are told.
+fn put_checked_races_json(
+    lines: &mut JsonLines,
+    alloc: Global,
+    told: ToldEvents<'_>,
+    judged: &JudgedTrace,
+) {
+    for race in &judged.races.races {
+        lines.put(checked_told_race_json(alloc, judged, race));
+    }
+    if judged.racing.is_empty()
+        && let Some(race) = judged.found.race
+    {
+        lines.put(checked_race_json(alloc, told, race, &judged.race));
+    }
+}
+
 /// Adds the lines of what was found.
 fn put_checked_lines_json(
     lines: &mut JsonLines,
@@ -319,21 +356,20 @@ fn put_checked_lines_json(
     rules: Rules,
     judged: &JudgedTrace,
 ) {
-    if let Some(race) = judged.found.race {
-        lines.put(checked_race_json(alloc, told, race, &judged.race));
-    }
+    put_checked_races_json(lines, alloc, told, judged);
     if let TraceVerdict::Lie(lie) = &judged.found.verdict {
         lines.put_made(checked_lie_json(alloc, told, lie));
     }
     for word in &judged.unprotected {
         lines.put(checked_unprotected_json(alloc, told, *word));
     }
-    lines.put_made(checked_summary_json(alloc, rules, judged));
+    lines.put(checked_summary_json(alloc, rules, judged));
 }
 
-/// Writes what was found of a trace of which these events can be told, and flushes the writer: an object a line. First `race`,
-/// if there is one, then `lie`, if there is one, then `unprotected` for each word of which somebody forgot the lock, `handed` for each
-/// that never has one, and at the end `end`.
+/// Writes what was found of a trace of which these events can be told, and flushes the writer: an object a line. First comes
+/// `race`, if there is one, or one for each race that is told if all are. Then comes `lie`, if there is one. Then comes
+/// `unprotected` for each word of which somebody forgot the lock, and `handed` for each that never has one. At the end stands
+/// `end`.
 ///
 /// # Errors
 ///

@@ -2,3 +2,4 @@ pub mod AskedScripts
 pub mod MatchedOptions
 pub mod WrittenProcessors
 pub mod FinalWordItems
+pub mod PageWordItems

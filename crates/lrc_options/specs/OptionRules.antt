@@ -17,15 +17,17 @@ use Rattle.base.specs.Limits.{most_processors}
 use Rattle.lrc_script.specs.LineReading.{parts_of_read_line}
 use Rattle.lrc_options.specs.Clashes.{do_options_clash_together, is_option_in_words, is_own_model}
 use Rattle.lrc_options.specs.FinalWords.{AreFinalWordsWritten}
+use Rattle.lrc_options.specs.PageWords.{ArePageWordsWritten}
 use Rattle.lrc_options.specs.Ranges.{AreProcessorsWritten, IsOptionRangeWritten, most_trace_processors}
 use Rattle.lrc_options.specs.declared.ranges.EventRange.{EventRange}
 use Rattle.lrc_options.specs.declared.options.Asked.{Asked}
-use Rattle.lrc_options.specs.declared.options.Asked.TheVariants.{Draw, Explain, Explore, Follow, Sample, Script, Tell, Trace}
+use Rattle.lrc_options.specs.declared.options.Asked.TheVariants.{Draw, Explain, Explore, Follow, Pages, Sample, Script, Tell, Trace}
 use Rattle.lrc_options.specs.declared.options.DrawOptions.{DrawOptions}
 use Rattle.lrc_options.specs.declared.options.ExplainOptions.{ExplainOptions}
 use Rattle.lrc_options.specs.declared.options.ExploreOptions.{ExploreOptions}
 use Rattle.lrc_options.specs.declared.options.FollowOptions.{FollowOptions}
 use Rattle.lrc_options.specs.declared.options.Options.{Options}
+use Rattle.lrc_options.specs.declared.options.PagesOptions.{PagesOptions}
 use Rattle.lrc_options.specs.declared.options.SampleOptions.{SampleOptions}
 use Rattle.lrc_options.specs.declared.options.TellOptions.{TellOptions}
 use Rattle.lrc_options.specs.declared.options.OutcomeDetail.{OutcomeDetail}
@@ -184,9 +186,27 @@ race_is_error_option_rule = flag_option_rule (codes "race-is-error")
 abbrev pub locksets_option_rule : ValueParser → Rule
 locksets_option_rule words = record (option_rule (codes "locksets")) { parser = Some words }
 
+-- how many races of a program are told at most
+abbrev pub option_rule_most_races : ℕ
+option_rule_most_races = 1000
+
+abbrev pub program_option_rule : Rule
+program_option_rule = flag_option_rule (codes "program")
+
+abbrev pub races_option_rule : Rule
+races_option_rule = number_option_rule (codes "most") 1 option_rule_most_races
+
+abbrev pub suppress_option_rule : Rule
+suppress_option_rule = option_rule (codes "suppress")
+
+-- `lrc check`, without what is asked of a program's trace, and with it
+abbrev pub checked_option_rules : ValueParser → ValueParser → App
+checked_option_rules models words =
+    with_rule (with_rule (judged_option_rules (file_option_rules (codes "check")) models) race_is_error_option_rule) (locksets_option_rule words)
+
 abbrev pub check_option_rules : ValueParser → ValueParser → App
-check_option_rules models words = with_rule (with_rule (with_rule (judged_option_rules (file_option_rules (codes "check")) models) race_is_error_option_rule)
-    (locksets_option_rule words)) json_option_rule
+check_option_rules models words =
+    with_rule (with_rule (with_rule (with_rule (checked_option_rules models words) program_option_rule) races_option_rule) suppress_option_rule) json_option_rule
 
 -- `lrc draw`, without its sizes and with them
 abbrev pub drawn_option_rules : ValueParser → App
@@ -200,6 +220,23 @@ draw_option_rules patterns = with_rule (with_rule (with_rule (with_rule (with_ru
 -- `lrc follows`
 abbrev pub follows_option_rules : App
 follows_option_rules = with_rule (file_option_rules (codes "follows")) (new_rule (codes "TRACE"))
+
+-- `lrc pages`
+abbrev pub page_words_option_rule : Rule
+page_words_option_rule = option_rule (codes "page-words")
+
+abbrev pub option_rule_most_top : ℕ
+option_rule_most_top = 1000
+
+abbrev pub top_option_rule : Rule
+top_option_rule = number_option_rule (codes "top") 1 option_rule_most_top
+
+abbrev pub eager_option_rule : Rule
+eager_option_rule = flag_option_rule (codes "eager")
+
+abbrev pub pages_option_rules : App
+pages_option_rules =
+    with_rule (with_rule (with_rule (with_rule (file_option_rules (codes "pages")) page_words_option_rule) top_option_rule) eager_option_rule) json_option_rule
 
 -- `lrc` without its commands: it wants one, and has a version
 abbrev pub bare_option_rules : App
@@ -219,9 +256,9 @@ option_parsers locks models words details patterns =
 
 -- `lrc` with all its commands
 abbrev pub lrc_option_rules : OptionParsers → App
-lrc_option_rules by = with_subcommand (with_subcommand (with_subcommand (with_subcommand (with_subcommand (with_subcommand (with_subcommand (with_subcommand bare_option_rules
+lrc_option_rules by = with_subcommand (with_subcommand (with_subcommand (with_subcommand (with_subcommand (with_subcommand (with_subcommand (with_subcommand (with_subcommand bare_option_rules
     (run_option_rules by.locks).top) (step_option_rules by.locks).top) (explain_option_rules by.locks by.models).top) (sample_option_rules by.locks by.details).top)
-    (explore_option_rules by.details).top) (check_option_rules by.models by.words).top) (draw_option_rules by.patterns).top) follows_option_rules.top
+    (explore_option_rules by.details).top) (check_option_rules by.models by.words).top) (draw_option_rules by.patterns).top) follows_option_rules.top) pages_option_rules.top
 
 -- the parser takes these names and no others
 abbrev pub OptionTakesNames : List Text → ValueParser → Type 0
@@ -331,6 +368,9 @@ pub record AreOptionsByRulesOfTrace (rows : List Row) (o : TraceOptions) : Type 
   pub unfinished : IsFlagByOptionRule (one_of (codes "unfinished") rows) o.unfinished
   pub race_is_error : IsFlagByOptionRule (one_of (codes "race-is-error") rows) o.race_is_error
   pub locksets : o.locksets ≡ option_rule_locksets_given rows
+  pub program : IsFlagByOptionRule (one_of (codes "program") rows) o.program
+  pub most : IsSizeByOptionRule option_rule_most_races (one_of (codes "most") rows) o.most
+  pub suppress : option_map (λ f. string_bytes f) o.suppress ≡ first_of (codes "suppress") rows
   pub json : IsFlagByOptionRule (one_of (codes "json") rows) o.json
 
 -- whether the ticket lock is asked for
@@ -373,6 +413,19 @@ pub record AreOptionsByRulesOfDraw (rows : List Row) (o : DrawOptions) : Type 0 
 pub record AreOptionsByRulesOfFollow (rows : List Row) (o : FollowOptions) : Type 0 where
   pub script : option_map (λ f. string_bytes f) o.script ≡ first_of (codes "FILE") rows
   pub trace : option_map (λ f. string_bytes f) o.trace ≡ first_of (codes "TRACE") rows
+
+-- the page sizes that are given, or the default
+abbrev pub ArePageWordsByOptionRule : Option Text → List ℕ → Type 0
+ArePageWordsByOptionRule None words = words ≡ 128 ∷ 256 ∷ 1024 ∷ 4096 ∷ []
+ArePageWordsByOptionRule (Some t) words = ArePageWordsWritten (parts_of_read_line 44 t) words
+
+-- the options that the rows of `pages` give
+pub record AreOptionsByRulesOfPages (rows : List Row) (o : PagesOptions) : Type 0 where
+  pub file : option_map (λ f. string_bytes f) o.file ≡ first_of (codes "FILE") rows
+  pub page_words : ArePageWordsByOptionRule (first_of (codes "page-words") rows) o.page_words.items
+  pub top : IsSizeByOptionRule option_rule_most_top (one_of (codes "top") rows) o.top
+  pub eager : IsFlagByOptionRule (one_of (codes "eager") rows) o.eager
+  pub json : IsFlagByOptionRule (one_of (codes "json") rows) o.json
 
 -- the events that are given, or all
 abbrev pub AreEventsByOptionRule : Option Text → EventRange → Type 0
@@ -427,12 +480,14 @@ AreOptionsAskedByRules name rows (Explore o) = (bytes_eq name (codes "explore") 
 AreOptionsAskedByRules name rows (Trace o) = (bytes_eq name (codes "check") ≡ true) × AreOptionsByRulesOfTrace rows o
 AreOptionsAskedByRules name rows (Draw o) = (bytes_eq name (codes "draw") ≡ true) × AreOptionsByRulesOfDraw rows o
 AreOptionsAskedByRules name rows (Follow o) = (bytes_eq name (codes "follows") ≡ true) × AreOptionsByRulesOfFollow rows o
+AreOptionsAskedByRules name rows (Pages o) = (bytes_eq name (codes "pages") ≡ true) × AreOptionsByRulesOfPages rows o
 AreOptionsAskedByRules name rows (Script o) = (bytes_eq name (codes "explain") ≡ false)
     × (bytes_eq name (codes "sample") ≡ false)
     × (bytes_eq name (codes "explore") ≡ false)
     × (bytes_eq name (codes "check") ≡ false)
     × (bytes_eq name (codes "draw") ≡ false)
     × (bytes_eq name (codes "follows") ≡ false)
+    × (bytes_eq name (codes "pages") ≡ false)
     × AreOptionsByRulesOfScript name rows o
 
 -- what the words ask for, by the matches of a simple command, which find no fault in them; no options exclude each other
@@ -454,11 +509,12 @@ pub record IsOptionConflict (parsers : OptionParsers) (words : List Text) (e : E
   pub clash : do_options_clash_together name rows ≡ true
   pub kind : kind_of e ≡ ArgumentConflict
 
--- what is given for the events, for the processors or for the words can't be read
+-- what is given for the events, for the processors, for the words or for the page sizes can't be read
 abbrev pub IsOptionUnread : List Row → Type 0
 IsOptionUnread rows = ((x : EventRange) → ¬ AreEventsByOptionRule (first_of (codes "events") rows) x)
     ⊎ (((marks : List Bool) → ¬ AreProcessorsByOptionRule (option_rule_most_processors rows) (first_of (codes "processors") rows) marks)
-    ⊎ ((words : List (ℕ × ℕ)) → ¬ AreUntilWordsByOptionRule (first_of (codes "until") rows) words))
+    ⊎ (((words : List (ℕ × ℕ)) → ¬ AreUntilWordsByOptionRule (first_of (codes "until") rows) words)
+    ⊎ ((words : List ℕ) → ¬ ArePageWordsByOptionRule (first_of (codes "page-words") rows) words)))
 
 -- the words give such a text, and the fault says so
 pub record IsOptionMisread (parsers : OptionParsers) (words : List Text) (e : Error) : Type 0 where

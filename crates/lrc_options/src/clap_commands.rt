@@ -6,16 +6,17 @@ ghost use Rattle.clap.specs.declared.builder.value_parser.ValueParser.TheVariant
 ghost use Rattle.lrc_options.specs.OptionRules.{flag_option_rule, lock_option_rule, model_option_rule, most_option_rule, number_option_rule, option_parsers, option_rule, schedule_option_rule, seed_option_rule, seeds_option_rule};
 ghost use Rattle.lrc_options.specs.OptionRules.{IsCommandByOptionRules, bare_option_rules, check_option_rules, explain_option_rules, explore_option_rules, file_option_rules, outcomes_option_rule};
 ghost use Rattle.lrc_options.specs.OptionRules.{flagged_option_rules, lrc_option_rules, run_option_rules, sample_option_rules, script_option_rules, step_option_rules};
-ghost use Rattle.lrc_options.specs.OptionRules.{draw_option_rules, drawn_option_rules, follows_option_rules, judged_option_rules, locksets_option_rule, pattern_option_rule, told_option_rules, tries_option_rule};
+ghost use Rattle.lrc_options.specs.OptionRules.{draw_option_rules, drawn_option_rules, follows_option_rules, judged_option_rules, locksets_option_rule, pages_option_rules, pattern_option_rule, told_option_rules, tries_option_rule};
 ghost use Rattle.lrc_options.specs.ScriptWords.{script_word_rules};
 
 use crate::help::{
     ABOUT, AFTER, AFTER_RUN_AND_STEP, DRAW, DRAWN_FLAGS, DRAWN_LENGTH, DRAWN_LOCKS, DRAWN_PAGES,
-    DRAWN_PROCESSORS, DRAWN_SEED, DRAWN_WORDS, EVENTS, EXPLAIN, EXPLORE, FOLLOWS, HTML, JOURNAL,
-    JSON, LAX, LOCKSETS, MODEL, MOST, OUTCOMES, PATTERN, PROCESSORS, RACE_IS_ERROR, SAMPLE,
-    SCHEDULE, SCRIPT, SCRIPT_FILE, SEED, SEEDS, STATE, STRICT, SVG, TRACE, TRACE_FILE, TRACED,
-    TRIES, UNFINISHED, UNTIL, VERSION,
+    DRAWN_PROCESSORS, DRAWN_SEED, DRAWN_WORDS, EAGER, EVENTS, EXPLAIN, EXPLORE, FOLLOWS, HTML,
+    JOURNAL, JSON, LAX, LOCKSETS, MODEL, MOST, OUTCOMES, PAGE_WORDS, PAGES, PATTERN, PROCESSORS,
+    PROGRAM, RACE_IS_ERROR, RACES, SAMPLE, SCHEDULE, SCRIPT, SCRIPT_FILE, SEED, SEEDS, STATE,
+    STRICT, SUPPRESS, SVG, TOP, TRACE, TRACE_FILE, TRACED, TRIES, UNFINISHED, UNTIL, VERSION,
 };
+use crate::options::{MOST_RACES, MOST_TOP};
 use clap::builder::ValueParser;
 use clap::{Arg, ArgAction, Command};
 use std::alloc::{AllocError, Global};
@@ -375,6 +376,12 @@ fn clap_check_command<'a>(
         clap_flag_arg(alloc, "race-is-error", RACE_IS_ERROR),
     );
     let command = with_clap_arg(command, clap_locksets_arg(alloc, words));
+    let command = with_clap_arg(command, clap_flag_arg(alloc, "program", PROGRAM));
+    let command = with_clap_arg(
+        command,
+        clap_number_arg(alloc, "most", 1, MOST_RACES, RACES),
+    );
+    let command = with_clap_arg(command, clap_text_arg(alloc, "suppress", "FILE", SUPPRESS));
     with_clap_arg(command, clap_flag_arg(alloc, "json", JSON))
 }
 
@@ -426,6 +433,21 @@ fn clap_follows_command<'a>(alloc: Global) -> Result<Command<'a>, AllocError>
     with_clap_arg(command, Arg::new(alloc, "TRACE").help(TRACE_FILE))
 }
 
+/// `lrc pages`.
+fn clap_pages_command<'a>(alloc: Global) -> Result<Command<'a>, AllocError>
+    ensures { IfOk result (IsCommandByOptionRules pages_option_rules) }
+{
+    let about = "Tells what a trace would cost on this memory, on pages of any size";
+    let command = clap_file_command(alloc, "pages", about, PAGES, TRACE_FILE);
+    let command = with_clap_arg(
+        command,
+        clap_text_arg(alloc, "page-words", "W,..", PAGE_WORDS),
+    );
+    let command = with_clap_arg(command, clap_number_arg(alloc, "top", 1, MOST_TOP, TOP));
+    let command = with_clap_arg(command, clap_flag_arg(alloc, "eager", EAGER));
+    with_clap_arg(command, clap_flag_arg(alloc, "json", JSON))
+}
+
 /// `lrc` without its commands, with this text at the end of its help.
 fn clap_bare_command<'a>(alloc: Global, after: &'a str) -> Command<'a>
     ensures { IsCommandByOptionRules bare_option_rules result }
@@ -471,5 +493,6 @@ pub(crate) fn clap_lrc_command<'a>(
     let lrc = with_clap_subcommand(lrc, clap_explore_command(alloc, details));
     let lrc = with_clap_subcommand(lrc, clap_check_command(alloc, models, words));
     let lrc = with_clap_subcommand(lrc, clap_draw_command(alloc, patterns));
-    with_clap_subcommand(lrc, clap_follows_command(alloc))
+    let lrc = with_clap_subcommand(lrc, clap_follows_command(alloc));
+    with_clap_subcommand(lrc, clap_pages_command(alloc))
 }

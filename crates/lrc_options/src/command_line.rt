@@ -1,12 +1,12 @@
 //! Reads the program's words.
-ghost use Rattle.std.specs.Prelude.{◌≡◌, ◌||◌, ℕ, Bool, List, IfOk, IfErr, MatchOption, OnOk, false, is_some, map, not, option_map, string_bytes, codes};
+ghost use Rattle.std.specs.Prelude.{◌≡◌, ◌||◌, ℕ, Bool, List, IfOk, IfErr, MatchOption, OnOk, false, true, is_some, map, not, option_map, string_bytes, codes};
 ghost use Rattle.std.specs.Option.{option_map_or};
 ghost use Rattle.std.specs.Str.{bytes_eq};
 ghost use Rattle.clap.specs.Words.{first_of, one_of, rows_of, found_of};
 ghost use Rattle.lrc_options.specs.OptionRules.{IsNumberReadByOptionRule, IsNumberByOptionRule, IsSeedByOptionRule, IsFlagByOptionRule, IsLaxByOptionRules, IsOneOfFlagsByOptionRule, AreOptionsAskedByRules, AreOptionsByRulesOfScript};
 ghost use Rattle.lrc_options.specs.declared.ranges.EventRange.{EventRange};
 ghost use Rattle.lrc_options.specs.OptionRules.{AreEventsByOptionRule, AreOptionsByRulesOfExplain, AreOptionsByRulesOfExplore, AreUntilWordsByOptionRule, AreProcessorsByOptionRule, AreOptionsByRulesOfSample};
-ghost use Rattle.lrc_options.specs.OptionRules.{AreOptionsByRulesOfDraw, AreOptionsByRulesOfFollow, AreOptionsByRulesOfShowing, AreOptionsByRulesOfTell, IsSizeByOptionRule, IsExplanationAskedByOptionRules, IsShowingUnreadByOptionRules};
+ghost use Rattle.lrc_options.specs.OptionRules.{AreOptionsByRulesOfDraw, AreOptionsByRulesOfFollow, AreOptionsByRulesOfPages, ArePageWordsByOptionRule, AreOptionsByRulesOfShowing, AreOptionsByRulesOfTell, IsSizeByOptionRule, IsExplanationAskedByOptionRules, IsShowingUnreadByOptionRules};
 ghost use Rattle.lrc_options.specs.OptionRules.{AreOptionsByRulesOfTrace, option_rule_default_most, option_rule_detail_given, option_rule_locksets_given, option_rule_model_given, option_rule_named_detail, option_rule_named_locksets, option_rule_named_model, option_rule_ticket};
 ghost use Rattle.lrc_options.specs.Clashes.{do_options_clash_together};
 ghost use Rattle.lrc_options.specs.OptionRules.{AreOptionsGivenByRules, AreOptionsRefusedByRules, IsOptionUnanswered, option_rule_most_processors, option_rule_most_tries, option_rule_most_seed, option_rule_default_tries, option_rule_default_seeds};
@@ -19,9 +19,10 @@ use crate::final_words::final_words;
 use crate::misuse::{misuse_by_exclusion, misuse_by_unread_value, with_misuse_tip};
 use crate::options::{
     Asked, DEFAULT_MOST, DEFAULT_SEEDS, DEFAULT_TRIES, DrawOptions, ExplainOptions, ExploreOptions,
-    FollowOptions, MOST_TRACE_PROCESSORS, Options, OutcomeDetail, SampleOptions, ShowOptions,
-    TellOptions, TraceLocksets, TraceModel, TraceOptions,
+    FollowOptions, MOST_RACES, MOST_TOP, MOST_TRACE_PROCESSORS, Options, OutcomeDetail,
+    PagesOptions, SampleOptions, ShowOptions, TellOptions, TraceLocksets, TraceModel, TraceOptions,
 };
+use crate::page_words::{default_page_sizes, page_sizes};
 use crate::ranges::{ALL_EVENTS, EventRange, option_range_of_events, processors};
 use base::MOST_PROCESSORS;
 use clap::{ArgMatches, Error};
@@ -241,6 +242,13 @@ fn command_line_ends_at_race(matches: &ArgMatches<'_>) -> bool
     matches.get_flag("race-is-error")
 }
 
+/// Whether the trace is a program's.
+fn command_line_is_of_program(matches: &ArgMatches<'_>) -> bool
+    ensures { IsFlagByOptionRule (one_of (codes "program") (rows_of (found_of matches.now))) result }
+{
+    matches.get_flag("program")
+}
+
 /// Whether the answer is to be JSON.
 fn command_line_wants_json(matches: &ArgMatches<'_>) -> bool
     ensures { IsFlagByOptionRule (one_of (codes "json") (rows_of (found_of matches.now))) result }
@@ -436,6 +444,7 @@ fn command_line_trace_options(
     ensures { IfOk result (AreOptionsByRulesOfTrace (rows_of (found_of matches.now))) }
 {
     let file = command_line_text(alloc, matches, "FILE")?;
+    let suppress = command_line_text(alloc, matches, "suppress")?;
     Ok(TraceOptions {
         file,
         model: command_line_model(matches),
@@ -443,6 +452,9 @@ fn command_line_trace_options(
         unfinished: command_line_is_unfinished(matches),
         race_is_error: command_line_ends_at_race(matches),
         locksets: command_line_locksets(matches),
+        program: command_line_is_of_program(matches),
+        most: command_line_size(matches, "most", MOST_RACES),
+        suppress,
         json: command_line_wants_json(matches),
     })
 }
@@ -479,6 +491,66 @@ fn command_line_follow_options(
     Ok(FollowOptions { script, trace })
 }
 
+/// The page sizes given for `--page-words`, or the default; None where what is given are none. The only error is running out of
+/// memory.
+fn command_line_page_sizes(
+    alloc: Global,
+    matches: &ArgMatches<'_>,
+) -> Result<Option<Vec<usize>>, AllocError>
+    ensures { IfOk result (λ o. MatchOption o
+        ((words : List ℕ) → ¬ ArePageWordsByOptionRule (first_of (codes "page-words") (rows_of (found_of matches.now))) words)
+        (λ v. ArePageWordsByOptionRule (first_of (codes "page-words") (rows_of (found_of matches.now))) v.items)) }
+{
+    match matches.get_str("page-words") {
+        Some(text) => page_sizes(alloc, text),
+        None => Ok(Some(default_page_sizes(alloc)?)),
+    }
+}
+
+/// Whether the costs of eager release consistency are asked for.
+fn command_line_wants_eager(matches: &ArgMatches<'_>) -> bool
+    ensures { IsFlagByOptionRule (one_of (codes "eager") (rows_of (found_of matches.now))) result }
+{
+    matches.get_flag("eager")
+}
+
+/// The options that the matches of `pages` give, with these page sizes.
+fn command_line_pages_options(
+    alloc: Global,
+    matches: &ArgMatches<'_>,
+    page_words: Vec<usize>,
+) -> Result<PagesOptions, AllocError>
+    requires { ArePageWordsByOptionRule (first_of (codes "page-words") (rows_of (found_of matches.now))) page_words.items }
+    ensures { IfOk result (AreOptionsByRulesOfPages (rows_of (found_of matches.now))) }
+{
+    let file = command_line_text(alloc, matches, "FILE")?;
+    Ok(PagesOptions {
+        file,
+        page_words,
+        top: command_line_size(matches, "top", MOST_TOP),
+        eager: command_line_wants_eager(matches),
+        json: command_line_wants_json(matches),
+    })
+}
+
+/// What the matches of `pages` ask for; or that page sizes are given that can't be read.
+fn command_line_pages_answer(
+    alloc: Global,
+    name: &str,
+    matches: &ArgMatches<'_>,
+) -> Result<Asked, Error>
+    requires { bytes_eq name.now (codes "pages") ≡ true }
+    ensures asked { IfOk result (AreOptionsAskedByRules name.now (rows_of (found_of matches.now))) }
+    ensures unanswered { IfErr result (IsShowingUnreadByOptionRules (rows_of (found_of matches.now))) }
+{
+    let Some(page_words) = command_line_page_sizes(alloc, matches)? else {
+        let want = "at most 8 numbers of words from 1 to 1048576, as 128 or 128,1024";
+        return Err(misuse_by_unread_value(alloc, name, matches, "page-words", "W,..", want)?);
+    };
+    let options = command_line_pages_options(alloc, matches, page_words)?;
+    Ok(Asked::Pages(options))
+}
+
 /// What the matches of `explain` ask for, of which this is shown.
 fn command_line_explanation(
     alloc: Global,
@@ -508,6 +580,7 @@ fn command_line_asks(
     requires until { AreUntilWordsByOptionRule (first_of (codes "until") (rows_of (found_of matches.now))) until.items }
     requires draws { bytes_eq name.now (codes "draw") ≡ false }
     requires follows { bytes_eq name.now (codes "follows") ≡ false }
+    requires pages { bytes_eq name.now (codes "pages") ≡ false }
     ensures { IfOk result (AreOptionsAskedByRules name.now (rows_of (found_of matches.now))) }
 {
     if name == "explain" {
@@ -565,6 +638,9 @@ fn command_line_answer(alloc: Global, name: &str, matches: &ArgMatches<'_>) -> R
     if name == "follows" {
         return Ok(Asked::Follow(command_line_follow_options(alloc, matches)?));
     }
+    if name == "pages" {
+        return command_line_pages_answer(alloc, name, matches);
+    }
     command_line_study_answer(alloc, name, matches)
 }
 
@@ -576,6 +652,7 @@ fn command_line_study_answer(
 ) -> Result<Asked, Error>
     requires draws { bytes_eq name.now (codes "draw") ≡ false }
     requires follows { bytes_eq name.now (codes "follows") ≡ false }
+    requires pages { bytes_eq name.now (codes "pages") ≡ false }
     ensures asked { IfOk result (AreOptionsAskedByRules name.now (rows_of (found_of matches.now))) }
     ensures unanswered { IfErr result (IsShowingUnreadByOptionRules (rows_of (found_of matches.now))) }
 {
@@ -593,15 +670,16 @@ fn command_line_study_answer(
 /// `lrc explain [FILE] --trace [--model NAME] [--strict] [--lax] [--unfinished]` with the same to say what is shown,
 /// `lrc sample [FILE] [--seeds N] [--lock KIND] [--outcomes WHAT] [--json]`,
 /// `lrc explore [FILE] [--most N] [--until A=V,..] [--outcomes WHAT] [--json]`,
-/// `lrc check [FILE] [--model NAME] [--strict] [--lax] [--unfinished] [--race-is-error] [--locksets WHICH] [--json]`,
-/// `lrc draw [PATTERN] [--seed N] [--processors N] [--pages N] [--words N] [--locks N] [--flags N] [--length N]` or
-/// `lrc follows [FILE] [TRACE]`.
+/// `lrc check [FILE] [--model NAME] [--strict] [--lax] [--unfinished] [--race-is-error] [--locksets WHICH] [--json]` with
+/// `[--program [--most N] [--suppress FILE]]` for all races,
+/// `lrc draw [PATTERN] [--seed N] [--processors N] [--pages N] [--words N] [--locks N] [--flags N] [--length N]`,
+/// `lrc follows [FILE] [TRACE]` or `lrc pages [FILE] [--page-words W,..] [--top N] [--eager] [--json]`.
 ///
 /// # Errors
 ///
-/// clap's, of just the kind that its own function of the command finds in the words: words that give no such command,
-/// a question for help; a conflict, if they give options that exclude each other; a bad value, if they give events, processors
-/// or words that can't be read; or running out of memory.
+/// clap's, of just the kind that its own function of the command finds in the words: words that give no such command, or
+/// a question for help. A conflict, if they give options that exclude each other. A bad value, if they give events, processors,
+/// words or page sizes that can't be read. Or running out of memory.
 pub fn options<'a>(alloc: Global, words: &'a [String]) -> Result<Asked, Error>
     ensures given { IfOk result (AreOptionsGivenByRules (map (λ w. string_bytes w) words.entry.now)) }
     ensures refused { IfErr result (AreOptionsRefusedByRules (map (λ w. string_bytes w) words.entry.now)) }

@@ -16,7 +16,7 @@ p 1\\nacquire 0\\nadd 0 1\\nrelease 0\\nshow 0\\n' | lrc step --journal
 Statuses: 0 done; 2 the script or the trace is refused; 3 no progress; 4 a limit, out of memory, a
 thread that couldn't be started, or a failed write; 5 usage, or the file can't be read; 6 the trace
 isn't faithful, or doesn't follow its script; 7 a search was given up; 8 the trace races, with
---race-is-error.";
+--race-is-error; 9 it hangs, with --program.";
 
 /// The same of a program that has `run` and `step` alone.
 pub(crate) const AFTER_RUN_AND_STEP: &str = "Example:
@@ -61,7 +61,7 @@ What is printed:
 pub(crate) const EXPLAIN: &str =
     "The script is as `lrc run --help` tells it, and a trace as `lrc check --help` does. What is printed:
   a line for each event    its number, what it did, in its processor's column, and why: which store a load
-                           answers, what a fetch brought, for whom a processor waits
+                           returns, what a fetch brought, for whom a processor waits
   timestamp T ..           with --state, below each event: its processor's vector timestamp; the interval that
                            it lies in or closes (pW:N is interval N of processor W), and its records; the
                            write notices that it brings; which copies of pages are stale or dirty
@@ -85,7 +85,7 @@ pub(crate) const SAMPLE: &str =
                            K of them came to this; `lrc step --schedule S` shows it. RESULT is one of
     race-free words A V .. replies pP V ..
                            address A has V in the end; with --outcomes loads, the instructions `load` of processor
-                           P answered V .., in order; with --outcomes all, what its `add` loaded is among them;
+                           P returned V .., in order; with --outcomes all, what its `add` loaded is among them;
                            both as far as the journal has them
     racy words ..          the same of a run with a race
     stuck P                no processor got on, and P is the least that waits
@@ -102,26 +102,26 @@ none of them races, each run of the script is one of them. What is printed:
     outcomes N             whole runs have N results, a line each; with `so far`, there may be others
       words A V .. replies pP V .. schedule S
                              address A has V in the end; with --outcomes loads, the instructions `load` of processor
-                             P answered V .., in order; with --outcomes all, what its `add` loaded is among them;
+                             P returned V .., in order; with --outcomes all, what its `add` loaded is among them;
                              `lrc step --schedule S` shows it
     hangs never            or `hangs`, then the events of a schedule that can't go on, who waits for what, and
                            `schedule S`, by which `lrc step` comes there;
                            or `hangs undecided`: the search was given up, and none that it met hangs
-  verdict racy             then the events of a schedule that races, its two accesses behind `race`, `schedule S`,
+  verdict racy             then the events of a schedule that races, its two accesses after `race`, `schedule S`,
                            by which `lrc step` makes them, and a schedule that can't go on, if one was met
   states N                 N states were found
-Of a racy script, behind that, what the memory's rules allow: each load answers a latest store of its past.
+If the script is racy, then what the memory's rules allow: each load returns a latest store of its past.
   outcomes N by the rules  N results, a line each, as above; with `so far`, there may be others
     words .. schedule S    `lrc step --schedule S` shows it; or `schedule undecided`: the search for one was given up
     words .. by the rules alone
-                           no schedule shows it; then each load of a run by the rules, with the store it answers
+                           no schedule shows it; then each load of a run by the rules, with the store it returns
   beginnings N             N beginnings of runs were looked at for that
 With --until, in place of the verdict race-free and what stands below it:
   until shown              a run ends with these words; then what it shows, as above, and
     schedule S             `lrc step --schedule S` shows it
   until never              no run ends with them, and none races
   until undecided          the search was given up, and no run that it met ends with them
-and of a racy script, in place of the results by the rules:
+and if the script is racy, in place of the results by the rules:
   until shown              a run of this memory ends with these words, as above
   until by the rules alone they allow one, and no schedule shows any; then what it shows, its events and answers
   until by the rules       they allow one; then what it shows, and its events: the search for a schedule was given up
@@ -134,10 +134,10 @@ write; 5 usage, or the file can't be read; 7 the search was given up.";
 /// What a trace is, and what is printed of it.
 pub(crate) const TRACE: &str =
     "A trace is a script's line `cluster P N W L [G]`, and the lines `event I B ..` that --journal prints,
-numbered from 0: each event in order. What stands behind two spaces on a line is its label; a line that is
+numbered from 0: each event in order. What stands after two spaces on a line is its label; a line that is
 empty or begins with # is passed over. An `acquire` or `await` without its `ask` or `watch` stands for both.
 
-What a load has to answer under each model; the other events are judged alike:
+What a load has to return under each model; the other events are judged alike:
   race-free               up to the first race the latest store of its past; from there on it isn't judged
   happens-before          a latest store of its past, or a store before it in the trace that its past lacks
   lazy-release            a latest store of its past, as this memory does; and fetches count what they bring
@@ -152,17 +152,19 @@ What is printed:
     verdict race-free       or `racy`, and then the two events of the first race, and what would have ordered them
     unprotected A: ..       with --locksets: two accesses of word A that hold no lock in common, and two that
                             do; flags, the barrier and their processors' own order keep none of these apart
+    race of word A          with --program: the two events of word A's first race; and of how many more words the
+                            first race has the same two labels; then `racing words N`, how many words race
     handed over A: ..       with --locksets all: two such accesses that hold none in common, where no two do
     traffic M R W           M messages; R records with W words in all, as its fetches tell
-  unfaithful I            no such memory makes event I after those before it, which are faithful; behind the
+  unfaithful I            no such memory makes event I after those before it, which are faithful; after the
                           race, if it has one by then:
     event I B ..            the event
-    because ..              why; where a load may answer stores of others, their events follow
+    because ..              why; where a load may return stores of others, their events follow
   waits ..                at the end of a trace: who waits for what, and in a circle for each other
   unfinished line N       with --unfinished: the trace ends in the midst of line N
 
 Statuses: 0 faithful, racy or not; 2 no trace; 4 a limit, out of memory, or a failed write; 5 usage, or
-the file can't be read; 6 unfaithful; 8 a race, with --race-is-error alone.";
+the file can't be read; 6 unfaithful; 8 a race, with --race-is-error alone; 9 a hang, with --program.";
 
 /// What the options are for.
 pub(crate) const TRIES: &str = "a thread gives up after N consecutive answers that it must wait";
@@ -183,7 +185,7 @@ pub(crate) const UNTIL: &str =
     "looks for a run that ends with word V at address A, and so on; the script has to show them";
 
 pub(crate) const OUTCOMES: &str =
-    "what a result tells: the words alone, what each `load` answered, too, or what each `add` loaded, too";
+    "what a result tells: the words alone, what each `load` returned, too, or what each `add` loaded, too";
 
 /// What the flags do.
 pub(crate) const JOURNAL: &str = "prints a line for each event too";
@@ -219,6 +221,15 @@ pub(crate) const RACE_IS_ERROR: &str = "ends with the first race, and with statu
 
 pub(crate) const LOCKSETS: &str =
     "tells the words whose lock was forgotten somewhere, or those that never have one, too; of a trace without a race";
+
+pub(crate) const PROGRAM: &str =
+    "the trace is a program's: tells every word that races, once; those between the same two labels together";
+
+pub(crate) const RACES: &str =
+    "with --program: tells N races at most, 100 if it isn't given; N is up to 1000";
+
+pub(crate) const SUPPRESS: &str =
+    "with --program: leaves out the races that have a line of FILE in one of their labels";
 
 pub(crate) const JSON: &str = "prints JSON in place of text: an object a line";
 
@@ -269,10 +280,48 @@ pub(crate) const FOLLOWS: &str =
     "The script is as `lrc run --help` tells it, and a trace as `lrc check --help` does; both can't be standard input.
 What is printed:
   follows                each processor's events, fetches aside, are what its section says, then a last barrier,
-                         and of processor 0 the loads of the shown words; asks and watches have to be written
+                         and of processor 0 the loads of the shown words; an `acquire` or `await` without its
+                         `ask` or `watch` stands for both
   strays I               what stands before event I does so, and with event I it doesn't
+    event I B ..           the event
+    pB is at line N: ..    what its processor does next: the script's line N, the closing barrier, a shown
+                           address, or nothing, at its end
   unfinished P           all events do so, and processor P is the least that hasn't come to its end
+    pP is at line N: ..    what it does next, as above
   other sizes            the first line of the trace isn't the script's
 
 Statuses: 0 it follows; 2 the script or the trace is refused; 4 out of memory, or a failed write; 5 usage, or
 a file can't be read; 6 it doesn't follow.";
+
+/// What `--page-words` of `pages` gives.
+pub(crate) const PAGE_WORDS: &str =
+    "how many words a page has, up to 1048576, for each of at most 8 sizes; 128,256,1024,4096 where it isn't given";
+
+/// What `--top` of `pages` gives.
+pub(crate) const TOP: &str =
+    "also tells of each size the N pages that are fetched most, and the N labels whose accesses wait for most messages, up to 1000";
+
+/// What `--eager` of `pages` gives.
+pub(crate) const EAGER: &str = "also tells of each size what eager release consistency would cost";
+
+/// What is printed of a trace on pages.
+pub(crate) const PAGES: &str =
+    "A trace is as `lrc check --help` tells it. Its own fetches are left out. On pages of each size a fetch stands right before
+each access of a page whose copy lacks records, and counts what it lacks. A line for each size:
+  page words W           a page has W words
+  messages M             M messages were sent, two for each other processor that a fetch asks
+  locks, flags, barrier, fetch
+                         how many of them hand locks over, tell of flags, go to the barrier and back, and bring records
+  fetches F              there are F fetches
+  records R, words W     they bring R records with W words in all
+  pages P                P pages are accessed
+With --top after each of them the pages that are fetched most, and the labels whose accesses wait for most:
+  page P                 page P has F fetches that bring W words; U of them are useless: their processors access none of
+                         these words before they fetch the page again
+  writers, readers       the processors that store in it, and those that load from it
+  messages M, label L    the accesses with label L wait for M messages of fetches
+With --eager a line of what eager release consistency costs: a release tells each processor that has a copy of a page stored in,
+by notices, and a fetch brings a whole page.
+
+Statuses: 0 done; 2 no trace; 4 a limit, out of memory, or a failed write; 5 usage, the file can't be read, or pages of so
+many words don't fit.";

@@ -17,5 +17,6 @@ mod final_words;
 mod help;
 mod misuse;
 pub mod options;
+pub mod page_words;
 pub mod ranges;
 pub mod script_words;

@@ -7,7 +7,7 @@ use clap::{ArgMatches, Command, Error};
 use std::alloc::{AllocError, Global};
 
 /// Each command with each option that it has. Of the commands that have an option the first one is named.
-const OPTIONS: [(&str, &str); 42] = [
+const OPTIONS: [(&str, &str); 49] = [
     ("run", "--tries"),
     ("run", "--lock"),
     ("run", "--journal"),
@@ -36,6 +36,9 @@ const OPTIONS: [(&str, &str); 42] = [
     ("check", "--lax"),
     ("check", "--race-is-error"),
     ("check", "--locksets"),
+    ("check", "--program"),
+    ("check", "--most"),
+    ("check", "--suppress"),
     ("check", "--json"),
     ("explain", "--model"),
     ("explain", "--strict"),
@@ -50,6 +53,10 @@ const OPTIONS: [(&str, &str); 42] = [
     ("draw", "--locks"),
     ("draw", "--flags"),
     ("draw", "--length"),
+    ("pages", "--page-words"),
+    ("pages", "--top"),
+    ("pages", "--eager"),
+    ("pages", "--json"),
 ];
 
 /// A command that was given an option that it lacks, and a command that has it.

@@ -24,6 +24,8 @@ pub enum Asked {
     Draw(DrawOptions),
     /// Whether a trace follows its script is to be told, by `follows`.
     Follow(FollowOptions),
+    /// What a trace costs on pages is to be told, by `pages`.
+    Pages(PagesOptions),
 }
 
 /// Which script is to be drawn. A size that isn't given is drawn, too.
@@ -56,6 +58,21 @@ pub struct FollowOptions {
     pub trace: Option<String>,
 }
 
+/// What is to be told of what a trace costs on pages.
+#[derive(Drop)]
+pub struct PagesOptions {
+    /// The file to read the trace from, or None for standard input.
+    pub file: Option<String>,
+    /// How many words a page has, for each size that the trace is told on: at most 8 sizes, of 1 to 2^20 words each.
+    pub page_words: Vec<usize>,
+    /// How many pages are told of each size, and how many labels: at most 1,000, and none where it isn't given.
+    pub top: Option<u64>,
+    /// Whether it is also told what eager release consistency would cost.
+    pub eager: bool,
+    /// Whether the answer is JSON, an object a line, and not text.
+    pub json: bool,
+}
+
 impl Asked {
     /// The file to read from, or None for standard input.
     pub fn file(&self) -> Option<&str> {
@@ -68,6 +85,7 @@ impl Asked {
             Asked::Trace(options) => options.file.as_deref(),
             Asked::Draw(_) => None,
             Asked::Follow(options) => options.trace.as_deref(),
+            Asked::Pages(options) => options.file.as_deref(),
         }
     }
 }
@@ -173,6 +191,12 @@ pub struct TraceOptions {
     pub race_is_error: bool,
     /// Which words are told that need a lock and have none; None if nothing is told of locks.
     pub locksets: Option<TraceLocksets>,
+    /// Whether the trace is a program's, whose races are all told.
+    pub program: bool,
+    /// How many of these at most, 1 to 1,000; None if it isn't given.
+    pub most: Option<u64>,
+    /// The file whose lines name the races that are left out; None if none are.
+    pub suppress: Option<String>,
     /// Whether the answer is JSON, an object a line, and not text.
     pub json: bool,
 }
@@ -194,6 +218,12 @@ pub enum TraceModel {
     LazyRelease,
     Sequential,
 }
+
+/// The most pages of each size that may be asked for.
+pub(crate) const MOST_TOP: u64 = 1000;
+
+/// The most races that may be asked for.
+pub(crate) const MOST_RACES: u64 = 1000;
 
 /// The tries if none are given.
 pub(crate) const DEFAULT_TRIES: u64 = 1_000_000;

@@ -12,16 +12,16 @@
 //! A picture may be of a part of the run (module `cutout`): of the events of some processors from one to another. An arrow or an
 //! edge from an event outside is left out.
 //!
-//! A page has, beside the picture, the state before the first event as tables (`panel`), what each event changes in them
-//! (`changes`, `steps`), and a short script (`page_looks`) that applies one event's changes after the other, or takes them back.
+//! A page has, beside the picture, the state before the first event as tables (`panel`), and what each event changes in them
+//! (`changes`, `steps`). A short script (`page_looks`) applies one event's changes after the other, or takes them back.
 //!
-//! **What contracts see.** Which events a part's picture has (specs/Cutout), which point a processor's line and a row meet at
-//! (specs/PictureGrid), the mark of an event, its label, the arrow between two events, the bar of a row. A writer by the bytes that it
-//! was given (`contents`).
+//! **What contracts see.** Which events a part's picture has (specs/Cutout), and at which point a processor's line and a row meet
+//! (specs/PictureGrid). The mark of an event, its label, the arrow between two events, the bar of a row. A writer by the bytes
+//! that it was given (`contents`).
 //!
 //! **What is proved.** Exactly the part's events are drawn, in order, on the lanes of its processors. The layout has a mark
-//! for each event, in a row of its own on its processor's line, and lanes, or a column of labels, with room for the longest
-//! label; so no two lanes overlap, and each mark lies within the picture (module `laws`). An arrow leads from the first
+//! for each event, in a row of its own on its processor's line. Lanes, or a column of labels, have room for the longest
+//! label, so no two lanes overlap, and each mark lies within the picture (module `laws`). An arrow leads from the first
 //! event's mark to the second one's. A bar ends at the last lane. Where memory runs out nothing was written. Of each event, a
 //! page has its processor's vector timestamp after it, exactly the words that it writes in copies, and exactly the records by
 //! which copies go stale (specs/Changes).

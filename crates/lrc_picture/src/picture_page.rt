@@ -1,6 +1,7 @@
 //! Writes the page of a run: its picture, and its state after any of its events, in one HTML file that wants no other.
 ghost use Rattle.std.specs.Prelude.{◌≡◌, Err};
-ghost use Rattle.lrc_picture.specs.Prelude.{HasPictureLayout};
+ghost use Rattle.causes.specs.declared.part.Part.{Part};
+ghost use Rattle.lrc_picture.specs.Prelude.{HasPictureLayout, IsCutout};
 
 use crate::canvas::put_picture_on_canvas;
 use crate::changes::{RunChanges, do_changes_tell_copies, sizes_in_changes};
@@ -95,6 +96,26 @@ fn put_picture_page_end(text: &mut Svg, story: &PictureStory<'_>, state: &Pictur
     text.put("</body>\n</html>\n");
 }
 
+/// The text of the page of what is drawn of the story. The only error is running out of memory.
+fn picture_page_text_of(
+    alloc: Global,
+    story: &PictureStory<'_>,
+    state: &PicturePageState<'_>,
+    cutout: &Cutout,
+) -> Result<String, AllocError>
+    requires { (part : Part) × IsCutout part story.now.processors story.now.events.now cutout.now }
+{
+    let layout = cutout.picture_layout_of(alloc)?;
+    let mut text = Svg::new(alloc);
+    put_picture_page_top(&mut text, story, cutout);
+    put_picture_on_canvas(&mut text, &layout, story, cutout);
+    drop(layout);
+    put_picture_page_controls(&mut text, story, cutout);
+    put_panel(&mut text, alloc, state.start(), cutout, story.events)?;
+    put_picture_page_end(&mut text, story, state);
+    text.finish()
+}
+
 /// The text of the page of this part of the story. The only error is running out of memory.
 fn picture_page_of(
     alloc: Global,
@@ -106,14 +127,9 @@ fn picture_page_of(
 {
     let part = cutout_part_from(part, story.number(0));
     let cutout = cutout_of(alloc, story, &part)?;
-    let layout = cutout.picture_layout_of(alloc)?;
-    let mut text = Svg::new(alloc);
-    put_picture_page_top(&mut text, story, &cutout);
-    put_picture_on_canvas(&mut text, &layout, story, &cutout);
-    put_picture_page_controls(&mut text, story, &cutout);
-    put_panel(&mut text, alloc, state.start(), &cutout, story.events)?;
-    put_picture_page_end(&mut text, story, state);
-    text.finish()
+    let text = picture_page_text_of(alloc, story, state, &cutout);
+    drop(cutout);
+    text
 }
 
 /// Writes the page of this part of the story as an HTML file, and flushes the writer. It has the picture, and below or beside

@@ -368,6 +368,21 @@ fn run_front_records_at(dues: &[Vec<Due>], place: usize) -> &[Due] {
     }
 }
 
+/// What each of these events changes besides, before which the run stands so. The only error is running out of memory.
+fn run_front_changes_behind(
+    alloc: Global,
+    front: &mut RunFront,
+    events: &[Event],
+    dues: &[Vec<Due>],
+) -> Result<Vec<Vec<StateChange>>, AllocError> {
+    let mut others = Vec::with_capacity(alloc, events.len())?;
+    for (place, event) in events.iter().enumerate() {
+        let records = run_front_records_at(dues, place);
+        others.push(run_front_changes_at(front, *event, records)?)?;
+    }
+    Ok(others)
+}
+
 /// What each event of the history changes besides, which tells of these records; of none if copies aren't told. The only error is
 /// running out of memory.
 pub fn run_front_changes_of(
@@ -375,13 +390,9 @@ pub fn run_front_changes_of(
     history: &History<'_>,
     dues: &[Vec<Due>],
 ) -> Result<Vec<Vec<StateChange>>, AllocError> {
-    let events = history.events();
     let sizes = sizes_in_changes(history.sizes());
     let mut front = RunFront::new(alloc, sizes, history.cut_events() > 0)?;
-    let mut others = Vec::with_capacity(alloc, events.len())?;
-    for (place, event) in events.iter().enumerate() {
-        let records = run_front_records_at(dues, place);
-        others.push(run_front_changes_at(&mut front, *event, records)?)?;
-    }
-    Ok(others)
+    let others = run_front_changes_behind(alloc, &mut front, history.events(), dues);
+    drop(front);
+    others
 }

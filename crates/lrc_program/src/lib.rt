@@ -5,13 +5,13 @@
 //! options the words give, `lrc_report` and `lrc_options` say. Scripts are run by whatever has the contract `ScriptRunner`. So
 //! this is proved beside `lrc_run`, which the program's main hands in.
 //!
-//! **What is proved.** `program` answers 0 only if all that it could read is a script's text, that script was run
-//! as the options ask (`IsServedAsAsked`) and the text of its report was written, and nothing else (`IsServed`); 2 only
-//! if it is no script's text (`IsServedWithoutScript`); and at any status but 4 a report is written whole or not at all. Each
+//! **What is proved.** `program` returns 0 only if all that it could read is a script's text, and that script was run
+//! as the options ask (`IsServedAsAsked`). Then the text of its report was written, and nothing else (`IsServed`). It returns 2
+//! only if it is no script's text (`IsServedWithoutScript`). At any status but 4 a report is written whole or not at all. Each
 //! fault has its status (`program_exit_status_of`).
 //!
-//! **What is only tested**, by whole runs of the program. The texts of faults, help and usage, which fault is met, that
-//! what runs scripts makes use of the lock, the tries and the seed that it is handed, and that no call allocates without
+//! **What is only tested**, by whole runs of the program. The texts of faults, help and usage, and which fault is met. That
+//! what runs scripts makes use of the lock, the tries and the seed that it is handed. That no call allocates without
 //! need. No contract sees what a file or a standard stream has.
 #![tactic(auto)]
 

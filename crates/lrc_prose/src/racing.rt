@@ -174,7 +174,7 @@ impl RaceProse<'_> {
     fn put_remedy(&self, text: &mut ProseText, first: RaceProseEvent, second: RaceProseEvent) {
         text.put("What would order them: one lock round both, a barrier between them,");
         text.put_number(" or a flag that p", first.event.processor);
-        text.put_number(" sets behind event ", first.number);
+        text.put_number(" sets after event ", first.number);
         text.put_number(" and p", second.event.processor);
         text.put_number(" awaits before event ", second.number);
         text.put(".");

@@ -1,9 +1,8 @@
 -- Turns that are drawn, one after another.
-use Rattle.std.proofs.Common.{ℕ, zero, suc, ◌≡◌, ◌+◌, ◌*◌, ◌<◌, ◌≤◌, Bool, Some, List, [], ◌∷◌, ◌++◌, inl, inr, length, refl, sym, ap, ap₂, subst, subst₂, take, drop, get_or, slice_get, slice_index_or, ◌∙◌, append_assoc, append-nil, arith}
+use Rattle.std.proofs.Common.{ℕ, zero, suc, ◌≡◌, ◌+◌, ◌*◌, ◌<◌, ◌≤◌, Bool, Some, List, [], ◌∷◌, ◌++◌, inl, inr, length, refl, sym, ap, ap₂, subst, take, drop, get_or, slice_get, slice_index_or, ◌∙◌, append_assoc, append-nil, arith}
 use Rattle.std.proofs.lemmas.List.Elements.{All-append, All-cons, All-nil, All-take, All-drop}
 use Rattle.std.proofs.lemmas.List.Sums.{sum_by_push}
-use Rattle.std.proofs.lemmas.Bool.{cases_lt}
-use Rattle.std.proofs.lemmas.Option.{get_or_from_slice_get, same_Some, slice_get_within}
+use Rattle.std.proofs.lemmas.Option.{get_or_from_slice_get, slice_get_within}
 use Rattle.base.proofs.SlicesAndCounts.{slice_take-suc_at}
 use Rattle.rand_pcg.specs.Lcg.{Lcg}
 use Rattle.lrc_script.specs.declared.script.Instruction.{Instruction}
@@ -154,18 +153,6 @@ drawn_turns_summed_more s p turns section lawful at was =
 abbrev pub HaveArrivedBelow : List (List Instruction) → List TurnProgress → ℕ → Type 0
 HaveArrivedBelow sections all k = (p : ℕ) (section : List Instruction) (at : TurnProgress) → p < k → slice_get sections p ≡ Some section
     → slice_get all p ≡ Some at → HasArrivedAtDrawnEnd section at
-
--- nor does the one there
-pub have_arrived_more : (sections : List (List Instruction)) (all : List TurnProgress) (k : ℕ) (section : List Instruction) (at : TurnProgress)
-    → slice_get sections k ≡ Some section → slice_get all k ≡ Some at → HasArrivedAtDrawnEnd section at → HaveArrivedBelow sections all k
-    → HaveArrivedBelow sections all (k + 1)
-have_arrived_more sections all k section at its here arrived below p other x less there that = elim (cases_lt p k) [
-  | inl lower ↦ below p other x lower there that
-  | inr past ↦ (let same : p ≡ k = omega (arith, less, past) in
-      let S : ℕ → Type 0 = λ q. slice_get sections q ≡ Some other in
-      let A : ℕ → Type 0 = λ q. slice_get all q ≡ Some x in
-      subst₂ HasArrivedAtDrawnEnd (same_Some section other (sym its ∙ subst S same there)) (same_Some at x (sym here ∙ subst A same that)) arrived)
-]
 
 -- an order of which one came last
 pub drawn_order_pushed_below : (n : ℕ) (xs left ys : List ℕ) (place x : ℕ) → place < length xs

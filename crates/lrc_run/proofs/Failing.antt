@@ -1,6 +1,6 @@
 -- Faults among outcomes, found one by one; and what is taken of outcomes that are none.
 use Rattle.std.proofs.Common.{ℕ, ◌≡◌, ◌≢◌, ◌+◌, ◌<◌, inl, inr, Bool, List, [], ◌∷◌, ◌++◌, Result, Ok, Err, length, map, refl, sym, ap, subst, ◌∙◌, arith}
-use Rattle.std.specs.Result.{IfErr, IfOk, MatchResult, is_ok}
+use Rattle.std.specs.Result.{IfOk}
 use Rattle.std.proofs.lemmas.Bool.{cases_lt}
 use Rattle.std.proofs.lemmas.List.{map-append}
 use Rattle.conformance.specs.declared.cause.Cause.{Cause}
@@ -37,18 +37,6 @@ failing_taken_more all outcomes x outcome same is = map-append Ok all (x ∷ [])
 pub failing_none_left : {A : Type 0} (xs : List A) → length xs ≡ 0 → xs ≡ []
 failing_none_left [] none = refl
 failing_none_left (x ∷ xs) none = absurd (omega arith)
-
--- a result whose error is told in another way
-pub failing_told_ok : {A E F : Type 0} (r : Result A E) (told : Result A F) (P : A → Type 0) (Q : E → Type 0)
-    → MatchResult r (λ x. told ≡ Ok x) Q → is_ok told ≡ is_ok r → IfOk r P → IfOk told P
-failing_told_ok (Ok x) told P Q is same holds = subst (λ t. IfOk t P) (sym is) holds
-failing_told_ok (Err e) (Ok x) P Q is same holds = absurd (cc)
-failing_told_ok (Err e) (Err f) P Q is same holds = tt
-
--- what holds whatever the error is
-pub failing_each_error : {A E : Type 0} (r : Result A E) (Q : E → Type 0) → ((e : E) → Q e) → IfErr r Q
-failing_each_error (Ok x) Q all = tt
-failing_each_error (Err e) Q all = all e
 
 -- what holds of an answer holds of it in weaker words
 pub failing_ok_as : {A E : Type 0} (r : Result A E) (P Q : A → Type 0) → ((x : A) → P x → Q x) → IfOk r P → IfOk r Q

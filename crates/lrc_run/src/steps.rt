@@ -38,7 +38,7 @@ use std::sync::Wait;
 /// in orders that are drawn by it. Two calls with the same script and seed give the same report.
 ///
 /// The fault is [`Stuck`](Cause::Stuck) of the least processor that waits, if each waits for what can't come any
-/// more; a call's refusal with the processor whose turn it was; and what is refused outside of turns with processor 0.
+/// more. Or it is a call's refusal, with the processor whose turn it was, or with processor 0 outside of turns.
 pub fn step<R: Wait>(
     rt: &R,
     alloc: Global,

@@ -21,7 +21,7 @@ use std::sync::Wait;
 /// has no gate. What the processor waits for is taken as soon as it has come.
 ///
 /// [`Gate`](Cause::Gate) if the gate stops it, [`Stuck`](Cause::Stuck) after `tries` answers in a row that
-/// what it waits for hasn't come, or as soon as that can't come any more, and else [`Refused`](Cause::Refused) with a
+/// what it waits for hasn't come, or as soon as that can't come any more. Else [`Refused`](Cause::Refused) with a
 /// call's refusal.
 pub(crate) fn walk<T: BookTurn, R: Wait, G: Gate>(
     rt: &R,

@@ -102,9 +102,9 @@ fn sample_once<T: ScriptRunner, R: Wait>(
     }
 }
 
-/// Runs the script by turns, in rounds by rising number and then by the turns that each seed from 0 to `seeds` - 1 draws, and
-/// tells each outcome once, in this detail, with the schedule of the first run that came to it. A run that is stuck is an outcome; every
-/// fault ends it, also running out of memory.
+/// Runs the script by turns: in rounds by rising number, and then by the turns that each seed from 0 to `seeds` - 1 draws. It
+/// tells each outcome once, in this detail, with the schedule of the first run that came to it. A run that is stuck is an outcome.
+/// Every fault ends it, also running out of memory.
 ///
 /// It takes the time of the runs, and for each run a comparison with each outcome that came before: kinds are few. `progress`
 /// is told after each run how many are done.

@@ -4,8 +4,8 @@
 //! instructions, its shown addresses. `IsLawful` says which plans are scripts, `text` what their bytes are.
 //! `IsScriptFault` says what a fault says of the bytes.
 //!
-//! **What is proved.** `script::parse` answers a script only if it is lawful and the bytes are its text,
-//! and a fault only if they are no lawful script's, with its line; `Display` writes the text, of at most
+//! **What is proved.** `script::parse` returns a script only if it is lawful and the bytes are its text,
+//! and a fault only if they are no lawful script's, with its line. `Display` writes the text, of at most
 //! `MOST_BYTES` bytes (module `laws`).
 //!
 //! **What is only tested** (in `tests/texts`): which fault is answered among several on one line, the texts of the

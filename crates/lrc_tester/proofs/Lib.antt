@@ -1,3 +1,5 @@
 pub mod EventsNoted
+pub mod NextCalls
+pub mod AsksPutIn
 pub mod Promised
 pub mod Followed

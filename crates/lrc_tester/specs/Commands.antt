@@ -1,5 +1,5 @@
 -- What the commands `draw` and `follows` have done.
-use Rattle.std.specs.Prelude.{ℕ, ◌≡◌, Bool, true, false, IsTrue, List, Option, None, Some, codes, cond, option_map, string_bytes}
+use Rattle.std.specs.Prelude.{ℕ, ◌≡◌, ◌<◌, ◌^◌, Bool, true, false, IsTrue, List, Option, None, Some, codes, cond, string_bytes}
 use Rattle.std.specs.Option.{option_map_or}
 use Rattle.std.specs.Str.{bytes_eq}
 use Rattle.std.specs.Io.KnownBytes.{Appends}
@@ -13,7 +13,8 @@ use Rattle.lrc_options.specs.declared.options.DrawOptions.{DrawOptions}
 use Rattle.lrc_program.specs.Prelude.{IsServedScriptRead}
 use Rattle.lrc_commands.specs.Prelude.{HasTraceCommandText}
 use Rattle.lrc_tester.specs.Drawing.Draw.{drawn, seeded}
-use Rattle.lrc_tester.specs.Patterns.{NeverHangsFlat, never_races_by_pattern, plain_style}
+use Rattle.lrc_tester.specs.Following.{with_asks}
+use Rattle.lrc_tester.specs.Patterns.{NeverHangsFlat, has_flags_by_pattern, never_races_by_pattern, plain_style}
 use Rattle.lrc_tester.specs.declared.drawing.draw.Style.{Style}
 use Rattle.lrc_tester.specs.declared.pattern.Pattern.{Pattern}
 use Rattle.lrc_tester.specs.declared.pattern.Pattern.TheVariants as pattern
@@ -46,13 +47,26 @@ pub record AreSizesLeftOut (o : DrawOptions) : Type 0 where
   pub flags : o.flags ≡ None
   pub length : o.length ≡ None
 
--- a lawful script was written which never hangs, and never races if its pattern promises so; it is the stated one of this seed, if its
+-- this is the size, if one is asked for that fits into 32 bits
+abbrev pub IsAskedSize : Option ℕ → ℕ → Type 0
+IsAskedSize asked size = (n : ℕ) → asked ≡ Some n → n < 2 ^ 32 → size ≡ n
+
+-- the script has the sizes that are asked for; flags only if its pattern has some
+pub record HasAskedSizes (o : DrawOptions) (s : Plan) : Type 0 where
+  pub processors : IsAskedSize o.processors s.processors
+  pub pages : IsAskedSize o.pages s.pages
+  pub words : IsAskedSize o.words s.words
+  pub locks : IsAskedSize o.locks s.locks
+  pub flags : IsTrue (has_flags_by_pattern (drawn_pattern o)) → IsAskedSize o.flags s.flags
+
+-- a lawful script was written which has these sizes, never hangs, and never races if its pattern promises so; it is the stated one of this seed, if its
 -- pattern has stated draws and no size is given
 pub record IsScriptDrawn (o : DrawOptions) (old new : Option (List ℕ)) : Type 0 where
   pub script : Plan
   pub lawful : IsLawful script
   pub race_free : IsTrue (never_races_by_pattern (drawn_pattern o)) → NeverRacesFlat script
   pub never_hangs : NeverHangsFlat script
+  pub sizes : HasAskedSizes o script
   pub stated : AreSizesLeftOut o → (style : Style) → plain_style (drawn_pattern o) ≡ Some style → script ≡ drawn style (seeded (drawn_seed o))
   pub written : Appends old new (text script)
 
@@ -61,10 +75,10 @@ pub record AreScriptAndTrace (script trace : Option (List ℕ)) (s : Plan) (size
   pub read : IsServedScriptRead script s
   pub told : HasTraceCommandText false trace sizes events
 
--- the trace has the script's sizes, and follows it
+-- the trace has the script's sizes, and follows it with the asks and watches put in that it leaves out
 pub record IsFollowingTrace (s : Plan) (sizes : Sizes) (events : List Event) : Type 0 where
   pub sizes_are : plan_sizes s ≡ sizes
-  pub follows : Follows s events
+  pub follows : Follows s (with_asks events)
 
 -- the sources have a script and a trace; it follows the script, or it doesn't
 abbrev pub IsFollowsAnswer : Bool → Plan → Sizes → List Event → Type 0

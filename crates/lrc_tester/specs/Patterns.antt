@@ -1,5 +1,5 @@
 -- What is promised of drawn scripts, by their patterns.
-use Rattle.std.specs.Prelude.{Bool, true, false, List, Option, None, Some}
+use Rattle.std.specs.Prelude.{ℕ, ◌≡◌, Bool, true, false, IsTrue, List, Option, None, Some}
 use Rattle.journal.specs.declared.event.Event.{Event}
 use Rattle.lrc_script.specs.Plan.{Plan}
 use Rattle.explore.specs.Prefixes.Prelude.{IsFlatBeginningHanging}
@@ -25,6 +25,24 @@ abbrev pub plain_style : Pattern → Option Style
 plain_style pattern.Guarded = Some style.Guarded
 plain_style pattern.Free = Some style.Free
 plain_style _ = None
+
+-- the scripts of this pattern have flags
+abbrev pub has_flags_by_pattern : Pattern → Bool
+has_flags_by_pattern pattern.Chains = true
+has_flags_by_pattern pattern.Flags = true
+has_flags_by_pattern _ = false
+
+-- this is the size, if one is given
+abbrev pub IsGivenSize : Option ℕ → ℕ → Type 0
+IsGivenSize given size = (n : ℕ) → given ≡ Some n → size ≡ n
+
+-- the script has the sizes that are given; flags only if its pattern has some
+pub record HasGivenSizes (p : Pattern) (g : GivenSizes) (s : Plan) : Type 0 where
+  pub processors : IsGivenSize g.processors s.processors
+  pub pages : IsGivenSize g.pages s.pages
+  pub words : IsGivenSize g.words s.words
+  pub locks : IsGivenSize g.locks s.locks
+  pub flags : IsTrue (has_flags_by_pattern p) → IsGivenSize g.flags s.flags
 
 -- all sizes are drawn
 abbrev pub without_sizes : GivenSizes

@@ -1,9 +1,9 @@
 //! The command that draws a script, over its writers.
-ghost use Rattle.std.specs.Prelude.{◌≡◌, ◌≢◌, IfErr, IfOk, None, OnOk, string_bytes};
+ghost use Rattle.std.specs.Prelude.{ℕ, ◌≡◌, ◌≢◌, ◌<◌, ◌^◌, IfErr, IfOk, None, OnOk, Some, string_bytes};
 ghost use Rattle.std.specs.Io.KnownBytes.{Appends, Keeps};
-ghost use Rattle.lrc_script.specs.Prelude.{IsLawful, plan_of, text};
-ghost use Rattle.lrc_tester.specs.Commands.{AreSizesLeftOut, IsScriptDrawn, drawn_pattern, drawn_seed, pattern_of_name};
-ghost use Rattle.lrc_tester.specs.Patterns.{without_sizes};
+ghost use Rattle.lrc_script.specs.Prelude.{IsLawful, Plan, plan_of, text};
+ghost use Rattle.lrc_tester.specs.Commands.{AreSizesLeftOut, HasAskedSizes, IsScriptDrawn, drawn_pattern, drawn_seed, pattern_of_name};
+ghost use Rattle.lrc_tester.specs.Patterns.{HasGivenSizes, without_sizes};
 ghost use Rattle.lrc_tester.specs.declared.tester.DrawFault.TheVariants as why;
 
 use crate::pattern::Pattern;
@@ -58,7 +58,8 @@ fn pattern_given(options: &DrawOptions) -> Pattern
 
 /// A size that is given.
 fn size(given: Option<u64>) -> Option<u32>
-    ensures { given ≡ None → result ≡ None }
+    ensures none { given ≡ None → result ≡ None }
+    ensures some { (n : ℕ) → given ≡ Some n → n < 2 ^ 32 → result ≡ Some n }
 {
     match given {
         Some(size) => u32::try_from(size).ok(),
@@ -68,7 +69,8 @@ fn size(given: Option<u64>) -> Option<u32>
 
 /// The sizes that the options give.
 fn sizes_given(options: &DrawOptions) -> GivenSizes
-    ensures { AreSizesLeftOut options.now → result ≡ without_sizes }
+    ensures none { AreSizesLeftOut options.now → result ≡ without_sizes }
+    ensures some { (s : Plan) → HasGivenSizes (drawn_pattern options.now) result s → HasAskedSizes options.now s }
 {
     GivenSizes {
         processors: size(options.processors),

@@ -11,6 +11,8 @@ ghost use Rattle.lrc_tester.specs.declared.following.Following.TheVariants as fo
 ghost use Rattle.lrc_tester.specs.declared.follows_command.Answer.TheVariants as answer;
 
 use crate::following::{Following, follow};
+use crate::next_text::{push_event, push_next};
+use journal::Event;
 use lrc_check::traces::trace::{Trace, TraceSizes};
 use lrc_commands::checking::check_command_reads_all;
 use lrc_commands::fault::CommandFault;
@@ -53,16 +55,50 @@ impl Answer {
         }
     }
 
-    /// The line that is printed.
+    /// The first line that is printed.
     fn line(self, alloc: Global) -> Result<String, AllocError> {
         match self {
             Answer::OtherSizes => String::from_str(alloc, "other sizes\n"),
             Answer::Following(Following::Follows) => String::from_str(alloc, "follows\n"),
-            Answer::Following(Following::Strays(place)) => { format!(in alloc; "strays {place}\n") }
-            Answer::Following(Following::Unfinished(processor)) => {
+            Answer::Following(Following::Strays(place, _)) => {
+                format!(in alloc; "strays {place}\n")
+            }
+            Answer::Following(Following::Unfinished(processor, _)) => {
                 format!(in alloc; "unfinished {processor}\n")
             }
         }
+    }
+
+    /// Adds what the next lines say: the event that strays, and what its processor does next by the script.
+    fn push_more(
+        self,
+        alloc: Global,
+        text: &mut Vec<u8>,
+        script: &Script,
+        events: &[Event],
+    ) -> Result<(), AllocError> {
+        match self {
+            Answer::Following(Following::Strays(place, next)) => {
+                push_event(text, place, events)?;
+                match events.get(place) {
+                    Some(event) => push_next(alloc, text, script, event.processor, next),
+                    None => Ok(()),
+                }
+            }
+            Answer::Following(Following::Unfinished(processor, next)) => {
+                push_next(alloc, text, script, processor, next)
+            }
+            _ => Ok(()),
+        }
+    }
+
+    /// What is printed.
+    fn text(self, alloc: Global, script: &Script, events: &[Event]) -> Result<Vec<u8>, AllocError> {
+        let line = self.line(alloc)?;
+        let mut text = Vec::new(alloc);
+        text.extend_from_slice(line.as_bytes())?;
+        self.push_more(alloc, &mut text, script, events)?;
+        Ok(text)
     }
 }
 
@@ -77,14 +113,30 @@ fn answer_of(alloc: Global, script: &Script, trace: &Trace) -> Result<Answer, Al
     Ok(Answer::Following(follow(alloc, script, &trace.events)?))
 }
 
-/// Writes the line, and flushes the writer.
-fn write_line<W: Write>(alloc: Global, answer: Answer, out: &mut W) -> Result<(), CommandFault>
+/// Writes the text, and flushes the writer.
+fn write_text<W: Write>(text: &[u8], out: &mut W) -> Result<(), CommandFault>
     ensures runs { IfErr result (λ fault. IsCommandExitStatusOfInput fault → ⊥) }
 {
-    let line = answer.line(alloc)?;
-    out.write_all(line.as_bytes())?;
+    out.write_all(text)?;
     out.flush()?;
     Ok(())
+}
+
+/// Writes what is to be said of the trace: whether it follows the script.
+fn write_answer<W: Write>(
+    alloc: Global,
+    script: &Script,
+    trace: &Trace,
+    out: &mut W,
+) -> Result<bool, CommandFault>
+    ensures done { IfOk result (λ follows. IsTrue follows
+        ↔ IsFollowingTrace (plan_of script.now) (trace_sizes_of trace.now.sizes) trace.now.events.items) }
+    ensures runs { IfErr result (λ fault. IsCommandExitStatusOfInput fault → ⊥) }
+{
+    let answer = answer_of(alloc, script, trace)?;
+    let text = answer.text(alloc, script, &trace.events)?;
+    write_text(&text, out)?;
+    Ok(answer.follows())
 }
 
 /// Reads a script and a trace, and writes whether the trace follows the script: whether it does.
@@ -101,9 +153,8 @@ fn follow_sources<S: Read, T: Read, W: Write>(
 {
     let script = program_reads_script(alloc, script, refused.0)?;
     let labelled = check_command_reads_all(alloc, trace, false, refused.1)?;
-    let answer = answer_of(alloc, &script, &labelled.trace)?;
-    write_line(alloc, answer, out)?;
-    Ok(answer.follows())
+    let follows = write_answer(alloc, &script, &labelled.trace, out)?;
+    Ok(follows)
 }
 
 /// Tells on `out` whether the trace of `trace` follows the script of `script`, or on `err` why not; answers the exit status. The files

@@ -1,6 +1,6 @@
 //! What a drawn script is made of.
 ghost use Rattle.std.specs.Prelude.{◌≡◌};
-ghost use Rattle.lrc_tester.specs.Patterns.{never_races_by_pattern};
+ghost use Rattle.lrc_tester.specs.Patterns.{has_flags_by_pattern, never_races_by_pattern};
 
 /// What a drawn script is made of.
 #[derive(Clone, Copy, PartialEq, Eq)]
@@ -37,7 +37,12 @@ impl Pattern {
     }
 
     /// Whether its scripts have flags.
-    pub(crate) fn has_flags(self) -> bool {
-        matches!(self, Pattern::Chains | Pattern::Flags)
+    pub(crate) fn has_flags(self) -> bool
+        ensures { result ≡ has_flags_by_pattern self }
+    {
+        match self {
+            Pattern::Chains | Pattern::Flags => true,
+            _ => false,
+        }
     }
 }

@@ -1,9 +1,11 @@
 //! The sizes of a drawn script.
 ghost use Rattle.std.specs.Prelude.{◌≡◌, IsTrue};
-ghost use Rattle.lrc_tester.specs.Patterns.{without_sizes};
+ghost use Rattle.lrc_script.specs.Prelude.{plan_of};
+ghost use Rattle.lrc_tester.specs.Patterns.{HasGivenSizes, IsGivenSize, without_sizes};
 
 use crate::pattern::Pattern;
 use crate::words::below;
+use lrc_script::script::Script;
 use rand_pcg::Pcg32;
 
 /// The sizes that a script is to have. What isn't given is drawn.
@@ -21,6 +23,16 @@ pub struct GivenSizes {
     pub flags: Option<u32>,
     /// How many pieces a phase of a section has, an access or a critical section each: 1 to 400.
     pub length: Option<u32>,
+}
+
+/// Whether this is the size, if one is given.
+fn is_given(given: Option<u32>, size: usize) -> bool
+    ensures { IsTrue result → IsGivenSize given size }
+{
+    match given {
+        Some(wanted) => size == wanted as usize,
+        None => true,
+    }
 }
 
 impl GivenSizes {
@@ -41,6 +53,16 @@ impl GivenSizes {
         let pages = self.pages.is_none() && self.words.is_none();
         let others = self.locks.is_none() && self.flags.is_none() && self.length.is_none();
         self.processors.is_none() && pages && others
+    }
+
+    /// Whether the script has the sizes that are given; flags only if its pattern has some.
+    pub(crate) fn are_had(self, pattern: Pattern, script: &Script) -> bool
+        ensures { IsTrue result → HasGivenSizes pattern self (plan_of script.now) }
+    {
+        let is_memory = is_given(self.pages, script.pages) && is_given(self.words, script.words);
+        let has_flags = !pattern.has_flags() || is_given(self.flags, script.flags);
+        let has_locks = is_given(self.locks, script.locks);
+        is_given(self.processors, script.processors) && is_memory && has_locks && has_flags
     }
 }
 

@@ -4,7 +4,7 @@ ghost use Rattle.lrc_script.specs.Prelude.{IsLawful, plan_of};
 ghost use Rattle.conformance.specs.FlatRuns.{NeverRacesFlat};
 ghost use Rattle.explore.specs.declared.outcomes.answer.Hanging.TheVariants as hanging;
 ghost use Rattle.explore.specs.declared.outcomes.answer.Verdict.TheVariants as verdict;
-ghost use Rattle.lrc_tester.specs.Patterns.{NeverHangsFlat, never_races_by_pattern, plain_style, without_sizes};
+ghost use Rattle.lrc_tester.specs.Patterns.{HasGivenSizes, NeverHangsFlat, never_races_by_pattern, plain_style, without_sizes};
 ghost use Rattle.lrc_tester.specs.declared.drawing.draw.Style.{Style as AStyle};
 ghost use Rattle.lrc_tester.specs.declared.tester.DrawFault.TheVariants as why;
 ghost use Rattle.lrc_tester.specs.Drawing.Prelude.{drawn, seeded};
@@ -28,7 +28,7 @@ const MOST_SHOWN: usize = 64;
 /// Why no script was drawn.
 #[derive(Clone, Copy, Debug, Drop, Error)]
 pub enum DrawFault {
-    /// The draws gave no script that is lawful and never hangs, and that never races if its pattern promises so.
+    /// The draws gave no script that is lawful, has the given sizes and never hangs, and that never races if its pattern promises so.
     #[error("no such script was drawn")]
     NotDrawn,
     /// Memory ran out.
@@ -118,6 +118,15 @@ fn is_as_promised(pattern: Pattern, explored: &Explored) -> bool
     matches!(explored.hanging, Hanging::Never) && (never_races || !pattern.never_races())
 }
 
+/// Whether the script is as its pattern promises by what its text tells, and has the sizes that are given.
+fn is_as_asked(pattern: Pattern, given: GivenSizes, script: &Script, explored: &Explored) -> bool
+    ensures hanging { IsTrue result → explored.now.hanging ≡ hanging.Never }
+    ensures verdict { IsTrue result → IsTrue (never_races_by_pattern pattern) → explored.now.verdict ≡ verdict.RaceFree }
+    ensures sizes { IsTrue result → HasGivenSizes pattern given (plan_of script.now) }
+{
+    is_as_promised(pattern, explored) && given.are_had(pattern, script)
+}
+
 /// A script of this pattern: what isn't given of its sizes is drawn, too, by O'Neill's generator PCG XSH RR 64/32. If no sizes
 /// are given, the patterns `Guarded` and `Free` are those of `drawing`.
 ///
@@ -137,6 +146,7 @@ pub fn draw(
         → IfOk result (λ s. plan_of s ≡ drawn style (seeded seed)) }
     ensures race_free { IsTrue (never_races_by_pattern pattern) → IfOk result (λ s. NeverRacesFlat (plan_of s)) }
     ensures never_hangs { IfOk result (λ s. NeverHangsFlat (plan_of s)) }
+    ensures sizes { IfOk result (λ s. HasGivenSizes pattern given (plan_of s)) }
 {
     let script = match (pattern, given.is_none()) {
         (Pattern::Guarded, true) => guarded(alloc, seed)?,
@@ -144,7 +154,7 @@ pub fn draw(
         _ => lawful_sketch(alloc, pattern, seed, given)?,
     };
     let explored = explore(alloc, &script, Detail::Words, 0, &mut Silent)?;
-    if is_as_promised(pattern, &explored) {
+    if is_as_asked(pattern, given, &script, &explored) {
         Ok(script)
     } else {
         Err(DrawFault::NotDrawn)

@@ -1,13 +1,12 @@
 -- Guards in their tables.
-use Rattle.std.proofs.Common.{ℕ, zero, suc, ◌≡◌, ◌<◌, ◌≤◌, inl, inr, Bool, true, false, Some, None, List, [], ◌∷◌, length, map, min, max, slice_get, slice_set, get_or, refl, sym, ap, subst, ◌∙◌, arith}
+use Rattle.std.proofs.Common.{ℕ, zero, suc, ◌≡◌, ◌<◌, ◌≤◌, inl, inr, Bool, true, false, None, List, [], ◌∷◌, length, map, min, max, slice_get, slice_set, get_or, refl, sym, ap, subst, ◌∙◌, arith}
 use Rattle.std.specs.Prelude.{◌&&◌, nat_le, nat_lt}
 use Rattle.std.proofs.lemmas.Bool.{cases_eq, cases_lt, eq-eqb, ne_eqb}
 use Rattle.std.proofs.lemmas.Bool.Decides.{nat_tests}
 use Rattle.std.proofs.lemmas.List.{get_or-set_other, get_or-set_same, length-set}
 use Rattle.std.proofs.lemmas.Option.{slice_get_cases}
 use Rattle.seats.specs.declared.guard.Guard.{Guard}
-use Rattle.seats.specs.declared.guard.Guard.TheVariants.{Open}
-use Rattle.seats.specs.Tables.{GuardTables, IsFirstOpenInTables, IsPutInTable, table_guard, table_guard_put, table_range_has}
+use Rattle.seats.specs.Tables.{GuardTables, IsPutInTable, table_guard, table_guard_put, table_range_has}
 
 layout_table_less_same : (a m n : ℕ) → (a < m → a < n) → (a < n → a < m) → nat_lt a m ≡ nat_lt a n
 layout_table_less_same a m n to from = elim (cases_lt a m) [
@@ -68,20 +67,3 @@ layout_table_put old new table from to guard gs is within each = subst (IsPutInT
         rw no (ap (λ xs. slice_get xs a) (get_or-set_other old.tables table t gs [] other)))
   ];
 })
-
--- the first address that is open is one
-pub first_open_in_tables_one : (g : GuardTables) (a b : ℕ) → IsFirstOpenInTables g a → IsFirstOpenInTables g b → a ≡ b
-first_open_in_tables_one g a b x y = elim (cases_lt x.table y.table) [
-  | inl less ↦ absurd (y.tables x.table a less x.is_open)
-  | inr past ↦ elim (cases_lt y.table x.table) [
-    | inl less ↦ absurd (x.tables y.table b less y.is_open)
-    | inr beyond ↦ (let same : x.table ≡ y.table = omega (arith, past, beyond) in
-        elim (cases_lt a b) [
-          | inl less ↦ absurd (y.addresses a less (subst (λ t. table_guard g t a ≡ Some Open) same x.is_open))
-          | inr after ↦ elim (cases_lt b a) [
-            | inl less ↦ absurd (x.addresses b less (subst (λ t. table_guard g t b ≡ Some Open) (sym same) y.is_open))
-            | inr none ↦ omega (arith, after, none)
-          ]
-        ])
-  ]
-]

@@ -1,5 +1,5 @@
 -- What the faults of a seat's calls tell.
-use Rattle.std.proofs.Common.{ℕ, Bool, true, false, ◌≡◌, ◌≢◌, ◌+◌, ◌⊎◌, inl, inr, Option, Some, None, Result, Ok, Err, OnErr, List, cond, length, refl, sym, ap, subst, ◌∙◌}
+use Rattle.std.proofs.Common.{ℕ, Bool, true, false, ◌≡◌, ◌≢◌, ◌+◌, ◌⊎◌, inl, inr, Option, Some, None, Result, Ok, Err, OnErr, List, IfOk, IsErrAnd, cond, length, refl, sym, ap, subst, ◌∙◌}
 use Rattle.std.specs.Prelude.{IfErr, nat_le}
 use Rattle.std.specs.Result.{result_err}
 use Rattle.std.proofs.lemmas.Option.{same_Some}
@@ -22,6 +22,11 @@ use Rattle.seats.specs.declared.fault.SeatFault.{SeatFault}
 use Rattle.seats.specs.SeatCalls.{IsSeatCallBegun, IsSeatCallUndone}
 use Rattle.seats.specs.SeatCallFaults.{IsSeatCallAccessRefusal, IsSeatCallEnteringFault, IsSeatCallFault, IsSeatCallFlushFault, IsSeatCallWaitFault, IsSeatCallWaitTold}
 use Rattle.seats.proofs.SeatAccess.{seat_access_undone_refused}
+
+-- a call that faults has no answer, and so all that is said of its answer holds
+pub seat_fault_no_answer : {A E : Type 0} (P : A → Type 0) (Q : E → Type 0) (r : Result A E) → IsErrAnd r Q → IfOk r P
+seat_fault_no_answer P Q (Ok x) told = absurd told
+seat_fault_no_answer P Q (Err e) told = tt
 
 -- a flush is refused at once if the entries are spent alone
 pub seat_fault_spent : (m : Local) (e : Refused) → processor_refusal_of_flush m ≡ Some e → (e ≡ SeatSpent) × (processor_refusal_is_spent m ≡ true)

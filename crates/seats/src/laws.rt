@@ -18,19 +18,19 @@ pub trait LockKeeps {
     ghost fact: { KeptFact };
 }
 
-/// If the fact holds at first, and each processor's accesses from an acquire of the lock to the release preserve it, then it
+/// Let the fact hold at first, and each processor's accesses from an acquire of the lock to the release preserve it. Then it
 /// holds at the end, of one flat memory and of all accesses to the lock's words.
 pub fn kept_law<K: LockKeeps>()
     ensures { TenuresKeepLaw K.fact }
 {}
 
-/// If in each round, from one departure from the barrier to the next, each processor makes its words from words that nobody
-/// makes then, and all make each word that the round changes, then the memory at the end is that after all rounds.
+/// A round goes from one departure from the barrier to the next. Let each processor make its words in it from words that nobody
+/// makes then, and all make each word that the round changes. Then the memory at the end is that after all rounds.
 pub fn rounds_law()
     ensures { RoundsLaw }
 {}
 
-/// If the rounds make two grids in turn, the first one at first from the start and then each from the other by a step, then
+/// Let the rounds make two grids in turn, the first one at first from the start and then each from the other by a step. Then
 /// the last one that was made is the start after as many steps.
 pub fn grids_law()
     ensures { GridPairsLaw }

@@ -9,12 +9,12 @@
 //! one processor, or all, who then may only load it. Whether a processor keeps to the guards hangs on its own calls
 //! alone: which locks it has acquired and released, and how often it has departed.
 //!
-//! **What is proved.** Each call of a seat adds just what it says to its processor's calls, besides a fetch of the page
-//! that it accesses; what a fault leaves; the faults that come at once, and what each other one tells. No clause says when
-//! that comes: it is what the cluster answers.
+//! **What is proved.** Each call of a seat adds just what it says to its processor's calls, and a fetch of the page
+//! that it accesses. What a fault leaves is proved, and the faults that come at once, and what each other one tells. No clause
+//! says when that comes: it is what the cluster returns.
 //!
-//! A seat keeps to a [`Layout`]: an access that it doesn't allow is barred. What [`run`] answers is the whole history of its
-//! cluster, in which each processor kept to the layout and did what the program says of it; nothing in it races if no word of
+//! A seat keeps to a [`Layout`]: an access that it doesn't allow is barred. What [`run`] returns is the whole history of its
+//! cluster, in which each processor kept to the layout and did what the program says of it. Nothing in it races if no word of
 //! the layout is open to all. If it fails, it tells which fault it is to tell of several (`told_fault`).
 //!
 //! `guarded_law`: in a well formed history of processors of which each keeps to the guards, two

@@ -2,22 +2,22 @@
 //!
 //! The list is a file's, or standard input's. A line is one of these:
 //!
-//!   `cluster P N W L [G]`  opens a cluster of P processors, N pages of W words, L locks and G flags
-//!   `p0 CALL`              a call of processor 0: `ask 0`, `take`, `release 0`, `arrive`, `set 0`, `watch 0`, `flush`,
-//!                          `load 3`, `store 3 7`, `fetch 1`, `cut`, `audit`
-//!   `p0 QUESTION`          what is seen of it: `page 0`, `valid 0`, `holds 0`, `time`, `waiting`, `room`, `number`
-//!   `repeat N p0 CALL`     the call, N times
-//!   `finish`               ends the cluster
-//!   `book P N W L [G]`     begins a book of such sizes, with the history that tells it
-//!   `b0 CALL`              a call of it by processor 0, as above without `fetch`; a load (of 0) or a store comes with the next
-//!   `b0 QUESTION`          `due 0`: how many notices of page 0 a take would bring; `first`: its first interval that is kept;
-//!                          `deadlock`: whether nobody can go on
-//!   `end`                  ends the book
-//!   `journal P A`          begins a journal of P processors and A addresses
-//!   `event N P KIND ..`    puts an event at its end, at place N, as the journal of `lrc` is printed
-//!   `cut`                  cuts that journal
-//!   `events`, `count`, `at N`, `replay`, `race`, `traffic`, `base`, `gone`
-//!                          what is read of the journal at hand: the one begun last, or answered last by `audit`, `finish` or `end`
+//!     `cluster P N W L [G]`  opens a cluster of P processors, N pages of W words, L locks and G flags
+//!     `p0 CALL`              a call of processor 0: `ask 0`, `take`, `release 0`, `arrive`, `set 0`, `watch 0`, `flush`,
+//!                            `load 3`, `store 3 7`, `fetch 1`, `cut`, `audit`
+//!     `p0 QUESTION`          what is seen of it: `page 0`, `valid 0`, `holds 0`, `time`, `waiting`, `room`, `number`
+//!     `repeat N p0 CALL`     the call, N times
+//!     `finish`               ends the cluster
+//!     `book P N W L [G]`     begins a book of such sizes, with the history that tells it
+//!     `b0 CALL`              a call of it by processor 0, as above without `fetch`; a load (of 0) or a store comes with the next
+//!     `b0 QUESTION`          `due 0`: how many notices of page 0 a take would bring; `first`: its first interval that is kept;
+//!                            `deadlock`: whether nobody can go on
+//!     `end`                  ends the book
+//!     `journal P A`          begins a journal of P processors and A addresses
+//!     `event N P KIND ..`    puts an event at its end, at place N, as the journal of `lrc` is printed
+//!     `cut`                  cuts that journal
+//!     `events`, `count`, `at N`, `replay`, `race`, `traffic`, `base`, `gone`
+//!                            what is read of the journal at hand: the one begun last, or answered last by `audit`, `finish` or `end`
 //!
 //! An answer is `ok`, what is asked for, or the name of the refusal. `repeat` answers how often in turn each came, as
 //! `ok x256, BlockFull x1`; after `events` there is a line for each event, behind four spaces. A refused call leaves what

@@ -6,33 +6,12 @@ use std::alloc::{AllocError, Global};
 use std::process::Abort;
 use std::test::Fail;
 
-/// Drawn scripts, written by another program from the published generator. The last number is 2^63.
-const DRAWN: [(u64, &str, &str); 4] = [
-    (
-        2,
-        "cluster 1 3 2 1/p 0/acquire 0/add 3 3/release 0/acquire 0/add 4 0/release 0/show 0 1 2 3 4 5/",
-        "cluster 1 3 2 1/p 0/store 3 4/store 5 2/show 0 1 2 3 4 5/",
-    ),
-    (
-        6,
-        "cluster 1 1 3 3/p 0/acquire 2/add 2 1/release 2/acquire 2/add 2 3/release 2/acquire 1/add 1 1/release 1/acquire 1/add 1 2/release 1/show 0 1 2/",
-        "cluster 1 1 3 3/p 0/store 2 7/store 1 1/add 1 7/load 2/acquire 2/add 2 3/release 2/show 0 1 2/",
-    ),
-    (
-        8,
-        "cluster 1 1 2 1/p 0/acquire 0/add 1 3/release 0/acquire 0/add 0 0/release 0/acquire 0/add 1 0/release 0/show 0 1/",
-        "cluster 1 1 2 1/p 0/acquire 0/add 1 2/release 0/load 1/store 1 0/store 1 5/show 0 1/",
-    ),
-    (
-        9_223_372_036_854_775_808,
-        "cluster 3 2 3 1/p 0/p 1/acquire 0/add 5 6/release 0/p 2/show 0 1 2 3 4 5/",
-        "cluster 3 2 3 1/p 0/p 1/acquire 0/add 4 3/release 0/add 3 7/store 4 1/acquire 0/add 1 7/release 0/store 4 1/acquire 0/add 5 6/release 0/load 2/p 2/add 0 7/acquire 0/add 5 5/release 0/load 3/store 1 0/store 4 5/show 0 1 2 3 4 5/",
-    ),
-];
+/// The scripts of number 2^63, written by another program from the published generator. `tests/program/draw_*.case` has those of
+/// lower numbers.
+const GUARDED: &str = "cluster 3 2 3 1/p 0/p 1/acquire 0/add 5 6/release 0/p 2/show 0 1 2 3 4 5/";
 
-/// A free script with barriers.
-const WITH_BARRIERS: &str =
-    "cluster 2 1 2 3/p 0/store 0 2/acquire 1/add 1 7/release 1/store 1 6/store 1 7/barrier/add 0 2/store 1 4/p 1/load 0/store 0 7/store 0 2/store 0 5/add 1 6/add 0 0/acquire 1/add 1 6/release 1/barrier/load 1/store 1 5/show 0 1/";
+const FREE: &str =
+    "cluster 3 2 3 1/p 0/p 1/acquire 0/add 4 3/release 0/add 3 7/store 4 1/acquire 0/add 1 7/release 0/store 4 1/acquire 0/add 5 6/release 0/load 2/p 2/add 0 7/acquire 0/add 5 5/release 0/load 3/store 1 0/store 4 5/show 0 1 2 3 4 5/";
 
 /// The bytes of a script.
 fn bytes_of(alloc: Global, text: &str) -> Result<Vec<u8>, AllocError> {
@@ -50,14 +29,9 @@ fn has_text(alloc: Global, script: Script, wanted: &str) -> Result<bool, AllocEr
 #[test]
 fn the_draws_are_those_of_the_generator(rt: HostRuntime) -> Result<(), Fail> {
     let alloc = rt.alloc();
-    for (k, guarded_text, free_text) in DRAWN {
-        assert!(rt;
-            has_text(alloc, guarded(alloc, k)?, guarded_text)?,
-            "guarded {k}"
-        );
-        assert!(rt; has_text(alloc, free(alloc, k)?, free_text)?, "free {k}");
-    }
-    assert!(rt; has_text(alloc, free(alloc, 10)?, WITH_BARRIERS)?);
+    let k = 9_223_372_036_854_775_808;
+    assert!(rt; has_text(alloc, guarded(alloc, k)?, GUARDED)?);
+    assert!(rt; has_text(alloc, free(alloc, k)?, FREE)?);
     Ok(())
 }
 

@@ -6,8 +6,8 @@ use interval::Sent;
 use vtime::VTime;
 
 /// What a processor that waits receives: the timestamp that it has to take over, and the write notices,
-/// with their records, of the intervals that the timestamp covers and its own doesn't (Keleher, Cox and
-/// Zwaenepoel, Lazy Release Consistency for Software Distributed Shared Memory, ISCA 1992, section 4).
+/// with their records, of the intervals that the timestamp covers and its own doesn't. It is that of Keleher, Cox and
+/// Zwaenepoel, Lazy Release Consistency for Software Distributed Shared Memory, ISCA 1992, section 4.
 #[derive(Drop)]
 pub enum Message {
     /// The lock that was asked for, with the timestamp of its last release.

@@ -103,7 +103,3 @@ module _ {A B : Type 0} where
 pub list_item_map_twice : {A B C : Type 0} (g : B → C) (f : A → B) (l : List A) → map g (map f l) ≡ map (λ a. g (f a)) l
 list_item_map_twice g f [] = refl
 list_item_map_twice g f (x ∷ xs) = ap (λ t. g (f x) ∷ t) (list_item_map_twice g f xs)
-
--- a list of one, pushed to an empty one
-pub list_item_pushed_alone : {A : Type 0} (before after : List A) (a : A) → before ≡ [] → after ≡ before ++ a ∷ [] → after ≡ a ∷ []
-list_item_pushed_alone {A = A} before after a empty e = e ∙ ap (λ (l : List A). l ++ a ∷ []) empty

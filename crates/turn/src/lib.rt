@@ -3,10 +3,11 @@
 //! A [`Keeper`] names the lock invariant: a fact over the value (the book) and the list of all chairs' views, which
 //! holds whenever the lock is free. A [`Turn`] is a lock that keeps it: a chair that enters gets the book with that
 //! fact, and owes it again on leaving.
-//! Two locks meet the contract, from one text: the ticket lock (Reed and Kanodia, "Synchronization with eventcounts and
-//! sequencers", CACM 1979; Mellor-Crummey and Scott, "Algorithms for scalable synchronization on shared-memory
-//! multiprocessors", ACM TOCS 1991, section 2.2) and the array lock (Anderson, "The performance of spin lock
-//! alternatives for shared-memory multiprocessors", IEEE TPDS 1990).
+//! Two locks meet the contract, from one text.
+//!
+//! - The ticket lock: Reed and Kanodia, "Synchronization with eventcounts and sequencers", CACM 1979. Also Mellor-Crummey and
+//!   Scott, "Algorithms for scalable synchronization on shared-memory multiprocessors", ACM TOCS 1991, section 2.2.
+//! - The array lock: Anderson, "The performance of spin lock alternatives for shared-memory multiprocessors", IEEE TPDS 1990.
 //!
 //! **The steps.** Each is one atomic operation on a word; all words are 0 at the start. In the array lock the own word of
 //! number m is word m modulo the chairs.
@@ -24,8 +25,8 @@
 //! **What contracts see** (`specs/Chairs`): of a chair its `lock`, `place`, `view`, `entries`, and whether it `IsChairOutside`
 //! or `IsChairInside` with the book that it took; of a lock its `id`, `size` and `ENTRIES`. Lists are read by `slice_get`.
 //!
-//! **What is proved**: the lock invariant whenever the lock is free; [`Spent`] exactly after that many entries, with
-//! nothing changed; `turns_law` of both locks, that the numbers are served in turn and one chair at most is inside; that
+//! **What is proved**: the lock invariant whenever the lock is free. [`Spent`] exactly after that many entries, with
+//! nothing changed. `turns_law` of both locks: the numbers are served in turn, and one chair at most is inside.
 //! [`Turn::confer`] gives a chair what both chairs know, and so what a thread left by one of them.
 //!
 //! **What is only tested**: that waiting chairs get in, though their threads sleep; the words of both boards; that who listens

@@ -15,7 +15,7 @@ use std::marker::Model;
 ///
 /// It has 1 to `MOST_PROCESSORS` entries in a `SmallVec` with room for all in the value, so no call takes memory. The order that
 /// `covers` and `join` are about is that of Mattern (Virtual Time and Global States of Distributed
-/// Systems, 1989); its use for intervals is that of Keleher, Cox and Zwaenepoel (Lazy Release
+/// Systems, 1989). Its use for intervals is that of Keleher, Cox and Zwaenepoel (Lazy Release
 /// Consistency for Software Distributed Shared Memory, ISCA 1992, section 3).
 #[derive(Drop)]
 pub struct VTime {

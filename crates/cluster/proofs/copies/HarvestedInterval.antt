@@ -1,5 +1,5 @@
 -- What a closing call hands to the book: the harvests of the copies are what the open interval stores.
-use Rattle.std.proofs.Common.{ℕ, ◌≡◌, ◌≢◌, ◌<◌, inl, inr, Bool, true, false, Some, List, [], ◌∷◌, ◌++◌, length, replicate, get_or, slice_get, sym, ap, subst, subst₂, ◌∙◌, arith}
+use Rattle.std.proofs.Common.{ℕ, ◌≡◌, ◌≢◌, ◌<◌, inl, inr, false, Some, List, [], ◌∷◌, ◌++◌, length, replicate, get_or, slice_get, sym, ap, subst, subst₂, ◌∙◌, arith}
 use Rattle.std.proofs.Math.Nat.{div-lt_iff_lt-mul}
 use Rattle.std.proofs.lemmas.List.{length-replicate}
 use Rattle.std.proofs.lemmas.Option.{none-some, slice_get_within, slice_get-get_or}
@@ -81,23 +81,6 @@ module _ (xs : List PageReplica) (c : PageReplica) (rs : List PageChanges) (hs :
           subst P (sym same) (omega arith))
 
 module _ (m : Local) (sound : IsSound m) where
-  -- only a page with a mark needs a look
-  pub harvested_interval_stored : (n : ℕ) (c : PageReplica) → slice_get m.copies n ≡ Some c → ¬ ContentsAreClean c.page
-      → slice_get m.stored n ≡ Some true
-  harvested_interval_stored n c at dirty = go (get_or m.stored n false) found
-    where
-      found : slice_get m.stored n ≡ Some (get_or m.stored n false)
-      found =
-          let inside = slice_get_within m.copies n c at in
-          let long = sound.copies.long in
-          let pages = sound.sizes.pages in
-          let marks = sound.marks in
-          slice_get-get_or m.stored n false (omega arith)
-
-      go : (b : Bool) → slice_get m.stored n ≡ Some b → slice_get m.stored n ≡ Some true
-      go true is = is
-      go false is = absurd (dirty (sound.clean n c at is))
-
   -- the history with the open block
   abbrev harvested_interval_history : List Event
   harvested_interval_history = m.seen ++ m.block

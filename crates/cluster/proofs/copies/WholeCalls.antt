@@ -1,9 +1,7 @@
 -- What a call that enters the book does to a processor, in one go.
-use Rattle.std.proofs.Common.{ℕ, ◌≡◌, ◌≢◌, ◌≤◌, true, Option, Some, None, List, [], ◌∷◌, ◌++◌, EachIndex, count_by, length, slice_get, slice_index, refl, sym, ap, subst, ◌∙◌, append-nil, arith}
+use Rattle.std.proofs.Common.{ℕ, ◌≡◌, ◌≢◌, ◌≤◌, true, Option, Some, None, List, [], ◌∷◌, ◌++◌, EachIndex, count_by, length, slice_get, slice_index, refl, sym, ap, subst, ◌∙◌, arith}
 use Rattle.std.specs.Option.{option_and_then}
-use Rattle.std.proofs.lemmas.Bool.{eq-eqb}
 use Rattle.std.proofs.lemmas.List.{length_push}
-use Rattle.std.proofs.lemmas.List.Elements.{filter-append}
 use Rattle.std.proofs.lemmas.Option.{none-some, same_Some, get_or_from_slice_get, slice_get_within}
 use Rattle.journal.specs.declared.event.Kind.{Kind}
 use Rattle.journal.specs.declared.event.Kind.TheVariants.{Ask, Acquire, Arrive, Depart, Watch, Await}
@@ -24,7 +22,7 @@ use Rattle.book.specs.BookLaws.{IsBookLawMessage}
 use Rattle.book.specs.RepresentedHistory.{Represents}
 use Rattle.book.proofs.Told.WholeLaws.{whole_take_law, whole_message_law, whole_news_law, whole_news_order_law}
 use Rattle.cluster.specs.Copies.PageReplica.{PageReplica}
-use Rattle.cluster.specs.Copies.Local.{Local, calls}
+use Rattle.cluster.specs.Copies.Local.{Local}
 use Rattle.cluster.specs.Copies.Sound.{IsSound, sound_most_seen}
 use Rattle.cluster.specs.Copies.AfterNews.{handed_after_news, closed_after_news, taken_after_news, AreSameCopiesAfterNews, AreAfterNews, CopiesHaveRoomForNews, CopiesMayLackNews}
 use Rattle.cluster.proofs.copies.SoundHandingIn.{sound_handing_in}
@@ -44,13 +42,6 @@ whole_call_closed_sound m k sound closes in_range well few =
     let grows = length_push (m.seen ++ m.block) e in
     let before = well_formed_stays_front m.sizes (m.seen ++ m.block) (e ∷ []) well in
     sound_closing (handed_after_news m) k (sound_handing_in m sound before (omega arith)) refl closes in_range well few
-
--- a take of one who waits adds its event to the calls
-pub whole_call_took : (m : Local) (k : Kind) (u : List ℕ) (copies : List PageReplica) → IsSound m → m.awaits ≢ None
-    → calls (taken_after_news m k u copies) ≡ calls m ++ event m.number k ∷ []
-whole_call_took m k u copies sound waits =
-    let own = eq-eqb m.number m.number refl in
-    rw (sound.quiet waits, append-nil, append-nil, filter-append, own) refl
 
 -- what is awaited takes
 pub whole_call_awaited_takes : (a k : Kind) → awaited_next a ≡ Some k → event_takes k ≡ true

@@ -18,7 +18,7 @@ impl<T: BookTurn> Cluster<T> {
     ///
     /// The first of these that applies: [`BadLock`](Refused::BadLock) past the last lock,
     /// [`Waiting`](Refused::Waiting) if it waits already, [`AlreadyHeld`](Refused::AlreadyHeld),
-    /// [`SeatSpent`](Refused::SeatSpent) if it has entered the book as often as it may; else
+    /// [`SeatSpent`](Refused::SeatSpent) if it has entered the book as often as it may. Else
     /// [`JournalFull`](Refused::JournalFull) exactly if the journal would have more than 2^20 events, or
     /// [`NoMemory`](Refused::NoMemory). A refused call leaves the processor as it was, except that it may have seen
     /// more of the journal.

@@ -15,9 +15,9 @@ impl<T: BookTurn> Cluster<T> {
     /// off stays the beginning of the history; the journal keeps the memory after it, who holds which lock, which
     /// flags are set, and what it cost. It hands nothing in, and a processor that waits may call it too.
     ///
-    /// The first of these that applies: [`SeatSpent`](Refused::SeatSpent) if the processor has entered the book as
+    /// The first of these that applies: [`SeatSpent`](Refused::SeatSpent) if it has entered the book as
     /// often as it may, [`NoEpisode`](Refused::NoEpisode) exactly if no episode is complete in the journal,
-    /// [`BaseFull`](Refused::BaseFull) exactly if more than 2^30 events would be cut off in all; else
+    /// [`BaseFull`](Refused::BaseFull) exactly if more than 2^30 events would be cut off in all. Else
     /// [`Racy`](Refused::Racy) with the first race of the events to be cut off, by their places in the journal, or
     /// [`NoMemory`](Refused::NoMemory). A refused call leaves the processor as it was, except that it may have seen
     /// more of the journal.

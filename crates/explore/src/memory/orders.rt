@@ -1,8 +1,8 @@
 //! The orders of turns that may come to different outcomes on this memory, whether the script races or not.
 //!
-//! What loads answer depends on happens-before, and on the order in which intervals are closed that stored to one word. So turns are
-//! ordered only if both ask for one lock, if one sets a flag that others set too and the other awaits it, or if both close an
-//! interval that stored to a word of the other's. Of the orders that differ by exchanges of other neighbours one is looked at
+//! What loads return depends on happens-before, and on the order in which intervals are closed that stored to one word. So turns
+//! are ordered only if both ask for one lock, or if one sets a flag that others set too and the other awaits it. They are also
+//! ordered if both close an interval that stored to a word of the other's. Of the orders that differ by exchanges of other neighbours one is looked at
 //! (sleep sets: Godefroid, *Partial-Order Methods for the Verification of Concurrent Systems*, 1996, chapter 5).
 ghost use Rattle.std.specs.Prelude.{◌<◌, IfSome};
 ghost use Rattle.base.specs.Prelude.{most_processors};

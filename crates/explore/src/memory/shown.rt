@@ -349,7 +349,8 @@ fn memory_orders_at_most(script: &Script, most: usize) -> usize {
 }
 
 /// What this memory shows of a script, told by this detail: outcomes of whole runs, each with a schedule of `step`. It gives up after so
-/// many orders of turns (or [`MOST_ORDERS`], or fewer of a long script), and of a script that cuts, if more than the words is told; it ends when as many outcomes as are `enough` were met.
+/// many orders of turns (or [`MOST_ORDERS`], or fewer of a long script). It also gives up a script that cuts, if more than the
+/// words is told. It ends when as many outcomes as are `enough` were met.
 /// The only error is running out of memory.
 ///
 /// That each outcome's schedule shows it is proved. That no schedule shows another one, if the search came to its end, is tested:

@@ -214,8 +214,8 @@ fn free_choice_asks(
 }
 
 /// Which of these events are followed after the state. The first that is free, alone: swaps of events that commute lead to
-/// the same states. If none is, the asks of a persistent set, since whatever comes next of them all may as well come first; else
-/// the asks for one lock, if nobody else will ask for it, or nobody will ever ask for a free one; else all. So a search that follows
+/// the same states. If none is, the asks of a persistent set, since whatever comes next of them all may as well come first. Else
+/// the asks for one lock, if nobody else will ask for it, or nobody will ever ask for a free one. Else all. So a search that follows
 /// no others misses no race, no hang and no outcome.
 pub fn free_choice(
     steps: &[Vec<ScriptCall>],

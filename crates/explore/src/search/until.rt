@@ -18,6 +18,7 @@ use crate::outcomes::telling::Detail;
 use crate::prefixes::{ScriptCall, script_calls_of_all};
 use crate::progress::Progress;
 use crate::search::racing_history::{cut_racing_history, racing_history, racing_history_race};
+use crate::search::trials::{trials_for_words, trials_within};
 use crate::search::{Met, Search, SearchEnd};
 use crate::state::found_states::FoundStates;
 use crate::state::room::state_room_at_most;
@@ -50,20 +51,22 @@ fn run_until_words(
     Ok(Showing::Shown(ShownRun { events, outcome }))
 }
 
-/// What a search for some words found that ended so.
+/// What a search for some words found that ended so, or what so many trials show if it is given up.
 fn until_showing_of(
     alloc: Global,
     script: &Script,
     steps: &[Vec<ScriptCall>],
+    detail: Detail,
+    words: &[(usize, u32)],
     search: &Search,
     end: SearchEnd,
+    trials: usize,
 ) -> Result<Showing, AllocError>
     requires steps { AreLawfulMachineSteps (plan_of script.now) steps.now }
-    requires ended { (words : List (ℕ × ℕ)) × (most : ℕ)
-        × IsFlatSearchEnd (plan_of script.now) search.now steps.now (IsRunEndingWithWords (plan_of script.now) words) most end }
-    ensures showing { IfOk result (λ showing. (words : List (ℕ × ℕ)) (most : ℕ) (d : ADetail)
-        → IsFlatSearchEnd (plan_of script.now) search.now steps.now (IsRunEndingWithWords (plan_of script.now) words) most end
-        → search.now.found.first.telling ≡ outcome_telling_of_script (plan_of script.now) d → IsEndingWordsShowing (plan_of script.now) d words showing) }
+    requires ended { (most : ℕ)
+        × IsFlatSearchEnd (plan_of script.now) search.now steps.now (IsRunEndingWithWords (plan_of script.now) words.now) most end }
+    requires telling { search.now.found.first.telling ≡ outcome_telling_of_script (plan_of script.now) detail }
+    ensures showing { IfOk result (IsEndingWordsShowing (plan_of script.now) detail words.now) }
     ensures opens { IfOk result (IsFlatSearchShowingOpen end) }
 {
     match end.met {
@@ -73,7 +76,7 @@ fn until_showing_of(
             Ok(Showing::Racy(racy))
         }
         None if end.through => Ok(Showing::Never),
-        None => Ok(Showing::Undecided),
+        None => trials_for_words(alloc, script, steps, detail, words, trials),
     }
 }
 
@@ -97,8 +100,9 @@ fn until_by_search<P: Progress>(
     ensures { IfOk result (IsExploredUntil (plan_of script.now) detail words.now most) }
 {
     let most = state_room_at_most(script, detail, most);
+    let trials = trials_within(steps, most);
     let end = search.look_to_the_end(steps, facts, Goal::Until(words), most, progress)?;
-    let showing = until_showing_of(alloc, script, steps, search, end)?;
+    let showing = until_showing_of(alloc, script, steps, detail, words, search, end, trials)?;
     Ok(ExploredUntil {
         states: end.states,
         showing,
@@ -138,7 +142,8 @@ fn until_by_steps<P: Progress>(
 /// Looks at the states of the script on one flat memory as `explore` does, until a whole run ends with these words, each at
 /// its address: then it tells that run, and what it shows by this detail. It ends, too, at the first two accesses that
 /// race, and tells them: what a racy script shows isn't what runs on one flat memory show. If it comes to its end, no run
-/// ends with these words, and none races. It gives up as `explore` does. The only error is running out of memory.
+/// ends with these words, and none races. It gives up as `explore` does, and then makes a few runs, of which one may end with the
+/// words or race. The only error is running out of memory.
 pub fn explore_until<P: Progress>(
     alloc: Global,
     script: &Script,

@@ -143,7 +143,11 @@ fn unused_walked_words(
 
 impl TextWalk {
     /// Before the first step. The only error is running out of memory.
-    fn new(alloc: Global, size: usize, steps: &[Vec<ScriptCall>]) -> Result<TextWalk, AllocError>
+    pub fn new(
+        alloc: Global,
+        size: usize,
+        steps: &[Vec<ScriptCall>],
+    ) -> Result<TextWalk, AllocError>
         requires { IsTextWalkable size steps.now }
         ensures long { IfOk result (λ walk. vec_len walk.words ≡ size) }
         ensures begins { IfOk result (IsTextWalk steps.now) }
@@ -153,6 +157,11 @@ impl TextWalk {
             flags: flag_setters_of(steps),
             words: unused_walked_words(alloc, size, steps.len())?,
         })
+    }
+
+    /// Where it stands in the processor's steps.
+    pub fn row(&self, processor: usize) -> Option<WalkedRow> {
+        self.rows.get(processor).copied()
     }
 
     /// The processor's next step, if it has one left.
@@ -206,7 +215,7 @@ impl TextWalk {
 
     /// Whose step comes next: the same processor's as long as it is ready, or else that of another one that is. If none is,
     /// what the awaits wait for isn't known to come, and the first goes on that has a step left.
-    fn next(&self, steps: &[Vec<ScriptCall>], present: usize) -> Option<usize>
+    pub fn next(&self, steps: &[Vec<ScriptCall>], present: usize) -> Option<usize>
         requires walks { IsTextWalk steps.now self.now }
         requires present { present < length steps.now }
         ensures { MatchOption result (AreTextWalkRowsThrough steps.now self.now.rows.items)
@@ -222,7 +231,7 @@ impl TextWalk {
     }
 
     /// Comes through the processor's next step. The only error is running out of memory, after which this may be of no use.
-    fn pass(&mut self, steps: &[Vec<ScriptCall>], processor: usize) -> Result<(), AllocError>
+    pub fn pass(&mut self, steps: &[Vec<ScriptCall>], processor: usize) -> Result<(), AllocError>
         requires walks { IsTextWalk steps.now self.old }
         requires left { (step : AStep) × HasTextWalkStep steps.now self.old.rows.items processor step }
         ensures walks { OnOk result (IsTextWalk steps.now self.new) }

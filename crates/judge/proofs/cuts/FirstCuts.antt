@@ -20,7 +20,7 @@ pub record FirstCutsAreZero (c : Cuts) : Type 0 where
   pub departures : (p : ℕ) → slice_index c.departures p ≡ 0
 
 -- such are those before the first event
-pub first_cuts : {c : Cuts} → vec_len c.processors ≡ most_judged_processors → c.present ≤ most_judged_processors
+pub first_cuts : {c : Cuts} → vec_len c.processors ≡ c.present → c.present ≤ most_judged_processors
     → FirstCutsAreZero c
     → AreCuts [] c
 first_cuts {c} long few zero = record {

@@ -16,7 +16,6 @@ use Rattle.journal.proofs.Order.EventPlacesAndCounts.{event_count-append}
 use Rattle.judge.specs.declared.cuts.Cuts.{Cuts}
 use Rattle.judge.specs.Cuts.{AreCuts, CutsAfterArrival, IsCutIn, IsCutOf}
 use Rattle.judge.specs.CutEntries.{CutEntriesJoinedAt, CutEntriesMarkedAt}
-use Rattle.judge.specs.JudgedSizes.{most_judged_processors}
 use Rattle.judge.specs.NumberedCuts.{numbered_cut_at}
 use Rattle.judge.proofs.cuts.CutsOfPlaces.{IsRaisedCut, cut_of_places_equal}
 use Rattle.judge.proofs.cuts.PushedCuts.{pushed_cut_others, pushed_cut_own, pushed_cut_taking, pushed_cut_handed}
@@ -160,7 +159,7 @@ next_cuts {j} {c} {d} {p} {k} s n = record {
   place =
       (let sum = length-append j (event p k ∷ []) in let was = a.place in let now = s.place in
       omega arith);
-  long = s.long ∙ a.long;
+  long = s.long ∙ a.long ∙ sym s.present;
   few = (let few = a.few in let same = s.present in omega arith);
   cuts = cuts;
   locks = n.locks;
@@ -171,20 +170,20 @@ next_cuts {j} {c} {d} {p} {k} s n = record {
       let gone = s.gone in omega arith);
   arrivals =
       λ q within. next_cuts_counts event_arrives j p q k (slice_index c.arrivals q) (slice_index d.arrivals q)
-      (n.arrivals q) (a.arrivals q within);
+      (n.arrivals q) (a.arrivals q (let same = s.present in omega arith));
   departures =
       λ q within. next_cuts_counts event_departs j p q k (slice_index c.departures q) (slice_index d.departures q)
-      (n.departures q) (a.departures q within);
+      (n.departures q) (a.departures q (let same = s.present in omega arith));
 }
   where
     a : AreCuts j c
     a = s.so_far
 
-    cuts : (m : ℕ) → m < most_judged_processors → IsCutOf (j ++ event p k ∷ []) m (entry d.processors.items m)
+    cuts : (m : ℕ) → m < d.present → IsCutOf (j ++ event p k ∷ []) m (entry d.processors.items m)
     cuts m within = elim (cases_eq m p) [
       | inl is ↦ subst (λ x. IsCutOf (j ++ event p k ∷ []) x (entry d.processors.items x)) (sym is) n.own
       | inr isnt ↦ pushed_cut_others j (event p k) m (entry c.processors.items m) (entry d.processors.items m)
-          (λ same. isnt (sym same)) (λ q. n.others m q isnt) (a.cuts m within)
+          (λ same. isnt (sym same)) (λ q. n.others m q isnt) (a.cuts m (let same = s.present in omega arith))
     ]
 
 -- ---- each kind of event
@@ -208,13 +207,9 @@ next_cut_no_arrive : (k : Kind) → next_cut_hands_on k ≡ false → event_arri
 next_cut_no_arrive Arrive h = absurd cc
 next_cut_no_arrive _ h = refl
 
--- p is one of the processors at least
-next_cuts_within : {j : List Event} {c d : Cuts} {p : ℕ} → StepsToNextCuts j c d p → p < most_judged_processors
-next_cuts_within s = let few = s.so_far.few in let h = s.processor in omega arith
-
 next_cuts_own_before : {j : List Event} {c d : Cuts} {p : ℕ} → StepsToNextCuts j c d p
     → IsCutOf j p (entry c.processors.items p)
-next_cuts_own_before {p = p} s = s.so_far.cuts p (next_cuts_within s)
+next_cuts_own_before {p = p} s = s.so_far.cuts p s.processor
 
 -- what is kept is the same after an event that hands on nothing
 next_cuts_keeping : {j : List Event} {c d : Cuts} {p : ℕ} → (k : Kind) → next_cut_hands_on k ≡ false
@@ -330,7 +325,7 @@ next_cuts_departed {j} {c} {d} {p} s rest joined counted =
     brings : IsCutIn j (Brings j p Depart) kept
     brings =
         let P : ℕ → Type 0 = λ n. IsCutIn j (InPastOfSome j (BringsFromSomeArrival j n)) kept in
-        subst P (s.so_far.departures p (next_cuts_within s))
+        subst P (s.so_far.departures p s.processor)
         (s.so_far.episodes (slice_index c.departures p) (s.so_far.left p s.processor))
 
 -- p's own entry says that its events up to its event at c's place are known
@@ -424,7 +419,7 @@ next_cuts_arrived {j} {c} {d} {p} s rest marked arrived =
           next_cuts_kept_same j e (λ f. Set f) (numbered_cut_at c.flags) (numbered_cut_at d.flags) (λ f same. absurd cc)
           (ap (λ x. numbered_cut_at x.flags) rest) s.so_far.flags;
       episodes =
-          next_cuts_gathered_joined (next_cuts_marked_hands Arrive refl s marked) (s.so_far.arrivals p (next_cuts_within s))
+          next_cuts_gathered_joined (next_cuts_marked_hands Arrive refl s marked) (s.so_far.arrivals p s.processor)
           arrived s.so_far.episodes;
       arrivals = λ q. (let one = next_cut_and_true (p == q) true refl in let count = arrived.counted q in omega arith);
       departures =

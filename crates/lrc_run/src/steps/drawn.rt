@@ -21,8 +21,8 @@ use lrc_script::script::Script;
 use std::alloc::{AllocError, Global};
 use std::sync::Wait;
 
-/// Runs the script on one thread by turns that the seed draws, so that processors go at different speeds, until all have
-/// arrived at the closing barrier or none gets on; then rounds by rising number follow. Answers the turns that got on, as a
+/// Runs the script on one thread by turns that the seed draws, so that processors go at different speeds. This ends when all
+/// have arrived at the closing barrier or none gets on. Then rounds by rising number follow. Answers the turns that got on, as a
 /// schedule: [`step_by`](crate::step_by) with it makes the same run.
 ///
 /// The fault is a call's refusal, as [`step_as_far`](crate::step_as_far) tells it.

@@ -16,9 +16,9 @@ const CHANGES: usize = 3;
 /// The order in which processors are tried for the next turn: the first that gets on has it.
 ///
 /// By an even seed the order is drawn anew after each turn: a random walk. By an odd one it is a list of priorities, drawn
-/// once, and after a few turns, drawn too, whoever had the turn comes last from then on (Burckhardt, Kothari, Musuvathi and
-/// Nagarakatte, A randomized scheduler with probabilistic guarantees of finding bugs, ASPLOS 2010, section 2; there the
-/// number of these turns is given).
+/// once. After a few turns, drawn too, whoever had the turn comes last from then on. This is of Burckhardt, Kothari, Musuvathi
+/// and Nagarakatte, A randomized scheduler with probabilistic guarantees of finding bugs, ASPLOS 2010, section 2; there the
+/// number of these turns is given.
 #[derive(Drop)]
 pub(crate) struct Pace {
     pub(crate) generator: Pcg32,

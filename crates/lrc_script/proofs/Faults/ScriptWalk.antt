@@ -14,16 +14,11 @@ use Rattle.lrc_script.specs.Lawful.{IsLawfulSection, IsLawfulButUneven, IsLawful
 use Rattle.lrc_script.specs.ScriptLines.{ScriptLine, script_line_text, script_line_bytes, text}
 use Rattle.lrc_script.specs.ScriptFront.{ScriptFront, Nothing, Whole, IsScriptFrontLawful, script_front_lines, script_front_text}
 use Rattle.lrc_script.specs.ScriptFaults.{IsAtScriptLine, IsScriptFaultAt, IsScriptFault, IsScriptFaultUnevenAtLine, IsScriptFaultUneven}
-use Rattle.lrc_script.specs.LineReading.{LineReadFails, parts_of_read_line, IsLineReadOff, line_read_after}
-use Rattle.lrc_script.proofs.Reading.Separators.{HasNoSeparator, separator_parts_whole}
+use Rattle.lrc_script.specs.LineReading.{LineReadFails, IsLineReadOff, line_read_after}
+use Rattle.lrc_script.proofs.Reading.Separators.{HasNoSeparator}
 use Rattle.lrc_script.proofs.Front.FrontTexts.{front_text_never_goes_on, front_text_never_begins, front_text_ends, front_text_injective}
 use Rattle.lrc_script.proofs.Faults.RefusedLines.{no_refused_line_adds, refused_line_says, refused_line_fault_behind, refused_line_fault_from}
 use Rattle.lrc_script.proofs.Front.FilledFront.{filled_front_begins_text}
-
-script_walk_joined_again : (rest : List ℕ) (parts : List (List ℕ)) → parts_of_read_line 10 rest ≡ parts → 0 < length parts
-    → flat_map (λ v. 10 ∷ v) parts ≡ 10 ∷ rest
-script_walk_joined_again rest [] e some = absurd (omega arith)
-script_walk_joined_again rest (v ∷ vs) e some = ap (λ (x : List ℕ). 10 ∷ x) (sym (separator_parts_whole 10 rest v vs e))
 
 pub script_walk_start : (bytes : List ℕ) → IsAtScriptLine bytes 1 Nothing bytes
 script_walk_start bytes = record { begun = tt; whole = refl; number = refl }

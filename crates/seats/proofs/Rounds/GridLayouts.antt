@@ -60,9 +60,6 @@ grid_layout_put_over true g h (Some old) = refl
 grid_layout_put_over true g h None = refl
 grid_layout_put_over false g h o = refl
 
-grid_layout_put_not : (g : Guard) (o : Option Guard) → table_guard_put false g o ≡ o
-grid_layout_put_not g o = refl
-
 -- before the first block
 pub grid_layout_begins : (cells share n from to : ℕ) (old new : GuardTables) → from ≡ grid_pair_read cells n → to ≡ grid_pair_read cells n + cells
     → IsPutInTable old n from to Shared new → IsGridPairRoundPut cells share n 0 old new

@@ -7,3 +7,6 @@ returns-in_err-push g c = grind (arith, elements)
 
 pub loop-preserved : goal.loop-preserved
 loop-preserved g c = grind (arith, common_steps)
+
+pub returns : goal.returns
+returns c = grind (arith, elements)

@@ -4,6 +4,7 @@ use Rattle.std.proofs.lemmas.Option.{slice_get-get_or, slice_get_within}
 use Rattle.std.proofs.lemmas.Bool.{cases_lt}
 use Rattle.std.proofs.lemmas.List.{length-take-le}
 use Rattle.std.proofs.lemmas.List.Sums.{count_by-le-length}
+use Rattle.std.proofs.lemmas.Grind.{elements}
 use Rattle.journal.specs.declared.event.Event.{Event}
 use Rattle.journal.specs.declared.event.Kind.TheVariants.{Load}
 use Rattle.journal.specs.DidEvent.{event}
@@ -129,3 +130,12 @@ loop-i-preserved c =
 
 pub returns : goal.returns
 returns c = λ m r. (let before = r.before in let over = c.loop-i-test.false in c.loop-i.invariant.2 m (omega arith) r)
+
+pub offset_bounds-closings-earlier : goal.offset_bounds-closings-earlier
+offset_bounds-closings-earlier c = grind (arith, elements)
+
+pub offset_bounds-events-i : goal.offset_bounds-events-i
+offset_bounds-events-i c = grind (arith, elements)
+
+pub offset_bounds-time-earlier : goal.offset_bounds-time-earlier
+offset_bounds-time-earlier c = grind (arith, elements)

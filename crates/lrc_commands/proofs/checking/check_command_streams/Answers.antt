@@ -2,7 +2,7 @@ use Rattle.std.proofs.Common.{[], ◌++◌, ap, refl, ◌∙◌}
 use Rattle.std.proofs.KnownBytes.{Consumes-nil}
 use Rattle.std.proofs.lemmas.Result.{err_from_is_err_and}
 use Rattle.lrc_check.specs.declared.checked.Rules.{Rules}
-use Rattle.lrc_commands.proofs.JudgedSources.{judged_source_by, judged_source_consumed_fully, judged_source_consumed_no_more, judged_source_consumed_on, judged_source_full_refused, judged_source_no_front, judged_source_no_trace, judged_source_stream_ended, judged_source_stream_whole}
+use Rattle.lrc_commands.proofs.JudgedSources.{judged_source_by, judged_source_consumed_fully, judged_source_consumed_no_more, judged_source_consumed_on, judged_source_full_refused, judged_source_no_front, judged_source_no_trace, judged_source_ended_racy, judged_source_stream_ended, judged_source_stream_whole, judged_source_whole_racy}
 use Rattle.lrc_commands.proofs.checking.check_command_streams.Goals as goal
 
 pub check_command_ends-requires : goal.check_command_ends-requires
@@ -27,6 +27,13 @@ returns-then-count-eq0-clause-judged g c =
     (judged_source_consumed_no_more _ _ _ read.0 _ _ c.if-count-eq0.true read.1 c.in_ok-count.ensures.bytes)
     (c.in_ok-count.ensures.end c.if-count-eq0.true) (c.in_ok-check_command_ends.ensures.found read.0 read.2))
 
+pub returns-then-count-eq0-clause-racy : goal.returns-then-count-eq0-clause-racy
+returns-then-count-eq0-clause-racy g c =
+    let read = c.loop.invariant.read in
+    judged_source_whole_racy c.loop.stream.rules _ _ _ read.0 c.in_ok-check_command_ends.field-0
+    (judged_source_consumed_no_more _ _ _ read.0 _ _ c.if-count-eq0.true read.1 c.in_ok-count.ensures.bytes)
+    (c.in_ok-count.ensures.end c.if-count-eq0.true) (c.in_ok-check_command_ends.ensures.found read.0 read.2)
+
 pub feed-requires : goal.feed-requires
 feed-requires g c = record { stream = (c.loop.invariant.read.0, c.loop.invariant.read.2) }
 
@@ -45,6 +52,13 @@ returns-in-Some-clause-judged g c =
     judged_source_by c.loop.stream.rules _ _ _ _ _ _ (ap (λ (r : Rules). r.model) rules) (ap (λ (r : Rules). r.lax) rules) refl
     (judged_source_stream_ended c.loop.stream.rules _ _ _ _ c.in-Some.found
     (judged_source_consumed_on _ _ _ read.0 _ read.1 c.in_ok-count.ensures.bytes) end)
+
+pub returns-in-Some-clause-racy : goal.returns-in-Some-clause-racy
+returns-in-Some-clause-racy g c =
+    let read = c.loop.invariant.read in
+    let end = rw c.in-Some.is at c.in_ok-found.ensures.judged read.0 read.2 in
+    judged_source_ended_racy c.loop.stream.rules _ _ _ c.in-Some.found
+    (judged_source_consumed_on _ _ _ read.0 _ read.1 c.in_ok-count.ensures.bytes) end
 
 pub loop-init : goal.loop-init
 loop-init g c = record { read = ([], Consumes-nil _, c.requires.stream); rules = refl }

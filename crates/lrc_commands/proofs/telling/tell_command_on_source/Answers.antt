@@ -4,7 +4,7 @@ use Rattle.lrc_commands.proofs.telling.tell_command_on_source.Goals as goal
 
 pub returns-clause-told : goal.returns-clause-told
 returns-clause-told g c =
-    judged_source_told_by _ _ c.check_command_model.result _ _ _ _ c.is_some.ensures c.check_command_model.ensures
+    judged_source_told_by _ _ c.check_command_model.result _ _ _ _ c.is_some-lies.ensures c.check_command_model.ensures
     (judged_source_told_as _ _ _ _ _ _ c.in_ok-labelled.ensures.trace c.in_ok-labelled.ensures.text c.in_ok-told.ensures.events)
 
 pub returns-clause-held : goal.returns-clause-held

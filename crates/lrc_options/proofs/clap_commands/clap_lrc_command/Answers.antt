@@ -12,7 +12,8 @@ returns-clause-command c =
     let explore = c.with_clap_subcommand-lrc-5.ensures _ _ sample c.clap_explore_command.ensures in
     let check = c.with_clap_subcommand-lrc-6.ensures _ _ explore c.clap_check_command.ensures in
     let draw = c.with_clap_subcommand-lrc-7.ensures _ _ check c.clap_draw_command.ensures in
-    c.with_clap_subcommand.ensures _ _ draw c.clap_follows_command.ensures
+    let follows = c.with_clap_subcommand-lrc-8.ensures _ _ draw c.clap_follows_command.ensures in
+    c.with_clap_subcommand.ensures _ _ follows c.clap_pages_command.ensures
 
 pub returns-clause-wants : goal.returns-clause-wants
 returns-clause-wants c =

@@ -1,4 +1,5 @@
 use Rattle.std.proofs.Common.{arith, refl}
+use Rattle.std.proofs.lemmas.Grind.{elements}
 use Rattle.lrc_script.specs.Plan.{plan_of}
 use Rattle.lrc_script.proofs.Faults.ScriptWalk.{script_walk_start, script_walk_next, script_walk_failed_fault, script_walk_truncated_fault, script_walk_whole_text, script_walk_uneven_fault, script_walk_one_script, script_walk_sections_fit, script_walk_line_number_fits, script_walk_rest_shorter}
 use Rattle.lrc_script.proofs.script.parse.Goals as goal
@@ -58,3 +59,6 @@ returns-in-None-clause-again c =
     c.loop-line.invariant c.in-Some-whole.ensures.found in
     script_walk_one_script c.args.bytes.now (plan_of c.in-Some-whole.script)
     (record { but_uneven = whole.0; even = c.in-None.ensures.even }, whole.1)
+
+pub uneven_line-requires-clause-sections : goal.uneven_line-requires-clause-sections
+uneven_line-requires-clause-sections c = grind (arith, elements)

@@ -9,5 +9,5 @@ returns-clause-done g c = record {
   sizes = trace_sizes_of c.in_ok-labelled.labelled.trace.sizes;
   events = c.in_ok-labelled.labelled.trace.events.items;
   are = record { read = c.in_ok-script.ensures.read; told = c.in_ok-labelled.ensures.text };
-  answer = followed_answer _ _ _ _ _ c.follows.ensures c.in_ok-answer.ensures;
+  answer = followed_answer _ _ _ _ c.in_ok-follows.ensures.done;
 }

@@ -1,4 +1,5 @@
-use Rattle.std.proofs.Common.{◌≡◌, length, ap, ◌∙◌}
+use Rattle.std.proofs.Common.{◌≡◌, length, ap, ◌∙◌, arith}
+use Rattle.std.proofs.lemmas.Grind.{elements}
 use Rattle.book.specs.BookInvariant.{book_invariant_state}
 use Rattle.journal.specs.Log.{Log}
 use Rattle.book.proofs.Calling.IdleCalls.{idle_call_block_fits}
@@ -35,3 +36,6 @@ pub append_in_journal_room-requires-2-clause-address : goal.append_in_journal_ro
 append_in_journal_room-requires-2-clause-address c =
     (idle_call_block_fits c.parts.inside (same (goal.at.append_in_journal_room-requires-2-clause-address c).After-parts)
     (copied (goal.at.append_in_journal_room-requires-2-clause-address c).In_ok-copy) c.requires.call).1
+
+pub invariant_of-parts-2 : goal.invariant_of-parts-2
+invariant_of-parts-2 c = grind (arith, elements)

@@ -1,5 +1,6 @@
-use Rattle.std.proofs.Common.{◌≡◌, ◌∙◌, refl}
+use Rattle.std.proofs.Common.{◌≡◌, ◌∙◌, refl, arith}
 use Rattle.std.proofs.lemmas.Result.{on_ok_weaker}
+use Rattle.std.proofs.lemmas.Grind.{elements}
 use Rattle.book.specs.BookInvariant.{book_invariant_state}
 use Rattle.book.proofs.Calling.BookCut.{book_cut_call_is}
 use Rattle.book.proofs.book.Book.cut.Goals.{After-parts}
@@ -15,3 +16,6 @@ returns-clause-ok c =
     (λ was. book_cut_call_is (book_invariant_state c.parts.inside)
     c.args.self.now c.parts.inside.journal c.cut.new.self c.parts.inside.owing
     (same (goal.at.returns-clause-ok c).After-parts) refl was) c.cut.ensures.ok
+
+pub invariant_of-parts : goal.invariant_of-parts
+invariant_of-parts c = grind (arith, elements)

@@ -1,4 +1,5 @@
-use Rattle.std.proofs.Common.{◌≡◌, ◌∙◌, refl}
+use Rattle.std.proofs.Common.{◌≡◌, ◌∙◌, refl, arith}
+use Rattle.std.proofs.lemmas.Grind.{elements}
 use Rattle.book.specs.BookInvariant.{book_invariant_state}
 use Rattle.book.proofs.Calling.IdleCalls.{idle_call_block_fits}
 use Rattle.book.proofs.book.Book.last.Goals.{After-parts}
@@ -17,3 +18,6 @@ pub append_in_journal_room-requires-clause-address : goal.append_in_journal_room
 append_in_journal_room-requires-clause-address c =
     (idle_call_block_fits {room = c.parts.inside.journal.room} c.parts.inside
     (same (goal.at.append_in_journal_room-requires-clause-address c).After-parts) refl c.requires.call).1
+
+pub invariant_of-parts : goal.invariant_of-parts
+invariant_of-parts c = grind (arith, elements)

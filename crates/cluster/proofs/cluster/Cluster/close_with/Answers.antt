@@ -1,5 +1,6 @@
 -- The goals are those of each call that enters, over records of this one's steps: proofs/Visiting has what they share.
 use Rattle.std.proofs.Common.{map, refl, sym, subst, arith}
+use Rattle.std.proofs.lemmas.Grind.{common_steps}
 use Rattle.std.specs.Arc.{arc_value}
 use Rattle.std.specs.Option.{option_map}
 use Rattle.journal.specs.ClosingKinds.{closing_awaits_kind, closing_kind}
@@ -121,3 +122,6 @@ close_in_call-closed-requires-clause-told g c =
     subst (λ (l : Local). AreHarvestsOfCopies l.copies (map arc_value c.args.records.items)) (sym c.processor.view_is)
     c.requires.records in
     rw (c.as_slice-block.ensures.value) (closing_visit_has_closed _ m.0 c.in_ok-held.book finds (closing_kind c.args.closing) _ may are)
+
+pub tick-requires-clause-fits : goal.tick-requires-clause-fits
+tick-requires-clause-fits g c = grind (arith, common_steps)

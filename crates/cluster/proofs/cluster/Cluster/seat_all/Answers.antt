@@ -1,6 +1,7 @@
 use Rattle.std.proofs.Common.{ℕ, ◌≡◌, ◌++◌, ◌∷◌, [], List, length, slice_get, Some, append_assoc, subst, sym, ap, ◌∙◌, arith}
 use Rattle.std.proofs.lemmas.List.{length_push}
 use Rattle.std.proofs.lemmas.Option.{slice_get_within}
+use Rattle.std.proofs.lemmas.Grind.{elements}
 use Rattle.std.specs.Vec.Iter.{into_iter_items}
 use Rattle.base.proofs.SlicesAndCounts.{slice_get-append_left, slice_get-last}
 use Rattle.turn.specs.Chairs.{lock}
@@ -53,3 +54,9 @@ loop-chair-preserved g c =
       each = λ p m at. each p m (subst (λ (xs : List Local). slice_get xs p ≡ Some m) c.push_reserved.ensures.items at);
       room = let was = inv.room in let same = c.push_reserved.ensures.capacity in omega arith;
     }
+
+pub returns : goal.returns
+returns g c = grind (arith, elements)
+
+pub unreachable-requires : goal.unreachable-requires
+unreachable-requires g c = grind (arith, elements)

@@ -1,5 +1,6 @@
 use Rattle.std.proofs.Common.{◌++◌, ◌∷◌, [], List, map, append_assoc, sym, ap, ◌∙◌, arith}
 use Rattle.std.proofs.lemmas.List.{length_push, map-append}
+use Rattle.std.proofs.lemmas.Grind.{common_steps}
 use Rattle.std.specs.Vec.{vec_items}
 use Rattle.std.specs.Vec.Iter.{into_iter_items}
 use Rattle.cluster.specs.Copies.Local.{Local}
@@ -27,3 +28,6 @@ loop-processor-preserved g c =
       more_room =
           let was = inv.more_room in let same = c.push_reserved-in-loop-processor.ensures.capacity in omega arith;
     }
+
+pub returns : goal.returns
+returns g c = grind (arith, common_steps)

@@ -1,5 +1,6 @@
 use Rattle.std.proofs.Common.{ℕ, ◌≡◌, ◌+◌, ◌≤◌, Bool, List, [], ◌∷◌, ◌++◌, Some, length, map, take, slice_get, sum_by, subst, subst₂, sym, ap, refl, ◌∙◌, arith}
 use Rattle.std.proofs.lemmas.List.Sums.{sum_by_push, sum_by-take-le}
+use Rattle.std.proofs.lemmas.Grind.{elements}
 use Rattle.interval.specs.SentIntervals.{SentRecord}
 use Rattle.base.specs.AppliedRecords.{record_applied, records_applied}
 use Rattle.base.proofs.LastWritten.{length-written}
@@ -144,3 +145,6 @@ loop-index-preserved c =
             sums = rw (read, more) sums;
           })
     ]
+
+pub returns-clause-counts : goal.returns-clause-counts
+returns-clause-counts c = grind (arith, elements)

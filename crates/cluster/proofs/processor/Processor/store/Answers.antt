@@ -1,4 +1,5 @@
 use Rattle.std.proofs.Common.{◌≡◌, ◌/◌, Some, slice_get, sym, subst, arith}
+use Rattle.std.proofs.lemmas.Grind.{common_steps}
 use Rattle.page.specs.declared.page.Access.TheVariants.{Valid}
 use Rattle.cluster.specs.Copies.Sound.{IsSound}
 use Rattle.cluster.proofs.CoveringHistories.{covers}
@@ -77,3 +78,6 @@ invariant_of-self g c =
 
 pub returns-clause-covers : goal.returns-clause-covers
 returns-clause-covers g c = covers _ (invariant_of-self g c).0
+
+pub returns-clause-calls : goal.returns-clause-calls
+returns-clause-calls g c = grind (arith, common_steps)

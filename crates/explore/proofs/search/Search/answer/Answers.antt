@@ -1,7 +1,8 @@
 use Rattle.std.proofs.Common.{◌≡◌, ◌<◌, inl, inr, Bool, true, false, IsTrue, ℕ, List, length, refl, subst, arith}
 use Rattle.std.specs.Prelude.{◌||◌, slice_index_or}
 use Rattle.std.specs.Global.{Vec}
-use Rattle.std.proofs.lemmas.Bool.{cases_lt}
+use Rattle.std.proofs.lemmas.Bool.{cases_lt, false≢true}
+use Rattle.std.proofs.lemmas.Result.{IfOk-weaker}
 use Rattle.lrc_script.specs.Plan.{Plan, plan_of}
 use Rattle.explore.specs.declared.prefixes.script_call.ScriptCall.{ScriptCall}
 use Rattle.explore.specs.declared.search.Search.{Search}
@@ -13,7 +14,7 @@ use Rattle.explore.proofs.Locksets.TextGuardLaw.{text_guard_law}
 use Rattle.explore.proofs.Locksets.Noted.{lockset_noted_address_within, lockset_noted_rows_within, lockset_noted_unused_guarded}
 use Rattle.explore.proofs.PrefixRuns.Neighbours.NoNeighbours.{no_neighbours_law}
 use Rattle.explore.specs.FlatSearch.{IsFlatSearched}
-use Rattle.explore.proofs.SearchedStates.{searched_states_all_outcomes, searched_states_without_neighbours, searched_states_open_only, searched_states_some_outcomes}
+use Rattle.explore.proofs.SearchedStates.{searched_states_without_neighbours}
 use Rattle.explore.proofs.search.Search.answer.Goals as goal
 
 -- where the text or the search shows it, no beginning races
@@ -31,53 +32,28 @@ race_free s x steps words false all lawful looked guarded long each shown =
           omega arith)
     ])
 
-neither : (through all : Bool) → (through || all) ≡ false → through ≡ false
-neither true all is = is
-neither false all is = refl
+-- what the search shows, one of both shows
+either : (through all : Bool) → IsTrue through → IsTrue (through || all)
+either true all is = refl
+either false all is = absurd (false≢true is)
 
-pub findings-requires-clause-free : goal.findings-requires-clause-free
-findings-requires-clause-free c =
+pub answer_with-requires-clause-free : goal.answer_with-requires-clause-free
+answer_with-requires-clause-free c =
     let s = plan_of c.args.script.now in
     race_free s c.args.self.now c.args.steps.now c.args.facts.now.guarded.items c.args.end.through c.are_all_guarded.result
     c.requires.steps c.requires.ended.1.searched c.requires.facts.guarded c.requires.long
     (subst (λ ws. IsTrue c.are_all_guarded.result → (w : ℕ) → w < length ws → IsTrue (slice_index_or ws w false)) c.deref.ensures.value
     c.are_all_guarded.ensures)
 
-pub findings-requires-clause-ended : goal.findings-requires-clause-ended
-findings-requires-clause-ended c = c.requires.ended
+pub answer_with-requires-clause-through : goal.answer_with-requires-clause-through
+answer_with-requires-clause-through c = either c.args.end.through c.are_all_guarded.result
 
-pub outcomes_and-requires : goal.outcomes_and-requires
-outcomes_and-requires c =
-    let some = c.requires.ended.1.searched.some in
-    (plan_of c.args.script.now, c.requires.steps.lawful, some.1.found, some.1.noted.places)
+pub answer_with-requires-clause-ended : goal.answer_with-requires-clause-ended
+answer_with-requires-clause-ended c = c.requires.ended
 
-pub findings-requires-clause-never : goal.findings-requires-clause-never
-findings-requires-clause-never c = λ yes.
-    c.never_gets_stuck_by_text-never.ensures yes (plan_of c.args.script.now) c.args.detail c.requires.steps c.in_ok-run.ensures
+pub answer_with-requires-clause-tried : goal.answer_with-requires-clause-tried
+answer_with-requires-clause-tried c = (c.args.detail, c.in_ok-tried.ensures)
 
 pub returns : goal.returns
-returns c = λ most ended.
-    let s = plan_of c.args.script.now in
-    let d = c.args.detail in
-    let x = c.args.self.now in
-    let steps = c.args.steps.now in
-    let some = ended.searched.some in
-    let telling = c.requires.telling in
-    record {
-      states = ended.states d telling;
-      few = (let few = ended.few in omega (arith, few));
-      verdict = c.in_ok-findings.ensures.verdict;
-      hanging = c.in_ok-findings.ensures.hanging;
-      outcomes = c.in_ok-outcomes.ensures.outcomes s d (searched_states_some_outcomes s d x steps some.0 telling some.1)
-          (c.run_to_tell.ensures s d c.in_ok-run.ensures);
-      runs = c.in_ok-outcomes.ensures.runs s d some.1.found some.1.noted.places telling (c.run_to_tell.ensures s d c.in_ok-run.ensures);
-      all = λ yes replies outcome.
-          c.in_ok-outcomes.ensures.all replies
-          (searched_states_all_outcomes s x steps c.requires.steps (ended.searched.all yes) d telling replies outcome);
-      given_up = λ opens.
-          let both = searched_states_open_only c.args.end.met (c.args.end.through || c.are_all_guarded.result) c.args.end.through
-          c.in_ok-findings.findings.verdict c.in_ok-findings.findings.hanging c.in_ok-findings.ensures.verdict_opens
-          c.in_ok-findings.ensures.hanging_opens
-          (neither c.args.end.through c.are_all_guarded.result) opens in
-          ended.past both.0 both.1;
-    }
+returns c = IfOk-weaker c.answer_with.result _ _ (λ answer told most ended.
+    told c.args.detail most ended c.requires.telling c.in_ok-tried.ensures) c.answer_with.ensures

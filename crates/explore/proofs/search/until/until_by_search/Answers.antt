@@ -13,10 +13,13 @@ look_to_the_end-requires-clause-room g c =
 
 pub until_showing_of-requires-clause-ended : goal.until_showing_of-requires-clause-ended
 until_showing_of-requires-clause-ended g c = (
-  c.args.words.now,
   c.state_room_at_most-most.result,
   c.in_ok-end.ensures.ended (plan_of c.args.script.now) c.requires.steps c.requires.searched c.requires.few,
 )
+
+pub until_showing_of-requires-clause-telling : goal.until_showing_of-requires-clause-telling
+until_showing_of-requires-clause-telling g c =
+    c.in_ok-end.ensures.telling (plan_of c.args.script.now) c.requires.steps c.requires.searched ∙ c.requires.telling
 
 pub returns : goal.returns
 returns g c =
@@ -27,7 +30,7 @@ returns g c =
     record {
       states = ended.states c.args.detail telling;
       few = (let few = ended.few in omega (arith, few, at_most));
-      showing = c.in_ok-showing.ensures.showing c.args.words.now c.state_room_at_most-most.result c.args.detail ended telling;
+      showing = c.in_ok-showing.ensures.showing;
       given_up = λ opens.
           let both = goal_open_only c.in_ok-end.end c.in_ok-showing.showing c.in_ok-showing.ensures.opens opens in
           let past = ended.past both.0 both.1 in

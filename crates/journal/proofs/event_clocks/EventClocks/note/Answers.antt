@@ -2,6 +2,7 @@ use Rattle.std.proofs.Common.{◌≡◌, ℕ, inl, inr, false, ◌+◌, ◌<◌,
 use Rattle.std.proofs.lemmas.Option.{slice_get-get_or}
 use Rattle.std.proofs.lemmas.List.{length-take-le}
 use Rattle.std.proofs.lemmas.Result.{on_ok_weaker}
+use Rattle.std.proofs.lemmas.Grind.{elements}
 use Rattle.base.specs.Limits.{most_held, most_processors}
 use Rattle.journal.specs.declared.event.Event.{Event}
 use Rattle.journal.specs.declared.event.Kind.{Kind}
@@ -223,3 +224,9 @@ returns-in-Depart-clause-clocks c =
     } in
     next events place Depart c.let_go.new.self c.requires.place c.in-Depart.is
     (next_clocks_let_go (next_clocks_departed s after.rest after.joined after.departures) go)
+
+pub close-requires-clause-processor : goal.close-requires-clause-processor
+close-requires-clause-processor c = grind (arith, elements)
+
+pub let_go-requires-clause-some : goal.let_go-requires-clause-some
+let_go-requires-clause-some c = grind (arith, elements)

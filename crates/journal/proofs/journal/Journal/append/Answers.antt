@@ -1,6 +1,7 @@
 use Rattle.std.proofs.Common.{List, ◌≡◌, ℕ, ◌-◌, ◌≤◌, ◌<◌, ◌∷◌, [], ◌++◌, length, take, drop, subst, sym, ap, ◌∙◌, length-append, length-drop, arith}
 use Rattle.std.proofs.lemmas.List.{drop-append-le}
 use Rattle.std.proofs.lemmas.Option.{IfSome_then}
+use Rattle.std.proofs.lemmas.Grind.{elements, common_steps}
 use Rattle.journal.specs.declared.event.Event.{Event}
 use Rattle.journal.specs.Log.{Log}
 use Rattle.journal.specs.EventsInRange.{EventAddressInRange, EventAddressesInRange, EventProcessorsInRange}
@@ -82,3 +83,21 @@ invariant_of-self c =
           (longer_part_race j.processors (base_of_kept_state j.kept) (drop j.processors j.events.items) (c.args.event ∷ [])
           r.0 r.1 known));
     }
+
+pub note-requires-clause-few : goal.note-requires-clause-few
+note-requires-clause-few c = grind (arith, elements)
+
+pub note-requires-clause-place : goal.note-requires-clause-place
+note-requires-clause-place c = grind (arith, elements)
+
+pub overflow_sub-place : goal.overflow_sub-place
+overflow_sub-place c = grind (arith, common_steps)
+
+pub returns : goal.returns
+returns c = grind (arith, common_steps)
+
+pub slice_bounds-events-count : goal.slice_bounds-events-count
+slice_bounds-events-count c = grind (arith, common_steps)
+
+pub slice_bounds-events-start : goal.slice_bounds-events-start
+slice_bounds-events-start c = grind (arith, common_steps)

@@ -1,7 +1,8 @@
-use Rattle.std.proofs.Common.{◌≡◌, ℕ, ◌+◌, ◌-◌, ◌==◌, ◌⊎◌, ◌≢◌, cond, take, sym, subst}
+use Rattle.std.proofs.Common.{◌≡◌, ℕ, ◌+◌, ◌-◌, ◌==◌, ◌⊎◌, ◌≢◌, cond, take, sym, subst, arith}
 use Rattle.std.proofs.Common.{inl, inr, arith}
 use Rattle.std.proofs.lemmas.Bool.{cases_eq}
 use Rattle.std.proofs.lemmas.Bool.Decides.{nat_tests}
+use Rattle.std.proofs.lemmas.Grind.{common_steps}
 use Rattle.journal.specs.declared.journal.Journal.TheInside.{Inside}
 use Rattle.journal.specs.JournalInvariant.{journal_invariant_log}
 use Rattle.journal.specs.Log.{Log}
@@ -80,3 +81,9 @@ returns-in-Some-clause-race c =
     subst (λ (l : Log). IsFirstRaceFromBase l.base (take c.args.count l.events) (c.in-Some.first - size)
     (c.in-Some.second - size))
     c.self.view_is (opening_as_base_first_race _ _ _ _ here _ _ some).2
+
+pub first_race_of-requires-clause-few : goal.first_race_of-requires-clause-few
+first_race_of-requires-clause-few c = grind (arith, common_steps)
+
+pub overflow_add-events : goal.overflow_add-events
+overflow_add-events c = grind (arith, common_steps)

@@ -1,5 +1,6 @@
 use Rattle.std.proofs.Common.{ℕ, ◌+◌, ◌<◌, ◌≤◌, inr, List, length, slice_index, slice_set, subst, sym, arith}
 use Rattle.std.proofs.lemmas.List.{get_or-set_same, get_or-set_other}
+use Rattle.std.proofs.lemmas.Grind.{common_steps}
 use Rattle.journal.specs.AccessEpochs.{AreAccessEpochsAfterLoad}
 use Rattle.journal.proofs.race_epochs.Access.note_load.Goals as goal
 
@@ -16,3 +17,6 @@ pub returns-in-Several-clause-loads : goal.returns-in-Several-clause-loads
 returns-in-Several-clause-loads c =
     rw c.in-Several.is (one_more c.args.several.now (slice_index c.args.time.now) c.args.processor
     (rw c.told-several c.requires.processor))
+
+pub returns-in-Last-2-clause-loads : goal.returns-in-Last-2-clause-loads
+returns-in-Last-2-clause-loads c = grind (arith, common_steps)

@@ -1,6 +1,6 @@
 use Rattle.std.proofs.Common.{arith}
-use Rattle.std.proofs.lemmas.Grind.{common_steps}
+use Rattle.std.proofs.lemmas.Grind.{elements}
 use Rattle.judge.proofs.cuts.Cuts.arrive.Goals as goal
 
 pub returns-clause-arrived : goal.returns-clause-arrived
-returns-clause-arrived c = grind (arith, common_steps)
+returns-clause-arrived c = grind (arith, elements)

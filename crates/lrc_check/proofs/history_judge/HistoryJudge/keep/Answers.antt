@@ -77,6 +77,7 @@ returns c = record {
             (c.in_ok-note_history_locksets.ensures y.rules.locksets x.race x.sizes j (locksets_next next)
             (λ none. history_locksets_unraced j e x.race y.judge.race was.judged.race now.race (sym c.race-race.ensures ∙ none))
             was.locksets)))));
+        racing = ap (λ (t : TraceJudge). is_some t.racing) judge ∙ next.racing ∙ was.racing ∙ sym (ap (λ (r : Rules). r.all_races) rules);
       };
   rules = c.tally.ensures.rules;
   judge = c.tally.ensures.judge;

@@ -78,7 +78,7 @@ keep-requires c =
       next = (
         j,
         x.judge,
-        history_next_kept c.args.event next now c.read.ensures.model c.read.ensures.lax c.read.ensures.sizes
+        history_next_kept c.args.event next now c.read.ensures.model c.read.ensures.lax c.read.ensures.sizes c.read.ensures.racing
             (λ ends. elim c.else-self.branch [
               | else-self-via-then-self+else-is_some w ↦
                   sym c.race-race.ensures ∙ no_race c.race-race.result (sym w.is_some.ensures ∙ w.if-is_some.false)
@@ -92,7 +92,7 @@ returns-in_ok-keep-in-None-clause-judged c = λ j next.
     let x = c.args.self.now in
     let now = rw c.in-None.is at c.in_ok-lie.ensures.judged j (history_next_read j x next) in
     c.in_ok-keep-in-None.ensures.judged j x.judge
-    (history_next_kept c.args.event next now c.read.ensures.model c.read.ensures.lax c.read.ensures.sizes
+    (history_next_kept c.args.event next now c.read.ensures.model c.read.ensures.lax c.read.ensures.sizes c.read.ensures.racing
     (λ ends. elim c.else-self.branch [
       | else-self-via-then-self+else-is_some w ↦
           sym c.race-race.ensures ∙ no_race c.race-race.result (sym w.is_some.ensures ∙ w.if-is_some.false)

@@ -114,6 +114,7 @@ returns-in_ok-note-3-clause-judged c = λ j next.
       owed = c.in_ok-note-2.ensures x.model (judged_sizes_of x.sizes) j judged.owed next.place_is
           (within x j e accepted);
       counts = (counts.0, counts.1, c.note-in-Some.ensures.sizes ∙ counts.2, c.in_ok-note-3.ensures.tells j counts.3);
+      racing = c.in_ok-note_trace_race.ensures.racing j next.place_is (c.nearest_to-nearest.ensures j next) judged.racing;
     }
 
 pub returns-in_default-clause-judged : goal.returns-in_default-clause-judged
@@ -134,4 +135,5 @@ returns-in_default-clause-judged c = λ j next.
       owed = c.in_ok-note-2.ensures x.model (judged_sizes_of x.sizes) j judged.owed next.place_is
           (within x j e accepted);
       counts = subst (TraceJudgeHasCounts x.model x.lax x.sizes (j ++ e ∷ [])) (sym c.in_default.is) none;
+      racing = c.in_ok-note_trace_race.ensures.racing j next.place_is (c.nearest_to-nearest.ensures j next) judged.racing;
     }

@@ -1,4 +1,5 @@
-use Rattle.std.proofs.Common.{◌≡◌, ℕ, ◌++◌, List, length, subst, sym}
+use Rattle.std.proofs.Common.{◌≡◌, ℕ, ◌++◌, List, length, subst, sym, arith}
+use Rattle.std.proofs.lemmas.Grind.{elements}
 use Rattle.std.specs.Prelude.{Result, Ok, Err, IfErr}
 use Rattle.std.specs.Result.{IsErrAnd}
 use Rattle.journal.specs.declared.event.Event.{Event}
@@ -108,3 +109,9 @@ returns-in_err-fed-clause-line c =
       subst (IsFedLineRefused (bytes ++ c.args.piece.now) stream.0) (sym c.judge_behind.ensures.reader)
           (c.in_err-fed.ensures.refused (given found) bytes stream.0 stream.1 stream.2.read),
     ))) c.from_residual-in_err-fed.ensures.1
+
+pub returns-in_err-found-clause-line : goal.returns-in_err-found-clause-line
+returns-in_err-found-clause-line c = grind (arith, elements)
+
+pub returns-in_err-make_room-clause-line : goal.returns-in_err-make_room-clause-line
+returns-in_err-make_room-clause-line c = grind (arith, elements)

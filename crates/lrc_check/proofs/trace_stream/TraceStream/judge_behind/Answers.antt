@@ -1,5 +1,6 @@
 use Rattle.std.proofs.Common.{◌≡◌, ℕ, [], ◌++◌, ◌-◌, ◌≤◌, List, Option, Some, drop, length, take, subst, sym, ap, ◌∙◌, arith}
 use Rattle.std.proofs.lemmas.List.{length-drop, take_all}
+use Rattle.std.proofs.lemmas.Grind.{elements}
 use Rattle.std.specs.Prelude.{None, Result, Ok, Err, IfOk, MatchOption}
 use Rattle.journal.specs.declared.event.Event.{Event}
 use Rattle.judge.specs.JudgedSizes.{judged_sizes_of}
@@ -91,3 +92,6 @@ returns-in-Some-clause-judged c =
     as_before x y k front o c.begin_judge.ensures.reader c.begin_judge.ensures.rules
     (told y h k front c.args.seen _ o (begun front c.args.seen read) c.in-Some.is
     (slice_is c.events.result.now y.reader.events c.args.seen c.events.ensures) c.read_all.ensures.rules c.read_all.ensures.sizes tells)) c.read_all.ensures.judged
+
+pub read_all-requires : goal.read_all-requires
+read_all-requires c = grind (arith, elements)

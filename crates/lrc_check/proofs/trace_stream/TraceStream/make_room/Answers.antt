@@ -14,15 +14,24 @@ earlier_besides : (x y : TraceStream) (bytes : List ℕ) → y ≡ record x { ea
 earlier_besides x y bytes is stream =
     subst (IsTraceStream bytes) (sym is) (stream.0, stream.1, record { read = stream.2.read; judged = stream.2.judged })
 
+-- nor do the races that are told
+races_besides : (x y : TraceStream) (bytes : List ℕ) → y ≡ record x { races = y.races } → IsTraceStream bytes x → IsTraceStream bytes y
+races_besides x y bytes is stream =
+    subst (IsTraceStream bytes) (sym is) (stream.0, stream.1, record { read = stream.2.read; judged = stream.2.judged })
+
 pub keep_labelled-requires : goal.keep_labelled-requires
-keep_labelled-requires c = (c.requires.0, kept_besides c.args.self.now c.keep_race.new.self c.requires.0 c.keep_race.ensures c.requires.1)
+keep_labelled-requires c =
+    let bytes = c.requires.0 in
+    let raced = kept_besides c.args.self.now c.keep_race.new.self bytes c.keep_race.ensures c.requires.1 in
+    (bytes, races_besides c.keep_race.new.self c.note_races.new.self bytes c.note_races.ensures raced)
 
 pub returns-in_ok-keep_labelled-clause-stream : goal.returns-in_ok-keep_labelled-clause-stream
 returns-in_ok-keep_labelled-clause-stream c = λ bytes was.
     let x = c.keep_labelled.new.self in
     let y = c.let_go.new.self in
     let raced = kept_besides c.args.self.now c.keep_race.new.self bytes c.keep_race.ensures was in
-    let stream = earlier_besides c.keep_race.new.self x bytes c.keep_labelled.ensures raced in
+    let noted = races_besides c.keep_race.new.self c.note_races.new.self bytes c.note_races.ensures raced in
+    let stream = earlier_besides c.note_races.new.self x bytes c.keep_labelled.ensures noted in
     let front = stream.0 in
     let told = stream.1 in
     let none = c.let_go.ensures.events in

@@ -1,5 +1,6 @@
-use Rattle.std.proofs.Common.{ap, sym, subst, ◌∙◌, ◌++◌, ◌∷◌, [], List, ℕ}
+use Rattle.std.proofs.Common.{ap, sym, subst, ◌∙◌, ◌++◌, ◌∷◌, [], List, ℕ, arith}
 use Rattle.std.proofs.lemmas.Result.{err_from_is_err_and, on_ok_weaker}
+use Rattle.std.proofs.lemmas.Grind.{common_steps}
 use Rattle.lrc_check.specs.Traces.Begun.{trace_begun_text}
 use Rattle.lrc_check.specs.Traces.RefusedLines.{IsLineRefused}
 use Rattle.lrc_check.specs.Traces.Labels.{ArePassedOver, without_trace_labels, line_without_trace_label, trace_labels_of, trace_line_label}
@@ -162,3 +163,18 @@ returns-clause-passed c =
     c.in_ok-rest.rest.now (subst (ArePassedOver c.args.passed.now ((kept ++ end) ++ 10 ∷ []) c.read_trace_lines.new.passed) none over)
     c.in_ok-rest.ensures.passed)))
     c.keep-4.ensures.kept
+
+pub returns-clause-on : goal.returns-clause-on
+returns-clause-on c = grind (arith, common_steps)
+
+pub returns-in_default-clause-labels : goal.returns-in_default-clause-labels
+returns-in_default-clause-labels c = grind (arith, common_steps)
+
+pub returns-in_default-clause-text : goal.returns-in_default-clause-text
+returns-in_default-clause-text c = grind (arith, common_steps)
+
+pub returns-in_default-clause-unfinished : goal.returns-in_default-clause-unfinished
+returns-in_default-clause-unfinished c = grind (arith, common_steps)
+
+pub returns-in_err-rest-clause-on : goal.returns-in_err-rest-clause-on
+returns-in_err-rest-clause-on c = grind (arith, common_steps)

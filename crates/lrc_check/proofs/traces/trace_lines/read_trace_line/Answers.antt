@@ -1,4 +1,5 @@
 use Rattle.std.proofs.Common.{◌≡◌, length, refl, arith}
+use Rattle.std.proofs.lemmas.Grind.{common_steps, elements}
 use Rattle.lrc_check.specs.Traces.Sizes.{trace_sizes_of}
 use Rattle.lrc_check.proofs.traces.TraceWalk.{trace_walk_added_text, trace_walk_fault_behind, trace_walk_first_fault}
 use Rattle.lrc_check.proofs.traces.ReadingOn.{reading_on_added}
@@ -26,3 +27,9 @@ returns-in-Err-add-clause-fault c =
     rw (c.in-Some.is, count) (λ front h.
     trace_walk_fault_behind c.in-Err-add.fault (trace_sizes_of c.in-Some.trace.sizes) c.args.gone front
     c.in-Some.trace.events.items c.args.line.now h c.requires.one_line c.in-Err-add.ensures.fault)
+
+pub returns-in-Err-add-clause-on : goal.returns-in-Err-add-clause-on
+returns-in-Err-add-clause-on c = grind (arith, common_steps)
+
+pub returns-in-Ok-add-clause-count : goal.returns-in-Ok-add-clause-count
+returns-in-Ok-add-clause-count c = grind (arith, elements)

@@ -1,6 +1,7 @@
-use Rattle.std.proofs.Common.{ℕ, ◌≡◌, [], ◌∷◌, ◌++◌, List, Option, None, Some, ap, subst, sym, ◌∙◌}
+use Rattle.std.proofs.Common.{ℕ, ◌≡◌, [], ◌∷◌, ◌++◌, List, Option, None, Some, ap, subst, sym, ◌∙◌, arith}
 use Rattle.std.specs.Prelude.{IfSome}
 use Rattle.std.proofs.lemmas.Result.{err_from_is_err_and}
+use Rattle.std.proofs.lemmas.Grind.{elements, common_steps}
 use Rattle.journal.specs.declared.event.Event.{Event}
 use Rattle.lrc_check.specs.Traces.Begun.{trace_begun_line_count, trace_begun_text}
 use Rattle.lrc_check.specs.Traces.Labels.{line_without_trace_label, trace_line_label, without_trace_labels}
@@ -134,3 +135,15 @@ returns-in_err-read_trace_line-clause-refused c =
           ∙ c.loop-line.invariant.text front h more;
       over = c.loop-line.invariant.passed;
     }
+
+pub loop-line-smaller : goal.loop-line-smaller
+loop-line-smaller c = grind (arith, elements)
+
+pub loop-line-smaller-then-is_trace_line_passed_over : goal.loop-line-smaller-then-is_trace_line_passed_over
+loop-line-smaller-then-is_trace_line_passed_over c = grind (arith, elements)
+
+pub read_trace_line-requires-clause-one_line : goal.read_trace_line-requires-clause-one_line
+read_trace_line-requires-clause-one_line c = grind (arith, elements)
+
+pub returns-in_err-read_trace_line-clause-on : goal.returns-in_err-read_trace_line-clause-on
+returns-in_err-read_trace_line-clause-on c = grind (arith, common_steps)

@@ -1,13 +1,14 @@
-use Rattle.std.proofs.Common.{ℕ, subst, sym}
+use Rattle.std.proofs.Common.{ℕ, subst, sym, arith}
 use Rattle.journal.specs.declared.event.Kind.TheVariants.{Ask}
 use Rattle.seats.specs.Tenures.{tenure_of_lock}
 use Rattle.seats.specs.WordTallies.{word_tally_adding}
 use Rattle.seats.proofs.SeatActing.{seat_acted_tenure, seat_acted_added, seat_acting_faulted, seat_acted_in_part_asked, seat_acted_in_part_held, seat_acted_in_part_unreleased}
 use Rattle.seats.proofs.AddedTallies.{added_tally_by_tenure}
 use Rattle.std.proofs.lemmas.Result.{err_from_is_err_and}
+use Rattle.std.proofs.lemmas.Grind.{common_steps}
 use Rattle.seats.specs.SeatCallFaults.{HasSeatCallFaultIn}
 use Rattle.seats.proofs.ActingFaults.{acting_fault_first, acting_fault_held, acting_fault_unreleased}
-use Rattle.seats.proofs.SeatFaults.{seat_fault_told}
+use Rattle.seats.proofs.SeatFaults.{seat_fault_told, seat_fault_no_answer}
 use Rattle.seats.proofs.seat.Seat.add.Goals as goal
 
 pub returns-in_err-lock-clause-err : goal.returns-in_err-lock-clause-err
@@ -60,3 +61,39 @@ returns-in_err-unlock-clause-fault g c =
       acting_fault_unreleased c.args.lock (word_tally_adding c.args.address c.in_ok-word.word c.args.number) c.in_ok-lock.ensures.ok
           c.in_ok-word.ensures.ok c.in_err-unlock.ensures.fault,
     ))
+
+pub returns-in_err-lock-clause-idle : goal.returns-in_err-lock-clause-idle
+returns-in_err-lock-clause-idle g c = seat_fault_no_answer _ _ c.from_residual.result c.from_residual.ensures.1
+
+pub returns-in_err-lock-clause-ok : goal.returns-in_err-lock-clause-ok
+returns-in_err-lock-clause-ok g c = seat_fault_no_answer _ _ c.from_residual.result c.from_residual.ensures.1
+
+pub returns-in_err-lock-clause-sum : goal.returns-in_err-lock-clause-sum
+returns-in_err-lock-clause-sum g c = seat_fault_no_answer _ _ c.from_residual.result c.from_residual.ensures.1
+
+pub returns-in_err-unlock-clause-idle : goal.returns-in_err-unlock-clause-idle
+returns-in_err-unlock-clause-idle g c =
+    seat_fault_no_answer _ _ c.from_residual-in_err-unlock.result c.from_residual-in_err-unlock.ensures.1
+
+pub returns-in_err-unlock-clause-ok : goal.returns-in_err-unlock-clause-ok
+returns-in_err-unlock-clause-ok g c =
+    seat_fault_no_answer _ _ c.from_residual-in_err-unlock.result c.from_residual-in_err-unlock.ensures.1
+
+pub returns-in_err-unlock-clause-sum : goal.returns-in_err-unlock-clause-sum
+returns-in_err-unlock-clause-sum g c =
+    seat_fault_no_answer _ _ c.from_residual-in_err-unlock.result c.from_residual-in_err-unlock.ensures.1
+
+pub returns-in_err-word-clause-idle : goal.returns-in_err-word-clause-idle
+returns-in_err-word-clause-idle g c =
+    seat_fault_no_answer _ _ c.from_residual-in_err-word.result c.from_residual-in_err-word.ensures.1
+
+pub returns-in_err-word-clause-ok : goal.returns-in_err-word-clause-ok
+returns-in_err-word-clause-ok g c =
+    seat_fault_no_answer _ _ c.from_residual-in_err-word.result c.from_residual-in_err-word.ensures.1
+
+pub returns-in_err-word-clause-sum : goal.returns-in_err-word-clause-sum
+returns-in_err-word-clause-sum g c =
+    seat_fault_no_answer _ _ c.from_residual-in_err-word.result c.from_residual-in_err-word.ensures.1
+
+pub returns-clause-ok : goal.returns-clause-ok
+returns-clause-ok g c = grind (arith, common_steps)

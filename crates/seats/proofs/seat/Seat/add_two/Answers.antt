@@ -6,7 +6,7 @@ use Rattle.seats.specs.WordTallies.{word_tally_adding}
 use Rattle.std.proofs.lemmas.Result.{err_from_is_err_and}
 use Rattle.seats.specs.SeatCallFaults.{HasSeatCallFaultIn}
 use Rattle.seats.proofs.ActingFaults.{acting_fault_first, acting_fault_front, acting_fault_held, acting_fault_then, acting_fault_unreleased}
-use Rattle.seats.proofs.SeatFaults.{seat_fault_told}
+use Rattle.seats.proofs.SeatFaults.{seat_fault_told, seat_fault_no_answer}
 use Rattle.seats.proofs.seat.Seat.add_two.Given.{Over}
 use Rattle.seats.proofs.SeatActing.{seat_acted_tenure, seat_acted_then, seat_acting_faulted, seat_acted_in_part_asked, seat_acted_in_part_front, seat_acted_in_part_held, seat_acted_in_part_then, seat_acted_in_part_unreleased}
 use Rattle.seats.proofs.BalancedTenures.{balanced_tenure_adds_two_in_all, balanced_tenure_of_two}
@@ -123,3 +123,63 @@ returns-in_err-unlock-clause-fault g c =
           (word_tally_adding c.args.second.0 c.in_ok-increase-2.field-0 c.args.second.1) c.in_ok-increase.ensures.ok c.in_ok-increase-2.ensures.ok)
           c.in_err-unlock.ensures.fault,
     ))
+
+pub returns-in_err-increase-2-clause-balance : goal.returns-in_err-increase-2-clause-balance
+returns-in_err-increase-2-clause-balance g c =
+    seat_fault_no_answer _ _ c.from_residual-in_err-increase-2.result c.from_residual-in_err-increase-2.ensures.1
+
+pub returns-in_err-increase-2-clause-idle : goal.returns-in_err-increase-2-clause-idle
+returns-in_err-increase-2-clause-idle g c =
+    seat_fault_no_answer _ _ c.from_residual-in_err-increase-2.result c.from_residual-in_err-increase-2.ensures.1
+
+pub returns-in_err-increase-2-clause-ok : goal.returns-in_err-increase-2-clause-ok
+returns-in_err-increase-2-clause-ok g c =
+    seat_fault_no_answer _ _ c.from_residual-in_err-increase-2.result c.from_residual-in_err-increase-2.ensures.1
+
+pub returns-in_err-increase-2-clause-sum : goal.returns-in_err-increase-2-clause-sum
+returns-in_err-increase-2-clause-sum g c =
+    seat_fault_no_answer _ _ c.from_residual-in_err-increase-2.result c.from_residual-in_err-increase-2.ensures.1
+
+pub returns-in_err-increase-clause-balance : goal.returns-in_err-increase-clause-balance
+returns-in_err-increase-clause-balance g c =
+    seat_fault_no_answer _ _ c.from_residual-in_err-increase.result c.from_residual-in_err-increase.ensures.1
+
+pub returns-in_err-increase-clause-idle : goal.returns-in_err-increase-clause-idle
+returns-in_err-increase-clause-idle g c =
+    seat_fault_no_answer _ _ c.from_residual-in_err-increase.result c.from_residual-in_err-increase.ensures.1
+
+pub returns-in_err-increase-clause-ok : goal.returns-in_err-increase-clause-ok
+returns-in_err-increase-clause-ok g c =
+    seat_fault_no_answer _ _ c.from_residual-in_err-increase.result c.from_residual-in_err-increase.ensures.1
+
+pub returns-in_err-increase-clause-sum : goal.returns-in_err-increase-clause-sum
+returns-in_err-increase-clause-sum g c =
+    seat_fault_no_answer _ _ c.from_residual-in_err-increase.result c.from_residual-in_err-increase.ensures.1
+
+pub returns-in_err-lock-clause-balance : goal.returns-in_err-lock-clause-balance
+returns-in_err-lock-clause-balance g c = seat_fault_no_answer _ _ c.from_residual.result c.from_residual.ensures.1
+
+pub returns-in_err-lock-clause-idle : goal.returns-in_err-lock-clause-idle
+returns-in_err-lock-clause-idle g c = seat_fault_no_answer _ _ c.from_residual.result c.from_residual.ensures.1
+
+pub returns-in_err-lock-clause-ok : goal.returns-in_err-lock-clause-ok
+returns-in_err-lock-clause-ok g c = seat_fault_no_answer _ _ c.from_residual.result c.from_residual.ensures.1
+
+pub returns-in_err-lock-clause-sum : goal.returns-in_err-lock-clause-sum
+returns-in_err-lock-clause-sum g c = seat_fault_no_answer _ _ c.from_residual.result c.from_residual.ensures.1
+
+pub returns-in_err-unlock-clause-balance : goal.returns-in_err-unlock-clause-balance
+returns-in_err-unlock-clause-balance g c =
+    seat_fault_no_answer _ _ c.from_residual-in_err-unlock.result c.from_residual-in_err-unlock.ensures.1
+
+pub returns-in_err-unlock-clause-idle : goal.returns-in_err-unlock-clause-idle
+returns-in_err-unlock-clause-idle g c =
+    seat_fault_no_answer _ _ c.from_residual-in_err-unlock.result c.from_residual-in_err-unlock.ensures.1
+
+pub returns-in_err-unlock-clause-ok : goal.returns-in_err-unlock-clause-ok
+returns-in_err-unlock-clause-ok g c =
+    seat_fault_no_answer _ _ c.from_residual-in_err-unlock.result c.from_residual-in_err-unlock.ensures.1
+
+pub returns-in_err-unlock-clause-sum : goal.returns-in_err-unlock-clause-sum
+returns-in_err-unlock-clause-sum g c =
+    seat_fault_no_answer _ _ c.from_residual-in_err-unlock.result c.from_residual-in_err-unlock.ensures.1

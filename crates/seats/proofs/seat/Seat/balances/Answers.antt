@@ -6,7 +6,7 @@ use Rattle.std.proofs.lemmas.Result.{err_from_is_err_and}
 use Rattle.seats.specs.SeatCallFaults.{HasSeatCallFaultIn}
 use Rattle.seats.specs.Tenures.{tenure_of_lock}
 use Rattle.seats.proofs.ActingFaults.{acting_fault_first, acting_fault_front, acting_fault_held, acting_fault_then, acting_fault_unreleased}
-use Rattle.seats.proofs.SeatFaults.{seat_fault_told}
+use Rattle.seats.proofs.SeatFaults.{seat_fault_told, seat_fault_no_answer}
 use Rattle.seats.proofs.seat.Seat.balances.Given.{Over}
 use Rattle.seats.proofs.SeatActing.{seat_acted_tenure, seat_acted_then, seat_acting_faulted, seat_acted_in_part_asked, seat_acted_in_part_front, seat_acted_in_part_held, seat_acted_in_part_then, seat_acted_in_part_unreleased}
 use Rattle.seats.proofs.WeighedSides.{weighed_adds_nothing, weighed_found_kept}
@@ -128,3 +128,63 @@ returns-in_err-unlock-clause-fault g c =
           (seat_acted_then (loads_at c.args.left.now c.in_ok-lefts.ensures.ok.words) (loads_at c.args.right.now c.in_ok-rights.ensures.ok.words)
           c.in_ok-lefts.ensures.ok.acted c.in_ok-rights.ensures.ok.acted) c.in_err-unlock.ensures.fault,
     ))
+
+pub returns-in_err-lefts-clause-balance : goal.returns-in_err-lefts-clause-balance
+returns-in_err-lefts-clause-balance g c =
+    seat_fault_no_answer _ _ c.from_residual-in_err-lefts.result c.from_residual-in_err-lefts.ensures.1
+
+pub returns-in_err-lefts-clause-idle : goal.returns-in_err-lefts-clause-idle
+returns-in_err-lefts-clause-idle g c =
+    seat_fault_no_answer _ _ c.from_residual-in_err-lefts.result c.from_residual-in_err-lefts.ensures.1
+
+pub returns-in_err-lefts-clause-ok : goal.returns-in_err-lefts-clause-ok
+returns-in_err-lefts-clause-ok g c =
+    seat_fault_no_answer _ _ c.from_residual-in_err-lefts.result c.from_residual-in_err-lefts.ensures.1
+
+pub returns-in_err-lefts-clause-sum : goal.returns-in_err-lefts-clause-sum
+returns-in_err-lefts-clause-sum g c =
+    seat_fault_no_answer _ _ c.from_residual-in_err-lefts.result c.from_residual-in_err-lefts.ensures.1
+
+pub returns-in_err-lock-clause-balance : goal.returns-in_err-lock-clause-balance
+returns-in_err-lock-clause-balance g c = seat_fault_no_answer _ _ c.from_residual.result c.from_residual.ensures.1
+
+pub returns-in_err-lock-clause-idle : goal.returns-in_err-lock-clause-idle
+returns-in_err-lock-clause-idle g c = seat_fault_no_answer _ _ c.from_residual.result c.from_residual.ensures.1
+
+pub returns-in_err-lock-clause-ok : goal.returns-in_err-lock-clause-ok
+returns-in_err-lock-clause-ok g c = seat_fault_no_answer _ _ c.from_residual.result c.from_residual.ensures.1
+
+pub returns-in_err-lock-clause-sum : goal.returns-in_err-lock-clause-sum
+returns-in_err-lock-clause-sum g c = seat_fault_no_answer _ _ c.from_residual.result c.from_residual.ensures.1
+
+pub returns-in_err-rights-clause-balance : goal.returns-in_err-rights-clause-balance
+returns-in_err-rights-clause-balance g c =
+    seat_fault_no_answer _ _ c.from_residual-in_err-rights.result c.from_residual-in_err-rights.ensures.1
+
+pub returns-in_err-rights-clause-idle : goal.returns-in_err-rights-clause-idle
+returns-in_err-rights-clause-idle g c =
+    seat_fault_no_answer _ _ c.from_residual-in_err-rights.result c.from_residual-in_err-rights.ensures.1
+
+pub returns-in_err-rights-clause-ok : goal.returns-in_err-rights-clause-ok
+returns-in_err-rights-clause-ok g c =
+    seat_fault_no_answer _ _ c.from_residual-in_err-rights.result c.from_residual-in_err-rights.ensures.1
+
+pub returns-in_err-rights-clause-sum : goal.returns-in_err-rights-clause-sum
+returns-in_err-rights-clause-sum g c =
+    seat_fault_no_answer _ _ c.from_residual-in_err-rights.result c.from_residual-in_err-rights.ensures.1
+
+pub returns-in_err-unlock-clause-balance : goal.returns-in_err-unlock-clause-balance
+returns-in_err-unlock-clause-balance g c =
+    seat_fault_no_answer _ _ c.from_residual-in_err-unlock.result c.from_residual-in_err-unlock.ensures.1
+
+pub returns-in_err-unlock-clause-idle : goal.returns-in_err-unlock-clause-idle
+returns-in_err-unlock-clause-idle g c =
+    seat_fault_no_answer _ _ c.from_residual-in_err-unlock.result c.from_residual-in_err-unlock.ensures.1
+
+pub returns-in_err-unlock-clause-ok : goal.returns-in_err-unlock-clause-ok
+returns-in_err-unlock-clause-ok g c =
+    seat_fault_no_answer _ _ c.from_residual-in_err-unlock.result c.from_residual-in_err-unlock.ensures.1
+
+pub returns-in_err-unlock-clause-sum : goal.returns-in_err-unlock-clause-sum
+returns-in_err-unlock-clause-sum g c =
+    seat_fault_no_answer _ _ c.from_residual-in_err-unlock.result c.from_residual-in_err-unlock.ensures.1

@@ -1,12 +1,13 @@
-use Rattle.std.proofs.Common.{[], ◌∷◌, refl, ℕ, subst, sym, ◌∙◌}
+use Rattle.std.proofs.Common.{[], ◌∷◌, refl, ℕ, subst, sym, ◌∙◌, arith}
 use Rattle.journal.specs.declared.event.Kind.TheVariants.{Load, Store}
 use Rattle.seats.specs.WordTallies.{word_tally_adding}
 use Rattle.seats.proofs.SeatActing.{seat_acted_access, seat_acted_adding, seat_acted_nothing, seat_acted_then, seat_acted_added, seat_acting_faulted, seat_acted_in_part_none}
 use Rattle.seats.proofs.AddedTallies.{added_tally_by}
 use Rattle.std.proofs.lemmas.Result.{err_from_is_err_and}
+use Rattle.std.proofs.lemmas.Grind.{common_steps}
 use Rattle.seats.specs.SeatCallFaults.{HasSeatCallFaultIn}
 use Rattle.seats.proofs.ActingFaults.{acting_fault_first, acting_fault_next, acting_fault_second}
-use Rattle.seats.proofs.SeatFaults.{seat_fault_told}
+use Rattle.seats.proofs.SeatFaults.{seat_fault_told, seat_fault_no_answer}
 use Rattle.seats.proofs.seat.Seat.increase.Goals as goal
 
 pub returns-then-not-may_access-clause-err : goal.returns-then-not-may_access-clause-err
@@ -60,3 +61,20 @@ returns-in_err-store-clause-fault g c =
       acting_fault_next (Load c.args.address c.in_ok-word.word ∷ []) (Store c.args.address _) []
           (seat_acted_access (Load c.args.address c.in_ok-word.word ∷ []) c.in_ok-word.ensures.ok refl refl) c.in_err-store.ensures.fault,
     ))
+
+pub returns-in_err-store-clause-ok : goal.returns-in_err-store-clause-ok
+returns-in_err-store-clause-ok g c =
+    seat_fault_no_answer _ _ c.from_residual-in_err-store.result c.from_residual-in_err-store.ensures.1
+
+pub returns-in_err-store-clause-sum : goal.returns-in_err-store-clause-sum
+returns-in_err-store-clause-sum g c =
+    seat_fault_no_answer _ _ c.from_residual-in_err-store.result c.from_residual-in_err-store.ensures.1
+
+pub returns-in_err-word-clause-ok : goal.returns-in_err-word-clause-ok
+returns-in_err-word-clause-ok g c = seat_fault_no_answer _ _ c.from_residual.result c.from_residual.ensures.1
+
+pub returns-in_err-word-clause-sum : goal.returns-in_err-word-clause-sum
+returns-in_err-word-clause-sum g c = seat_fault_no_answer _ _ c.from_residual.result c.from_residual.ensures.1
+
+pub returns-clause-ok : goal.returns-clause-ok
+returns-clause-ok g c = grind (arith, common_steps)

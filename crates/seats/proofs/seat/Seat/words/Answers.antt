@@ -7,7 +7,7 @@ use Rattle.book.specs.declared.refused.Refused.TheVariants.{NoMemory}
 use Rattle.seats.specs.declared.fault.SeatFault.TheVariants.{Refused}
 use Rattle.seats.specs.Acting.{acting_loads_from}
 use Rattle.seats.proofs.ActingFaults.{acting_fault_loads}
-use Rattle.seats.proofs.SeatFaults.{seat_fault_told}
+use Rattle.seats.proofs.SeatFaults.{seat_fault_told, seat_fault_no_answer}
 use Rattle.seats.proofs.seat.Seat.words.Goals as goal
 
 pub returns-in_err-words-clause-err : goal.returns-in_err-words-clause-err
@@ -49,3 +49,17 @@ returns-in_err-word-clause-fault g c =
     (inr (acting_fault_loads c.args.from c.loop-address.address c.loop-address.words.items
     (let was = c.loop-address.words.ok.0 in let long = c.loop-address.invariant.long in omega arith)
     c.loop-address.invariant.acted c.in_err-word.ensures.fault)))
+
+pub returns-in_err-word-clause-all : goal.returns-in_err-word-clause-all
+returns-in_err-word-clause-all g c =
+    seat_fault_no_answer _ _ c.from_residual-in_err-word.result c.from_residual-in_err-word.ensures.1
+
+pub returns-in_err-word-clause-ok : goal.returns-in_err-word-clause-ok
+returns-in_err-word-clause-ok g c =
+    seat_fault_no_answer _ _ c.from_residual-in_err-word.result c.from_residual-in_err-word.ensures.1
+
+pub returns-in_err-words-clause-all : goal.returns-in_err-words-clause-all
+returns-in_err-words-clause-all g c = seat_fault_no_answer _ _ c.from_residual.result c.from_residual.ensures.1
+
+pub returns-in_err-words-clause-ok : goal.returns-in_err-words-clause-ok
+returns-in_err-words-clause-ok g c = seat_fault_no_answer _ _ c.from_residual.result c.from_residual.ensures.1

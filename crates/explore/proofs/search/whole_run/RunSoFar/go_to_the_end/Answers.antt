@@ -9,3 +9,6 @@ loop-preserved c = record {
   run = λ s lawful has. c.in_ok-go_round.ensures.run s lawful (c.loop.invariant.run s lawful has);
   telling = c.in_ok-go_round.ensures.telling ∙ c.loop.invariant.telling;
 }
+
+pub returns-then-not-branch-clause-run : goal.returns-then-not-branch-clause-run
+returns-then-not-branch-clause-run c = λ s lawful has. c.in_ok-go_round.ensures.run s lawful (c.loop.invariant.run s lawful has)

@@ -23,6 +23,7 @@ returns-clause-through c = λ s g lawful through next.
     let p = c.args.processor in
     record {
       knows = c.in_ok-step.ensures.knows s g lawful through.knows next;
+      events = c.in_ok-push-2.ensures.items ∙ ap (λ (xs : List Event). xs ++ event p c.args.kind ∷ []) through.events;
       makers =
           ap (map number) c.in_ok-push.ensures.items
           ∙ map-append number old (c.of.result ∷ [])

@@ -1,0 +1,14 @@
+pub mod GapsShrink
+pub mod GapsFew
+pub mod CopiesWhole
+pub mod PagesTouched
+pub mod FetchesDue
+pub mod FetchedHistories
+pub mod PageMessages
+pub mod AccessedPages
+pub mod OneFetched
+pub mod FetchedWell
+pub mod StreamedPages
+pub mod ToldPages
+pub mod PagesTallied
+pub mod ReadEvents

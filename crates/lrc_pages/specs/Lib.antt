@@ -1,0 +1,11 @@
+pub mod Prelude
+pub mod Fetched
+pub mod PageTraffic
+pub mod PageTallies
+pub mod MostFetched
+pub mod UselessFetches
+pub mod WholeCopies
+pub mod PagedHistory
+pub mod PagedTraces
+pub mod PageStreams
+pub mod PagesCommand
