@@ -2,8 +2,8 @@
 """explored.py EXPLORED [PROGRAM]: compares what the library for C tells of scripts' schedules with what `lrc explore` prints.
 
 EXPLORED is the program of explored.c. What it prints has to be what the cases of tests/program want of `explore` and of refused
-scripts, without what the library doesn't tell: schedules, words, who keeps a processor waiting, and what the rules allow. So it has to be with
-what PROGRAM prints of each script of examples/ and of drawn ones, where PROGRAM is built. And of each of these it has to be what
+scripts, without what the library doesn't tell: schedules, words, who keeps a processor waiting, what the text leaves open, and what the
+rules allow. So it has to be with what PROGRAM prints of each script of examples/ and of drawn ones, where PROGRAM is built. And of each of these it has to be what
 the plain enumeration of tests/exploring finds. The last line is `N passed, M failed`.
 """
 import importlib.machinery
@@ -24,6 +24,7 @@ from texts import results_of  # noqa: E402
 
 DRAWN = 200
 BY_RULES = re.compile(r"outcomes .* by the rules( so far)?|beginnings .*")
+GAPS = ("unguarded ", "unranked", "  word ", "  circle", "  wait", "  and ", "    line ", "    end ")
 UNTOLD = re.compile(r", held by .*|, which nobody .*| for processor .*")
 
 
@@ -40,7 +41,7 @@ def told(text):
     kept, accesses = [], 0
     for line in text.splitlines():
         is_event = line.startswith("event ")
-        if line.startswith(("  words ", "  schedule ", "    event ")) or BY_RULES.fullmatch(line) or is_event and not accesses:
+        if line.startswith(("  words ", "  schedule ", "    event ", *GAPS)) or BY_RULES.fullmatch(line) or is_event and not accesses:
             continue
         accesses = 2 if line == "race" else accesses - is_event
         kept.append(UNTOLD.sub("", line))

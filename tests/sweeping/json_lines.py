@@ -8,6 +8,8 @@ from schedules import Event
 NAMES = {"load": ("address", "value"), "store": ("address", "value"),
          "fetch": ("page", "writers", "records", "words"), "ask": ("lock",), "acquire": ("lock",), "release": ("lock",),
          "arrive": (), "depart": (), "set": ("flag",), "watch": ("flag",), "await": ("flag",)}
+# Of how many words that aren't guarded the text tells two lines.
+WORDS = 8
 NO_VERDICTS = {"race-free": "verdict race-free under every schedule", "undecided": "verdict undecided"}
 
 
@@ -58,10 +60,33 @@ def wait_line(wait):
     return f"processor {wait['processor']} waits {what}"
 
 
+def step_line(step):
+    """A line of the script, or a section's end, and the locks that are held there."""
+    place = f"line {step['line']} p{step['processor']} {step['text']}" if "line" in step else f"end p{step['processor']}"
+    return " ".join(["   ", place, *["holds", *map(str, step["holds"])] * bool(step["holds"])])
+
+
+def open_text(unguarded, unranked):
+    """What the text leaves open, as `explore` prints it: words, of which the first are told, and locks."""
+    if unguarded:
+        yield f"unguarded {len(unguarded)}"
+        for it in unguarded[:WORDS]:
+            yield from [f"  word {it['word']}", step_line(it["first"]), step_line(it["second"])]
+        if len(unguarded) > WORDS:
+            yield f"  and {len(unguarded) - WORDS} more"
+    for it in unranked:
+        yield "unranked"
+        if "circle" in it:
+            yield from ["  circle", *map(step_line, it["circle"])]
+        if "wait" in it:
+            yield from ["  wait", step_line(it["wait"])]
+
+
 def explore_text(objects):
     """The text of `explore`, of lines on who waits only how they begin."""
     *others, end = objects
-    by = {name: [it for it in others if it["told"] == name] for name in ("race", "outcome", "hang", "allowed", "rules")}
+    by = {name: [it for it in others if it["told"] == name]
+          for name in ("race", "outcome", "hang", "unguarded", "unranked", "allowed", "rules")}
     expect(end["told"] == "end" and sum(map(len, by.values())) == len(others), f"that is the end: {end}")
     hangs = [line for hang in by["hang"]
              for line in ["hangs", *map(line_of, hang["events"]), *map(wait_line, hang["waits"]), f"  schedule {hang['schedule']}"]]
@@ -79,6 +104,7 @@ def explore_text(objects):
         expect((end["hangs"] == "hangs") == bool(hangs), f"the hang is told: {end}")
         yield from hangs or [f"hangs {end['hangs']}"]
         yield f"states {end['states']}"
+        yield from open_text(by["unguarded"], by["unranked"])
 
 
 def allowed_lines(outcome):

@@ -4,7 +4,8 @@ use Rattle.std.specs.Prelude.{IfOk, min}
 use Rattle.std.specs.Io.KnownBytes.{Keeps}
 use Rattle.std.proofs.KnownBytes.{Keeps-refl}
 use Rattle.explore.specs.EndingWords.{IsExploredUntil}
-use Rattle.explore.specs.Explored.{IsExplored, explored_settles, is_explored_settled}
+use Rattle.explore.specs.Explored.{IsExplored, explored_race_free, is_explored_settled}
+use Rattle.explore.proofs.Explored.{explored_race_free_known, explored_unsettled}
 use Rattle.explore.specs.declared.outcomes.answer.Explored.{Explored}
 use Rattle.explore.specs.declared.outcomes.answer.Verdict.TheVariants.{Undecided}
 use Rattle.explore.specs.Prefixes.FlatBeginnings.{AreFlatBeginningsRaceFree}
@@ -19,7 +20,7 @@ use Rattle.explore.specs.MemoryShown.{ComesBySchedule}
 use Rattle.explore.specs.StateRoom.{state_room_at_most}
 use Rattle.lrc_program.specs.Served.{IsServedScriptRead}
 use Rattle.lrc_options.specs.declared.options.ExploreOptions.{ExploreOptions}
-use Rattle.lrc_exploring.specs.ExploreAnswers.{AreSchedulesExplored, AreWordsExplored, ExploreAnswerTold, ExploreAnswerWritten, ExploreCommandWritten, IsExploreAnswerTo, IsHangEnough, IsScheduleAnswerTo, explore_detail, explored_race_free, is_explore_answer_settled}
+use Rattle.lrc_exploring.specs.ExploreAnswers.{AreSchedulesExplored, AreWordsExplored, ExploreAnswerTold, ExploreAnswerWritten, ExploreCommandWritten, IsExploreAnswerTo, IsHangEnough, IsScheduleAnswerTo, explore_detail, is_explore_answer_settled}
 use Rattle.lrc_exploring.specs.declared.answer.ExploreAnswer.{ExploreAnswer}
 use Rattle.lrc_exploring.specs.declared.answer.ExploreAnswer.TheVariants.{Schedules, Open, Rules, Until, RulesUntil}
 
@@ -44,21 +45,12 @@ told_race_free o s explored told undecided free = record {
   all = told.all;
   most = told.most;
   within = told.within;
-  is = record {
-    states = told.is.states;
-    few = told.is.few;
-    verdict = free;
-    hanging = told.is.hanging;
-    outcomes = told.is.outcomes;
-    runs = told.is.runs;
-    all = told.is.all;
-    given_up = λ opens. told.is.given_up unsettled;
-  };
-  given_up = λ opens. elim (told.given_up unsettled) [ inl past ↦ inl past | inr hang ↦ inr (record { default = hang.default; first = hang.first; hangs = hang.hangs }) ];
+  is = explored_race_free_known s (explore_detail o.outcomes) told.most explored told.is undecided free;
+  given_up = λ opens. elim (told.given_up (explored_unsettled explored undecided)) [
+    | inl past ↦ inl past
+    | inr hang ↦ inr (record { default = hang.default; first = hang.first; hangs = hang.hangs })
+  ];
 }
-  where
-    unsettled : is_explored_settled explored ≡ false
-    unsettled = ap (λ v. explored_settles v explored.hanging explored.are_all) undecided
 
 -- an answer of schedules is one to what the options ask for
 pub told_schedule_answer : (comes : ComesBySchedule) (o : ExploreOptions) (s : Plan) (answer : ExploreAnswer) → IsScheduleAnswerTo o s answer

@@ -51,16 +51,6 @@ abbrev pub IsRacyShowing : Showing → Type 0
 IsRacyShowing (showing.Racy racy) = ⊤
 IsRacyShowing _ = ⊥
 
--- what was found, where the script is known to be race-free
-abbrev pub explored_race_free : Explored → Explored
-explored_race_free explored = record {
-  states = explored.states;
-  verdict = RaceFree;
-  hanging = explored.hanging;
-  outcomes = explored.outcomes;
-  are_all = explored.are_all;
-}
-
 -- a schedule hangs
 abbrev pub IsHangMet : Hanging → Type 0
 IsHangMet (Hangs hang) = ⊤

@@ -6,10 +6,9 @@ ghost use Rattle.explore.specs.AllowedRuns.{AreAllowedRunOutcomes};
 ghost use Rattle.explore.specs.AllowedUntil.{IsAllowedUntil};
 ghost use Rattle.explore.specs.MemoryShown.{IsMemoryShown};
 ghost use Rattle.explore.specs.TextGaps.{AreTextGaps};
-ghost use Rattle.explore.specs.declared.outcomes.answer.Verdict.TheVariants.{Undecided};
 ghost use Rattle.lrc_options.specs.declared.options.ExploreOptions.{ExploreOptions as Options};
 ghost use Rattle.lrc_commands.specs.Prelude.{IsCommandExitStatusOfInput};
-ghost use Rattle.lrc_exploring.specs.Prelude.{AreSchedulesExplored, IsExploreAnswerTo, IsRacyShowing, IsRacyVerdict, IsScheduleAnswerTo, explore_detail, explored_race_free};
+ghost use Rattle.lrc_exploring.specs.Prelude.{AreSchedulesExplored, IsExploreAnswerTo, IsRacyShowing, IsRacyVerdict, IsScheduleAnswerTo, explore_detail};
 
 use crate::answer::ExploreAnswer;
 use crate::stages::{explore_detail, schedules_explored};
@@ -112,16 +111,6 @@ fn what_rules_allow_until<T: ScriptRunner, R: Wait, P: Progress>(
     }
 }
 
-/// Whether it is open whether a schedule races.
-fn is_undecided(verdict: &Verdict) -> bool
-    ensures { IsTrue result → verdict.now ≡ Undecided }
-{
-    match verdict {
-        Verdict::Undecided => true,
-        _ => false,
-    }
-}
-
 /// Whether it is open whether a schedule hangs.
 fn is_hang_undecided(hanging: &Hanging) -> bool {
     match hanging {
@@ -130,33 +119,13 @@ fn is_hang_undecided(hanging: &Hanging) -> bool {
     }
 }
 
-/// What was found, where the script is known to be race-free.
-fn known_race_free(explored: Explored) -> Explored
-    ensures { result ≡ explored_race_free explored }
-{
-    let Explored {
-        states,
-        hanging,
-        outcomes,
-        are_all,
-        ..
-    } = explored;
-    Explored {
-        states,
-        verdict: Verdict::RaceFree,
-        hanging,
-        outcomes,
-        are_all,
-    }
-}
-
 /// What was found of a script that no schedule was found to race, with what its text leaves open. If that is no word, it is race-free.
 fn answer_by_gaps(explored: Explored, gaps: TextGaps) -> ExploreAnswer
     ensures { (o : Options) (s : Plan) → IsLawful s → AreSchedulesExplored o s explored → (¬ IsRacyVerdict explored.verdict)
         → AreTextGaps s gaps → IsScheduleAnswerTo o s result }
 {
-    if is_undecided(&explored.verdict) && gaps.is_race_free() {
-        return ExploreAnswer::Open(known_race_free(explored), gaps);
+    if explored.verdict.is_undecided() && gaps.is_race_free() {
+        return ExploreAnswer::Open(explored.known_race_free(), gaps);
     }
     ExploreAnswer::Open(explored, gaps)
 }
@@ -171,7 +140,7 @@ fn answer_with_gaps(
     ensures { IfOk result (λ answer. (o : Options) → AreSchedulesExplored o (plan_of script.now) explored
         → (¬ IsRacyVerdict explored.verdict) → IsScheduleAnswerTo o (plan_of script.now) answer) }
 {
-    if !is_undecided(&explored.verdict) && !is_hang_undecided(&explored.hanging) {
+    if !explored.verdict.is_undecided() && !is_hang_undecided(&explored.hanging) {
         return Ok(ExploreAnswer::Schedules(explored));
     }
     match text_gaps(alloc, script) {

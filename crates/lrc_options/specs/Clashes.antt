@@ -27,6 +27,10 @@ do_seed_and_schedule_clash rows = is_some (first_of (codes "seed") rows) && is_s
 abbrev pub do_lax_and_strict_clash : List Row → Bool
 do_lax_and_strict_clash rows = is_option_in_words (codes "lax") rows && is_option_in_words (codes "strict") rows
 
+-- a picture and JSON are asked for
+abbrev pub do_picture_and_json_clash : List Row → Bool
+do_picture_and_json_clash rows = is_option_in_words (codes "svg") rows && is_option_in_words (codes "json") rows
+
 -- something is given that only a script has
 abbrev pub has_clashing_script_option : List Row → Bool
 has_clashing_script_option rows = is_option_in_words (codes "seed") rows
@@ -50,10 +54,11 @@ is_own_model rows = option_map_or (λ t. bytes_eq t (codes "lazy-release")) (fir
 abbrev pub does_trace_clash : List Row → Bool
 does_trace_clash rows = has_clashing_script_option rows || (not (is_own_model rows) && has_clashing_page_option rows)
 
--- a seed and a schedule are given, or that a trace is judged both lax and strictly, or to `explain` what doesn't go with
--- `--trace`, or what wants it
+-- a seed and a schedule are given, or that a trace is judged both lax and strictly, or a picture and JSON are asked for, or to `explain`
+-- is given what doesn't go with `--trace`, or what wants it
 abbrev pub do_options_clash_together : Text → List Row → Bool
 do_options_clash_together name rows = do_seed_and_schedule_clash rows
     || (do_lax_and_strict_clash rows
+    || (do_picture_and_json_clash rows
     || (bytes_eq name (codes "explain")
-    && (if is_option_in_words (codes "trace") rows then does_trace_clash rows else has_clashing_trace_option rows)))
+    && (if is_option_in_words (codes "trace") rows then does_trace_clash rows else has_clashing_trace_option rows))))

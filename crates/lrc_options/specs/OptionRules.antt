@@ -170,9 +170,15 @@ abbrev pub explain_option_rules : ValueParser → ValueParser → App
 explain_option_rules locks models = judged_option_rules (with_rule (told_option_rules locks) traced_option_rule) models
 
 -- `lrc sample`
+abbrev pub option_rule_most_jobs : ℕ
+option_rule_most_jobs = 64
+
+abbrev pub jobs_option_rule : Rule
+jobs_option_rule = number_option_rule (codes "jobs") 1 option_rule_most_jobs
+
 abbrev pub sample_option_rules : ValueParser → ValueParser → App
 sample_option_rules locks details =
-    with_rule (with_rule (script_option_rules (codes "sample") seeds_option_rule locks) (outcomes_option_rule details)) json_option_rule
+    with_rule (with_rule (with_rule (script_option_rules (codes "sample") seeds_option_rule locks) (outcomes_option_rule details)) jobs_option_rule) json_option_rule
 
 -- `lrc explore`
 abbrev pub explore_option_rules : ValueParser → App
@@ -236,7 +242,7 @@ eager_option_rule = flag_option_rule (codes "eager")
 
 abbrev pub pages_option_rules : App
 pages_option_rules =
-    with_rule (with_rule (with_rule (with_rule (file_option_rules (codes "pages")) page_words_option_rule) top_option_rule) eager_option_rule) json_option_rule
+    with_rule (with_rule (with_rule (with_rule (with_rule (file_option_rules (codes "pages")) page_words_option_rule) top_option_rule) eager_option_rule) svg_option_rule) json_option_rule
 
 -- `lrc` without its commands: it wants one, and has a version
 abbrev pub bare_option_rules : App
@@ -383,6 +389,7 @@ pub record AreOptionsByRulesOfSample (rows : List Row) (o : SampleOptions) : Typ
   pub seeds : IsNumberByOptionRule 1 option_rule_most_seed option_rule_default_seeds (one_of (codes "seeds") rows) o.seeds
   pub outcomes : o.outcomes ≡ option_rule_detail_given rows
   pub ticket : o.ticket ≡ option_rule_ticket rows
+  pub jobs : IsSizeByOptionRule option_rule_most_jobs (one_of (codes "jobs") rows) o.jobs
   pub json : IsFlagByOptionRule (one_of (codes "json") rows) o.json
 
 -- the words that are given, or none
@@ -425,6 +432,7 @@ pub record AreOptionsByRulesOfPages (rows : List Row) (o : PagesOptions) : Type 
   pub page_words : ArePageWordsByOptionRule (first_of (codes "page-words") rows) o.page_words.items
   pub top : IsSizeByOptionRule option_rule_most_top (one_of (codes "top") rows) o.top
   pub eager : IsFlagByOptionRule (one_of (codes "eager") rows) o.eager
+  pub svg : IsFlagByOptionRule (one_of (codes "svg") rows) o.svg
   pub json : IsFlagByOptionRule (one_of (codes "json") rows) o.json
 
 -- the events that are given, or all

@@ -12,11 +12,12 @@ ghost use Rattle.lrc_options.specs.ScriptWords.{script_word_rules};
 use crate::help::{
     ABOUT, AFTER, AFTER_RUN_AND_STEP, DRAW, DRAWN_FLAGS, DRAWN_LENGTH, DRAWN_LOCKS, DRAWN_PAGES,
     DRAWN_PROCESSORS, DRAWN_SEED, DRAWN_WORDS, EAGER, EVENTS, EXPLAIN, EXPLORE, FOLLOWS, HTML,
-    JOURNAL, JSON, LAX, LOCKSETS, MODEL, MOST, OUTCOMES, PAGE_WORDS, PAGES, PATTERN, PROCESSORS,
-    PROGRAM, RACE_IS_ERROR, RACES, SAMPLE, SCHEDULE, SCRIPT, SCRIPT_FILE, SEED, SEEDS, STATE,
-    STRICT, SUPPRESS, SVG, TOP, TRACE, TRACE_FILE, TRACED, TRIES, UNFINISHED, UNTIL, VERSION,
+    JOBS, JOURNAL, JSON, LAX, LOCKSETS, MODEL, MOST, OUTCOMES, PAGE_WORDS, PAGES, PAGES_SVG,
+    PATTERN, PROCESSORS, PROGRAM, RACE_IS_ERROR, RACES, SAMPLE, SCHEDULE, SCRIPT, SCRIPT_FILE,
+    SEED, SEEDS, STATE, STRICT, SUPPRESS, SVG, TOP, TRACE, TRACE_FILE, TRACED, TRIES, UNFINISHED,
+    UNTIL, VERSION,
 };
-use crate::options::{MOST_RACES, MOST_TOP};
+use crate::options::{MOST_JOBS, MOST_RACES, MOST_TOP};
 use clap::builder::ValueParser;
 use clap::{Arg, ArgAction, Command};
 use std::alloc::{AllocError, Global};
@@ -341,6 +342,7 @@ fn clap_sample_command<'a>(
     let own = clap_seeds_arg(alloc);
     let command = clap_script_command(alloc, "sample", about, SAMPLE, own, locks);
     let command = with_clap_arg(command, clap_outcomes_arg(alloc, details));
+    let command = with_clap_arg(command, clap_number_arg(alloc, "jobs", 1, MOST_JOBS, JOBS));
     with_clap_arg(command, clap_flag_arg(alloc, "json", JSON))
 }
 
@@ -445,6 +447,7 @@ fn clap_pages_command<'a>(alloc: Global) -> Result<Command<'a>, AllocError>
     );
     let command = with_clap_arg(command, clap_number_arg(alloc, "top", 1, MOST_TOP, TOP));
     let command = with_clap_arg(command, clap_flag_arg(alloc, "eager", EAGER));
+    let command = with_clap_arg(command, clap_flag_arg(alloc, "svg", PAGES_SVG));
     with_clap_arg(command, clap_flag_arg(alloc, "json", JSON))
 }
 

@@ -1,7 +1,7 @@
 //! Which options exclude each other.
 ghost use Rattle.std.specs.Prelude.{◌≡◌, codes, is_some};
 ghost use Rattle.clap.specs.Words.{first_of, found_of, rows_of};
-ghost use Rattle.lrc_options.specs.Clashes.{do_lax_and_strict_clash, do_options_clash_together, does_trace_clash, do_seed_and_schedule_clash, has_clashing_page_option};
+ghost use Rattle.lrc_options.specs.Clashes.{do_lax_and_strict_clash, do_options_clash_together, do_picture_and_json_clash, does_trace_clash, do_seed_and_schedule_clash, has_clashing_page_option};
 ghost use Rattle.lrc_options.specs.Clashes.{has_clashing_script_option, has_clashing_trace_option, is_from_words, is_option_in_words, is_own_model};
 
 use clap::ArgMatches;
@@ -30,6 +30,13 @@ fn lax_clashes_with_strict(matches: &ArgMatches<'_>) -> bool
     ensures { result ≡ do_lax_and_strict_clash (rows_of (found_of matches.now)) }
 {
     is_in_words(matches, "lax") && is_in_words(matches, "strict")
+}
+
+/// Whether a picture and JSON are asked for.
+fn picture_clashes_with_json(matches: &ArgMatches<'_>) -> bool
+    ensures { result ≡ do_picture_and_json_clash (rows_of (found_of matches.now)) }
+{
+    is_in_words(matches, "svg") && is_in_words(matches, "json")
 }
 
 /// Whether a value comes from the words, and isn't a default.
@@ -127,6 +134,9 @@ pub(crate) fn option_clash_of(name: &str, matches: &ArgMatches<'_>) -> Option<&'
     }
     if lax_clashes_with_strict(matches) {
         return Some("the argument '--lax' cannot be used with '--strict'");
+    }
+    if picture_clashes_with_json(matches) {
+        return Some("the argument '--svg' cannot be used with '--json'");
     }
     if name != "explain" {
         return None;

@@ -19,7 +19,7 @@ use crate::final_words::final_words;
 use crate::misuse::{misuse_by_exclusion, misuse_by_unread_value, with_misuse_tip};
 use crate::options::{
     Asked, DEFAULT_MOST, DEFAULT_SEEDS, DEFAULT_TRIES, DrawOptions, ExplainOptions, ExploreOptions,
-    FollowOptions, MOST_RACES, MOST_TOP, MOST_TRACE_PROCESSORS, Options, OutcomeDetail,
+    FollowOptions, MOST_JOBS, MOST_RACES, MOST_TOP, MOST_TRACE_PROCESSORS, Options, OutcomeDetail,
     PagesOptions, SampleOptions, ShowOptions, TellOptions, TraceLocksets, TraceModel, TraceOptions,
 };
 use crate::page_words::{default_page_sizes, page_sizes};
@@ -413,6 +413,7 @@ fn command_line_sample_options(
         seeds: command_line_seeds(matches),
         outcomes: command_line_detail(matches),
         ticket: command_line_wants_ticket(matches),
+        jobs: command_line_size(matches, "jobs", MOST_JOBS),
         json: command_line_wants_json(matches),
     })
 }
@@ -529,6 +530,7 @@ fn command_line_pages_options(
         page_words,
         top: command_line_size(matches, "top", MOST_TOP),
         eager: command_line_wants_eager(matches),
+        svg: command_line_wants_svg(matches),
         json: command_line_wants_json(matches),
     })
 }
@@ -668,12 +670,12 @@ fn command_line_study_answer(
 /// `lrc step [FILE] [--seed N | --schedule S] [--lock KIND] [--journal]`,
 /// `lrc explain [FILE] [--seed N | --schedule S] [--lock KIND] [--svg | --html] [--state] [--events A..B] [--processors P,..]`,
 /// `lrc explain [FILE] --trace [--model NAME] [--strict] [--lax] [--unfinished]` with the same to say what is shown,
-/// `lrc sample [FILE] [--seeds N] [--lock KIND] [--outcomes WHAT] [--json]`,
+/// `lrc sample [FILE] [--seeds N] [--lock KIND] [--outcomes WHAT] [--jobs N] [--json]`,
 /// `lrc explore [FILE] [--most N] [--until A=V,..] [--outcomes WHAT] [--json]`,
 /// `lrc check [FILE] [--model NAME] [--strict] [--lax] [--unfinished] [--race-is-error] [--locksets WHICH] [--json]` with
 /// `[--program [--most N] [--suppress FILE]]` for all races,
 /// `lrc draw [PATTERN] [--seed N] [--processors N] [--pages N] [--words N] [--locks N] [--flags N] [--length N]`,
-/// `lrc follows [FILE] [TRACE]` or `lrc pages [FILE] [--page-words W,..] [--top N] [--eager] [--json]`.
+/// `lrc follows [FILE] [TRACE]` or `lrc pages [FILE] [--page-words W,..] [--top N] [--eager] [--svg | --json]`.
 ///
 /// # Errors
 ///

@@ -178,6 +178,9 @@ pub(crate) const SCHEDULE: &str =
 pub(crate) const SEEDS: &str =
     "runs it in rounds, and by the turns that the seeds 0 to N - 1 draw; N is up to 4294967295";
 
+pub(crate) const JOBS: &str =
+    "makes up to N runs beside each other, on threads; the answer is the same, and N is up to 64";
+
 pub(crate) const MOST: &str =
     "gives up after N states, or N beginnings of histories if the script races; N is up to 4294967295";
 
@@ -303,6 +306,10 @@ pub(crate) const TOP: &str =
 
 /// What `--eager` of `pages` gives.
 pub(crate) const EAGER: &str = "also tells of each size what eager release consistency would cost";
+
+/// What `--svg` of `pages` gives.
+pub(crate) const PAGES_SVG: &str =
+    "prints a picture, as an SVG file: messages and words by page size, and which processors access the pages that are fetched most";
 
 /// What is printed of a trace on pages.
 pub(crate) const PAGES: &str =

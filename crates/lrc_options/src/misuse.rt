@@ -7,7 +7,7 @@ use clap::{ArgMatches, Command, Error};
 use std::alloc::{AllocError, Global};
 
 /// Each command with each option that it has. Of the commands that have an option the first one is named.
-const OPTIONS: [(&str, &str); 49] = [
+const OPTIONS: [(&str, &str); 50] = [
     ("run", "--tries"),
     ("run", "--lock"),
     ("run", "--journal"),
@@ -46,6 +46,7 @@ const OPTIONS: [(&str, &str); 49] = [
     ("check", "--unfinished"),
     ("explain", "--unfinished"),
     ("sample", "--outcomes"),
+    ("sample", "--jobs"),
     ("draw", "--seed"),
     ("draw", "--processors"),
     ("draw", "--pages"),

@@ -69,6 +69,8 @@ pub struct PagesOptions {
     pub top: Option<u64>,
     /// Whether it is also told what eager release consistency would cost.
     pub eager: bool,
+    /// Whether a picture is printed, as an SVG file, and not a text.
+    pub svg: bool,
     /// Whether the answer is JSON, an object a line, and not text.
     pub json: bool,
 }
@@ -146,6 +148,8 @@ pub struct SampleOptions {
     pub outcomes: OutcomeDetail,
     /// Whether the book's lock is the ticket lock, and not the array lock.
     pub ticket: bool,
+    /// How many runs are made beside each other at most, 1 to 64; one after the other if None.
+    pub jobs: Option<u64>,
     /// Whether the answer is JSON, an object a line, and not text.
     pub json: bool,
 }
@@ -221,6 +225,9 @@ pub enum TraceModel {
 
 /// The most pages of each size that may be asked for.
 pub(crate) const MOST_TOP: u64 = 1000;
+
+/// The most runs that may be made beside each other.
+pub(crate) const MOST_JOBS: u64 = 64;
 
 /// The most races that may be asked for.
 pub(crate) const MOST_RACES: u64 = 1000;

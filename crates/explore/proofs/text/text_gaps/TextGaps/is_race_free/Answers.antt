@@ -14,8 +14,8 @@ none_told : (words : List UnguardedWord) (w : ℕ) → length words ≡ 0 → Ha
 none_told [] w none told = joined_list_has-nil told.told told.has
 none_told (x ∷ words) w none told = omega arith
 
-pub returns : goal.returns
-returns c = λ yes s lawful gaps.
+pub returns-clause-free : goal.returns-clause-free
+returns-clause-free c = λ yes s lawful gaps.
     let words = c.args.self.now.words in
     let size = words.ok.0 in
     let none : length words.items ≡ 0 = search rules in
