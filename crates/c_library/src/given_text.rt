@@ -6,7 +6,7 @@ ghost use Rattle.c_library.specs.Prelude.{IsCallFaultCode, IsGivenTextTold, IsGi
 use crate::call_fault::CallFault;
 use crate::told_exploration::{ToldExploration, told_exploration};
 use crate::unexplored::{ToldScriptFault, Unexplored, unexplored_script_fault};
-use explore::{Detail, Silent, explore, explored_by_text};
+use explore::{Detail, Silent, explore};
 use lrc_script::fault::ScriptFault;
 use lrc_script::script::{Script, parse};
 use std::alloc::Global;
@@ -34,8 +34,7 @@ fn explore_given_text(
 {
     let script = script_of_given_text(alloc, bytes)?;
     let found = explore(alloc, &script, Detail::Words, most, &mut Silent)?;
-    let known = explored_by_text(alloc, &script, found)?;
-    Ok(told_exploration(&known))
+    Ok(told_exploration(&found))
 }
 
 /// Looks at all schedules of the script with this text, at `most` states or as many as fit, and writes what was found; answers 0.

@@ -1,11 +1,17 @@
 -- The accesses of a word as they are noted, and that a word is guarded of which no two are open.
 use Rattle.std.proofs.Common.{ℕ, ◌≡◌, ◌≢◌, ◌+◌, ◌<◌, ◌≤◌, ◌⊎◌, inl, inr, Bool, false, IsTrue, List, [], ◌∷◌, ◌++◌, Some, length, slice_get, refl, sym, ap, subst, ◌∙◌, arith}
 use Rattle.std.specs.Global.{Vec}
-use Rattle.std.proofs.lemmas.Bool.{cases_eq, false≢true}
+use Rattle.std.proofs.lemmas.Bool.{cases_eq, cases_lt, false≢true}
 use Rattle.std.proofs.lemmas.Option.{same_Some, slice_get_within}
 use Rattle.base.specs.InOrderOnce.{Has, InOrder}
 use Rattle.base.proofs.JoinedLists.{joined_list_has-append, joined_list_has-cons, joined_list_has-nil, joined_list_in_order-append, joined_list_in_order-nil, joined_list_in_order_single}
+use Rattle.lrc_script.specs.Plan.{Plan}
+use Rattle.lrc_script.specs.Lawful.{plan_addresses}
 use Rattle.explore.specs.declared.prefixes.script_call.ScriptCall.{ScriptCall}
+use Rattle.explore.specs.Machines.{AreLawfulMachineSteps}
+use Rattle.explore.specs.Prefixes.FlatBeginnings.{AreFlatBeginningsRaceFree}
+use Rattle.explore.proofs.Locksets.TextGuardLaw.{text_guard_law}
+use Rattle.explore.proofs.Locksets.Noted.{lockset_noted_address_within, lockset_noted_rows_within, lockset_noted_unused_guarded}
 use Rattle.explore.specs.declared.text.text_accesses.TextAccess.{TextAccess}
 use Rattle.explore.specs.declared.text.unguarded_words.UnguardedWord.{UnguardedWord}
 use Rattle.explore.specs.TextGuards.AreApartByText.{locked as apart_locked}
@@ -189,3 +195,13 @@ unguarded_words_all_told rows guarded words n told all = record {
   others = λ w lt. told.others w (omega arith);
   rising = told.rising;
 }
+
+-- where each word of the script's is guarded, no beginning races
+pub unguarded_words_none_race_free : (s : Plan) (rows : List (Vec ScriptCall)) → AreLawfulMachineSteps s rows
+    → ((w : ℕ) → w < plan_addresses s → IsGuardedByText rows w) → AreFlatBeginningsRaceFree s
+unguarded_words_none_race_free s rows lawful guarded = text_guard_law s rows lawful (λ w. elim (cases_lt w (plan_addresses s)) [
+  | inl lt ↦ guarded w lt
+  | inr past ↦ lockset_noted_unused_guarded rows w (λ p row i step row_at at address.
+      let within = lockset_noted_address_within (plan_addresses s) w step (lockset_noted_rows_within s rows lawful p row row_at i step at) address in
+      omega arith)
+])

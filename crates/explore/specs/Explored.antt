@@ -82,16 +82,6 @@ explored_settles _ _ all = false
 abbrev pub is_explored_settled : Explored → Bool
 is_explored_settled answer = explored_settles answer.verdict answer.hanging answer.are_all
 
--- what was found, where the script is known to be race-free
-abbrev pub explored_race_free : Explored → Explored
-explored_race_free explored = record {
-  states = explored.states;
-  verdict = verdict.RaceFree;
-  hanging = explored.hanging;
-  outcomes = explored.outcomes;
-  are_all = explored.are_all;
-}
-
 -- what an answer by this detail says, if so many states were asked for: the script has as many as were found, which are no more than
 -- those to be looked at and what comes next after one; each answer is true; and one is open only if there are more
 -- states than were asked for, or than fit

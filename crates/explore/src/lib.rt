@@ -61,6 +61,6 @@ pub use state::wait_code::ProcessorNumber;
 pub use state::waits::Waiting;
 pub use text::lock_ranks::ranked_locks_law;
 pub use text::text_accesses::TextAccess;
-pub use text::text_gaps::{TextGaps, explored_by_text, text_gaps};
+pub use text::text_gaps::{TextGaps, text_gaps};
 pub use text::unguarded_words::UnguardedWord;
 pub use text::unranked_locks::{TextAsk, TextWait, UnrankedLocks};

@@ -23,6 +23,7 @@ ghost use Rattle.explore.specs.FlatSearch.{AreFlatSearchPlaces, IsFlatSearchHang
 ghost use Rattle.explore.specs.declared.search.Met.{Met as AMet};
 ghost use Rattle.explore.specs.FlatSearchEnds.{IsFlatSearchEnd, IsFlatSearchedThrough, IsMetByFlatSearch};
 ghost use Rattle.explore.specs.NotedOutcomes.{IsNotedOutcome, noted_outcomes};
+ghost use Rattle.explore.specs.TextGuards.{AreGuardedByText};
 ghost use Rattle.explore.specs.Trials.{AreTrialOutcomes, AreTrials, trial_outcome};
 
 pub mod free_choice;
@@ -55,6 +56,7 @@ use crate::state::room::state_room_at_most;
 use crate::state::wait_code::ProcessorNumber;
 use crate::text::facts::{TextFacts, text_facts};
 use crate::text::guards::are_all_guarded;
+use crate::text::unguarded_words::are_all_kept_apart;
 use indexmap::IndexMap;
 use lrc_script::script::Script;
 use std::alloc::{AllocError, Global};
@@ -88,6 +90,13 @@ pub struct SearchEnd {
     pub met: Option<Met>,
     /// Whether all states were looked at.
     pub through: bool,
+}
+
+impl SearchEnd {
+    /// Whether the search was given up: nothing was met, and not all states were looked at.
+    fn is_given_up(self) -> bool {
+        self.met.is_none() && !self.through
+    }
 }
 
 /// What a search has found but for outcomes.
@@ -126,6 +135,29 @@ fn is_search_through(met: Option<Met>, states: usize, most: usize) -> bool
         Some(_) => false,
         None => states <= most,
     }
+}
+
+/// Whether the text shows that no schedule races: all words are guarded. If the search was given up, each two accesses are looked
+/// at for that. The only error is running out of memory.
+fn is_race_free_by_text(
+    alloc: Global,
+    script: &Script,
+    steps: &[Vec<ScriptCall>],
+    guarded: &[bool],
+    given_up: bool,
+) -> Result<bool, AllocError>
+    requires steps { AreLawfulMachineSteps (plan_of script.now) steps.now }
+    requires long { length guarded.now ≡ plan_addresses (plan_of script.now) }
+    requires guarded { AreGuardedByText steps.now guarded.now }
+    ensures { IfOk result (λ free. IsTrue free → AreFlatBeginningsRaceFree (plan_of script.now)) }
+{
+    if are_all_guarded(guarded) {
+        return Ok(true);
+    }
+    if !given_up {
+        return Ok(false);
+    }
+    are_all_kept_apart(alloc, steps, guarded)
 }
 
 /// The race that a trial met, if one did, as the verdict of a search that is given up.
@@ -475,7 +507,7 @@ impl Search {
         ensures { IfOk result (AreTrials (plan_of script.now) detail (noted_outcomes self.now.outcomes.entries)) }
     {
         let mut tried = Trials::new(alloc);
-        if end.met.is_some() || end.through {
+        if !end.is_given_up() {
             return Ok(tried);
         }
         tried.try_all(
@@ -552,7 +584,14 @@ impl Search {
             → IsFlatSearchEnd (plan_of script.now) self.old steps.now (λ _. ⊥) (state_room_at_most (plan_of script.now) detail most) end
             → IsExplored (plan_of script.now) detail most answer) }
     {
-        let race_free = end.through | are_all_guarded(&facts.guarded);
+        let by_text = is_race_free_by_text(
+            alloc,
+            script,
+            steps,
+            &facts.guarded,
+            end.is_given_up(),
+        )?;
+        let race_free = end.through | by_text;
         let tried = self.trials_of_given_up(alloc, script, steps, detail, end, race_free, trials)?;
         self.answer_with(alloc, script, steps, end, race_free, tried)
     }

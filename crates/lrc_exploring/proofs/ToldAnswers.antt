@@ -4,11 +4,8 @@ use Rattle.std.specs.Prelude.{IfOk, min}
 use Rattle.std.specs.Io.KnownBytes.{Keeps}
 use Rattle.std.proofs.KnownBytes.{Keeps-refl}
 use Rattle.explore.specs.EndingWords.{IsExploredUntil}
-use Rattle.explore.specs.Explored.{IsExplored, explored_race_free, is_explored_settled}
-use Rattle.explore.proofs.Explored.{explored_race_free_known, explored_unsettled}
+use Rattle.explore.specs.Explored.{IsExplored, is_explored_settled}
 use Rattle.explore.specs.declared.outcomes.answer.Explored.{Explored}
-use Rattle.explore.specs.declared.outcomes.answer.Verdict.TheVariants.{Undecided}
-use Rattle.explore.specs.Prefixes.FlatBeginnings.{AreFlatBeginningsRaceFree}
 use Rattle.explore.specs.declared.outcomes.telling.Detail.{Detail}
 use Rattle.explore.specs.declared.outcomes.showing.ExploredUntil.{ExploredUntil}
 use Rattle.lrc_explore.specs.ExploreTexts.{ExploreTextUnwritten}
@@ -36,20 +33,6 @@ told_schedules o s d most explored all detail within is given_up = record {
   is = subst (λ x. IsExplored s x most explored) detail is;
   given_up =
       subst (λ x. is_explored_settled explored ≡ false → (state_room_at_most s x o.most < explored.states) ⊎ IsHangEnough o most explored) detail given_up;
-}
-
--- what is so of the schedules is so where the script is also known to be race-free
-pub told_race_free : (o : ExploreOptions) (s : Plan) (explored : Explored) → AreSchedulesExplored o s explored → explored.verdict ≡ Undecided
-    → AreFlatBeginningsRaceFree s → AreSchedulesExplored o s (explored_race_free explored)
-told_race_free o s explored told undecided free = record {
-  all = told.all;
-  most = told.most;
-  within = told.within;
-  is = explored_race_free_known s (explore_detail o.outcomes) told.most explored told.is undecided free;
-  given_up = λ opens. elim (told.given_up (explored_unsettled explored undecided)) [
-    | inl past ↦ inl past
-    | inr hang ↦ inr (record { default = hang.default; first = hang.first; hangs = hang.hangs })
-  ];
 }
 
 -- an answer of schedules is one to what the options ask for

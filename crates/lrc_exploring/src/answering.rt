@@ -5,7 +5,6 @@ ghost use Rattle.lrc_script.specs.Prelude.{IsLawful, Plan, plan_of};
 ghost use Rattle.explore.specs.AllowedRuns.{AreAllowedRunOutcomes};
 ghost use Rattle.explore.specs.AllowedUntil.{IsAllowedUntil};
 ghost use Rattle.explore.specs.MemoryShown.{IsMemoryShown};
-ghost use Rattle.explore.specs.TextGaps.{AreTextGaps};
 ghost use Rattle.lrc_options.specs.declared.options.ExploreOptions.{ExploreOptions as Options};
 ghost use Rattle.lrc_commands.specs.Prelude.{IsCommandExitStatusOfInput};
 ghost use Rattle.lrc_exploring.specs.Prelude.{AreSchedulesExplored, IsExploreAnswerTo, IsRacyShowing, IsRacyVerdict, IsScheduleAnswerTo, explore_detail};
@@ -15,8 +14,8 @@ use crate::stages::{explore_detail, schedules_explored};
 use crate::unshown::refuse_unshown;
 use conformance::ScriptRunner;
 use explore::{
-    AllowedOutcomes, AllowedUntil, Explored, Hanging, MemoryShown, Progress, Showing, TextGaps,
-    Verdict, allowed_outcomes, allowed_until, explore_until, text_gaps, what_memory_shows,
+    AllowedOutcomes, AllowedUntil, Explored, Hanging, MemoryShown, Progress, Showing, Verdict,
+    allowed_outcomes, allowed_until, explore_until, text_gaps, what_memory_shows,
 };
 use lrc_commands::Study;
 use lrc_commands::fault::CommandFault;
@@ -111,23 +110,20 @@ fn what_rules_allow_until<T: ScriptRunner, R: Wait, P: Progress>(
     }
 }
 
+/// Whether it is open whether a schedule races.
+fn is_undecided(verdict: &Verdict) -> bool {
+    match verdict {
+        Verdict::Undecided => true,
+        _ => false,
+    }
+}
+
 /// Whether it is open whether a schedule hangs.
 fn is_hang_undecided(hanging: &Hanging) -> bool {
     match hanging {
         Hanging::Undecided => true,
         _ => false,
     }
-}
-
-/// What was found of a script that no schedule was found to race, with what its text leaves open. If that is no word, it is race-free.
-fn answer_by_gaps(explored: Explored, gaps: TextGaps) -> ExploreAnswer
-    ensures { (o : Options) (s : Plan) → IsLawful s → AreSchedulesExplored o s explored → (¬ IsRacyVerdict explored.verdict)
-        → AreTextGaps s gaps → IsScheduleAnswerTo o s result }
-{
-    if explored.verdict.is_undecided() && gaps.is_race_free() {
-        return ExploreAnswer::Open(explored.known_race_free(), gaps);
-    }
-    ExploreAnswer::Open(explored, gaps)
 }
 
 /// What was found of a script that no schedule was found to race, and what its text leaves open if something is.
@@ -140,11 +136,11 @@ fn answer_with_gaps(
     ensures { IfOk result (λ answer. (o : Options) → AreSchedulesExplored o (plan_of script.now) explored
         → (¬ IsRacyVerdict explored.verdict) → IsScheduleAnswerTo o (plan_of script.now) answer) }
 {
-    if !explored.verdict.is_undecided() && !is_hang_undecided(&explored.hanging) {
+    if !is_undecided(&explored.verdict) && !is_hang_undecided(&explored.hanging) {
         return Ok(ExploreAnswer::Schedules(explored));
     }
     match text_gaps(alloc, script) {
-        Ok(gaps) => Ok(answer_by_gaps(explored, gaps)),
+        Ok(gaps) => Ok(ExploreAnswer::Open(explored, gaps)),
         Err(error) => Err(error),
     }
 }

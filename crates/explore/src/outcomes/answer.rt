@@ -1,7 +1,6 @@
 //! What there is to say of all runs of a script on one flat memory.
-ghost use Rattle.std.specs.Prelude.{◌≡◌, ◌↔◌, IsTrue};
-ghost use Rattle.explore.specs.Explored.{explored_race_free, is_explored_settled};
-ghost use Rattle.explore.specs.declared.outcomes.answer.Verdict.TheVariants.{Undecided};
+ghost use Rattle.std.specs.Prelude.{◌≡◌};
+ghost use Rattle.explore.specs.Explored.{is_explored_settled};
 
 use crate::state::wait_code::ProcessorNumber;
 use journal::{Event, Kind};
@@ -87,39 +86,7 @@ pub fn explored_outcome_parts(
     }
 }
 
-impl Verdict {
-    /// Whether it is open whether the script races.
-    pub fn is_undecided(&self) -> bool
-        ensures { IsTrue result ↔ self.now ≡ Undecided }
-    {
-        match self {
-            Verdict::Undecided => true,
-            _ => false,
-        }
-    }
-}
-
 impl Explored {
-    /// The same of a script that is known to be race-free.
-    pub fn known_race_free(self) -> Explored
-        ensures { result ≡ explored_race_free self }
-    {
-        let Explored {
-            states,
-            hanging,
-            outcomes,
-            are_all,
-            ..
-        } = self;
-        Explored {
-            states,
-            verdict: Verdict::RaceFree,
-            hanging,
-            outcomes,
-            are_all,
-        }
-    }
-
     /// Whether nothing is open: the script races, or it doesn't and all is known of its hangs and outcomes.
     pub fn is_settled(&self) -> bool
         ensures { result ≡ is_explored_settled self.now }

@@ -223,7 +223,7 @@ fn first_open_text_access(accesses: &[TextAccess], access: &TextAccess) -> Optio
 }
 
 /// The first two of these that aren't kept apart.
-fn open_text_accesses(accesses: &[TextAccess]) -> Option<(TextAccess, TextAccess)>
+pub fn open_text_accesses(accesses: &[TextAccess]) -> Option<(TextAccess, TextAccess)>
     ensures { MatchOption result ((x y : AnAccess) → Has accesses.now x → Has accesses.now y → AreTextAccessesApart x y)
         (λ pair. Has accesses.now pair.0 × Has accesses.now pair.1 × AreTextAccessesOpen pair.0 pair.1) }
 {

@@ -1,18 +1,12 @@
 //! What the text of a script leaves open.
-ghost use Rattle.std.specs.Prelude.{◌≡◌, ◌≢◌, ◌↔◌, ℕ, [], IfOk, IsTrue};
+ghost use Rattle.std.specs.Prelude.{IfOk};
 ghost use Rattle.lrc_script.specs.Prelude.{IsLawful, Plan, plan_of};
-ghost use Rattle.explore.specs.Prefixes.Prelude.{AreFlatBeginningsRaceFree};
-ghost use Rattle.explore.specs.Explored.{IsExplored};
 ghost use Rattle.explore.specs.Machines.{AreLawfulMachineSteps};
 ghost use Rattle.explore.specs.TextGaps.{AreTextGaps};
 ghost use Rattle.explore.specs.TextGuards.{AreGuardedByText};
 ghost use Rattle.explore.specs.UnguardedWords.{AreUnguardedWords};
 ghost use Rattle.explore.specs.UnrankedLocks.{AreUnrankedLocks};
-ghost use Rattle.explore.specs.declared.outcomes.answer.Verdict.TheVariants.{Undecided};
-ghost use Rattle.explore.specs.declared.outcomes.telling.Detail.{Detail as ADetail};
-ghost use Rattle.explore.specs.declared.text.text_gaps.TextGaps.{TextGaps as SomeGaps};
 
-use crate::outcomes::answer::Explored;
 use crate::prefixes::{ScriptCall, script_calls_of_all};
 use crate::text::flag_orders::FlagOrders;
 use crate::text::guards::guarded_words;
@@ -69,36 +63,4 @@ pub fn text_gaps(alloc: Global, script: &Script) -> Result<TextGaps, AllocError>
 {
     let steps = script_calls_of_all(alloc, script)?;
     text_gaps_of(alloc, script, &steps)
-}
-
-impl TextGaps {
-    /// Whether the text leaves no word open. Then no schedule races.
-    pub fn is_race_free(&self) -> bool
-        ensures free { IsTrue result → (s : Plan) → IsLawful s → AreTextGaps s self.now → AreFlatBeginningsRaceFree s }
-        ensures none { IsTrue result ↔ self.now.words.items ≡ [] }
-    {
-        self.words.is_empty()
-    }
-}
-
-/// What was found of the script; it never races if its text leaves no word open. The only error is running out of memory.
-pub fn explored_by_text(
-    alloc: Global,
-    script: &Script,
-    explored: Explored,
-) -> Result<Explored, AllocError>
-    requires { IsLawful (plan_of script.now) }
-    ensures explored { IfOk result (λ known. (d : ADetail) (most : ℕ) → IsExplored (plan_of script.now) d most explored
-        → IsExplored (plan_of script.now) d most known) }
-    ensures open { IfOk result (λ known. known.verdict ≡ Undecided → (gaps : SomeGaps) × AreTextGaps (plan_of script.now) gaps × gaps.words.items ≢ []) }
-{
-    if !explored.verdict.is_undecided() {
-        return Ok(explored);
-    }
-    let gaps = text_gaps(alloc, script)?;
-    if gaps.is_race_free() {
-        Ok(explored.known_race_free())
-    } else {
-        Ok(explored)
-    }
 }

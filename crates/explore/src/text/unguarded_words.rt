@@ -10,7 +10,9 @@ ghost use Rattle.explore.specs.UnguardedWords.{AreUnguardedWords, IsUnguardedWor
 
 use crate::prefixes::ScriptCall;
 use crate::text::flag_orders::FlagOrders;
-use crate::text::text_accesses::{TextAccess, text_accesses_of, told_text_accesses};
+use crate::text::text_accesses::{
+    TextAccess, open_text_accesses, text_accesses_of, told_text_accesses,
+};
 use std::alloc::{AllocError, Global};
 
 /// A word, and two accesses of it that neither a barrier nor a lock keeps apart: two that no flag is known to keep apart either, if
@@ -69,4 +71,45 @@ pub fn unguarded_words(
         }
     }
     Ok(words)
+}
+
+/// Whether the text shows the word to be guarded, if it shows these. The only error is running out of memory.
+fn is_kept_apart(
+    alloc: Global,
+    steps: &[Vec<ScriptCall>],
+    guarded: &[bool],
+    word: usize,
+) -> Result<bool, AllocError>
+    requires lawful { (s : Plan) × AreLawfulMachineSteps s steps.now }
+    requires guarded { AreGuardedByText steps.now guarded.now }
+    requires within { word < length guarded.now }
+    ensures { IfOk result (λ apart. IsTrue apart → IsGuardedByText steps.now word) }
+{
+    if guarded[word] {
+        return Ok(true);
+    }
+    let accesses = text_accesses_of(alloc, word, steps)?;
+    match open_text_accesses(&accesses) {
+        Some(_) => Ok(false),
+        None => Ok(true),
+    }
+}
+
+/// Whether the text shows each word to be guarded, if it shows these: `unguarded_words` has none then. The only error is running
+/// out of memory.
+pub fn are_all_kept_apart(
+    alloc: Global,
+    steps: &[Vec<ScriptCall>],
+    guarded: &[bool],
+) -> Result<bool, AllocError>
+    requires lawful { (s : Plan) × AreLawfulMachineSteps s steps.now }
+    requires guarded { AreGuardedByText steps.now guarded.now }
+    ensures { IfOk result (λ apart. IsTrue apart → (w : ℕ) → w < length guarded.now → IsGuardedByText steps.now w) }
+{
+    for word in 0..guarded.len() {
+        if !is_kept_apart(alloc, steps, guarded, word)? {
+            return Ok(false);
+        }
+    }
+    Ok(true)
 }
