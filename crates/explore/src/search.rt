@@ -55,7 +55,7 @@ use crate::state::found_states::FoundStates;
 use crate::state::room::state_room_at_most;
 use crate::state::wait_code::ProcessorNumber;
 use crate::text::facts::{TextFacts, text_facts};
-use crate::text::guards::are_all_guarded;
+use crate::text::guards::{are_all_guarded, guarded_words_with_walk};
 use crate::text::unguarded_words::are_all_kept_apart;
 use indexmap::IndexMap;
 use lrc_script::script::Script;
@@ -157,7 +157,8 @@ fn is_race_free_by_text(
     if !given_up {
         return Ok(false);
     }
-    are_all_kept_apart(alloc, steps, guarded)
+    let known = guarded_words_with_walk(alloc, script, steps)?;
+    are_all_kept_apart(alloc, steps, &known)
 }
 
 /// The race that a trial met, if one did, as the verdict of a search that is given up.

@@ -299,8 +299,9 @@ fn join_guarded(words: &mut Vec<bool>, others: &[bool])
     }
 }
 
-/// Of each word of the script, whether the text shows it to be guarded. The only error is running out of memory.
-pub fn guarded_words(
+/// Of each word of the script, whether locks and barriers, or a walk through the text, show it to be guarded. The only error is
+/// running out of memory.
+pub fn guarded_words_with_walk(
     alloc: Global,
     script: &Script,
     steps: &[Vec<ScriptCall>],
@@ -310,12 +311,29 @@ pub fn guarded_words(
     ensures guarded { IfOk result (λ v. AreGuardedByText steps.now v.items) }
 {
     let mut guarded = words_guarded_by_locks(alloc, script, steps)?;
-    if script.flags == 0 || are_all_guarded(&guarded) {
+    if are_all_guarded(&guarded) {
         return Ok(guarded);
     }
     let by_walk = words_guarded_by_walk(alloc, guarded.len(), steps)?;
     join_guarded(&mut guarded, &by_walk);
     Ok(guarded)
+}
+
+/// Of each word of the script, whether the text shows it to be guarded: by a walk too if the script has flags. The only error is
+/// running out of memory.
+pub fn guarded_words(
+    alloc: Global,
+    script: &Script,
+    steps: &[Vec<ScriptCall>],
+) -> Result<Vec<bool>, AllocError>
+    requires { AreLawfulMachineSteps (plan_of script.now) steps.now }
+    ensures long { IfOk result (λ v. vec_len v ≡ plan_addresses (plan_of script.now)) }
+    ensures guarded { IfOk result (λ v. AreGuardedByText steps.now v.items) }
+{
+    if script.flags == 0 {
+        return words_guarded_by_locks(alloc, script, steps);
+    }
+    guarded_words_with_walk(alloc, script, steps)
 }
 
 /// Whether all of these hold.

@@ -9,7 +9,7 @@ ghost use Rattle.explore.specs.UnrankedLocks.{AreUnrankedLocks};
 
 use crate::prefixes::{ScriptCall, script_calls_of_all};
 use crate::text::flag_orders::FlagOrders;
-use crate::text::guards::guarded_words;
+use crate::text::guards::guarded_words_with_walk;
 use crate::text::unguarded_words::{UnguardedWord, unguarded_words};
 use crate::text::unranked_locks::{UnrankedLocks, unranked_locks};
 use lrc_script::script::Script;
@@ -50,7 +50,7 @@ fn text_gaps_of(
     requires { AreLawfulMachineSteps (plan_of script.now) steps.now }
     ensures { IfOk result (AreTextGaps (plan_of script.now)) }
 {
-    let guarded = guarded_words(alloc, script, steps)?;
+    let guarded = guarded_words_with_walk(alloc, script, steps)?;
     let orders = FlagOrders::of(alloc, script, steps)?;
     text_gaps_with(alloc, steps, &guarded, &orders)
 }

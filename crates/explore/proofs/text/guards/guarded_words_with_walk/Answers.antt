@@ -3,7 +3,7 @@ use Rattle.lrc_script.specs.Plan.{plan_of}
 use Rattle.explore.specs.TextWalks.{IsTextWalkable}
 use Rattle.explore.proofs.MachineSteps.{machine_step_rows_few}
 use Rattle.explore.proofs.Locksets.Noted.{lockset_noted_each_few, lockset_noted_rows_within}
-use Rattle.explore.proofs.text.guards.guarded_words.Goals as goal
+use Rattle.explore.proofs.text.guards.guarded_words_with_walk.Goals as goal
 
 pub words_guarded_by_walk-requires-clause-walkable : goal.words_guarded_by_walk-requires-clause-walkable
 words_guarded_by_walk-requires-clause-walkable c =
