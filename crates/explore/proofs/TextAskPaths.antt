@@ -1,14 +1,11 @@
 -- Asks of the text on a path, each of which holds what the one before asks for, and where it comes back to a lock.
-use Rattle.std.proofs.Common.{ℕ, ◌≡◌, ◌+◌, ◌-◌, ◌<◌, ◌≤◌, ◌⊎◌, inl, inr, IsTrue, List, [], ◌∷◌, ◌++◌, suc, Some, drop, length, slice_get, refl, sym, ap, subst, ◌∙◌, arith}
+use Rattle.std.proofs.Common.{ℕ, ◌≡◌, ◌+◌, ◌-◌, ◌<◌, ◌⊎◌, inl, inr, List, [], ◌∷◌, ◌++◌, suc, Some, drop, length, slice_get, sym, ap, subst, ◌∙◌, arith}
 use Rattle.std.specs.Global.{Vec}
 use Rattle.std.proofs.lemmas.List.{length-append, length-drop}
 use Rattle.base.proofs.SlicesAndCounts.{slice_append_cases, slice_get-drop}
 use Rattle.std.proofs.lemmas.Option.{same_Some, slice_get_within}
-use Rattle.base.specs.InOrderOnce.{Has}
 use Rattle.base.proofs.JoinedLists.{joined_list_has-append, joined_list_has-cons, joined_list_has-nil}
-use Rattle.journal.specs.declared.event.Kind.TheVariants.{Acquire}
 use Rattle.explore.specs.declared.prefixes.script_call.ScriptCall.{ScriptCall}
-use Rattle.explore.specs.declared.prefixes.script_call.ScriptCall.TheVariants.{Call}
 use Rattle.explore.specs.declared.text.unranked_locks.TextAsk.{TextAsk}
 use Rattle.explore.specs.UnrankedLocks.{AreTextAsks, AreTextAsksChained, IsTextAsk, IsTextAskCircle}
 

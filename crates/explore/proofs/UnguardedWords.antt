@@ -1,5 +1,5 @@
 -- The accesses of a word as they are noted, and that a word is guarded of which no two are open.
-use Rattle.std.proofs.Common.{ℕ, ◌≡◌, ◌≢◌, ◌+◌, ◌<◌, ◌≤◌, ◌⊎◌, inl, inr, Bool, false, IsTrue, List, [], ◌∷◌, ◌++◌, Some, length, slice_get, refl, sym, ap, subst, ◌∙◌, arith}
+use Rattle.std.proofs.Common.{ℕ, ◌≡◌, ◌≢◌, ◌+◌, ◌<◌, ◌⊎◌, inl, inr, Bool, IsTrue, List, [], ◌∷◌, ◌++◌, Some, length, slice_get, refl, sym, ap, subst, ◌∙◌, arith}
 use Rattle.std.specs.Global.{Vec}
 use Rattle.std.proofs.lemmas.Bool.{cases_eq, cases_lt, false≢true}
 use Rattle.std.proofs.lemmas.Option.{same_Some, slice_get_within}
@@ -17,7 +17,7 @@ use Rattle.explore.specs.declared.text.unguarded_words.UnguardedWord.{UnguardedW
 use Rattle.explore.specs.TextGuards.AreApartByText.{locked as apart_locked}
 use Rattle.explore.specs.TextGuards.{AreApartByText, IsGuardedByText, IsTextGuardedAccessAt, text_guard_departures_at, text_guard_held_at, text_guarded_step_address, text_guarded_step_stores}
 use Rattle.explore.specs.UnguardedWords.AreTextAccessesApart.{own, loaded, phased, locked}
-use Rattle.explore.specs.UnguardedWords.{AreTextAccesses, AreTextAccessesApart, AreTextAccessesOfRow, AreTextAccessesOfRows, AreUnguardedWords, HasTextAccessLike, HasUnguardedWord, IsTextAccess, IsTextAccessLike, IsUnguardedWord}
+use Rattle.explore.specs.UnguardedWords.{AreTextAccessesApart, AreTextAccessesOfRow, AreTextAccessesOfRows, AreUnguardedWords, HasTextAccessLike, HasUnguardedWord, IsTextAccess, IsTextAccessLike, IsUnguardedWord}
 
 -- what is said of it, by what else is known of where it stands
 pub unguarded_words_like_there : (x : TextAccess) (p m n : ℕ) (store : Bool) (h k : ℕ → Bool) → m ≡ n → ((l : ℕ) → h l ≡ k l)

@@ -1,5 +1,5 @@
 -- What the text of a script leaves open: words that it doesn't show to be guarded, and what keeps its locks from being ranked.
-use Rattle.std.specs.Prelude.{ℕ, ◌≡◌, Bool, List, length}
+use Rattle.std.specs.Prelude.{◌≡◌, Bool, List, length}
 use Rattle.std.specs.Global.{Vec}
 use Rattle.lrc_script.specs.Plan.{Plan}
 use Rattle.lrc_script.specs.Lawful.{plan_addresses}

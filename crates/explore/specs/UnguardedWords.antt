@@ -1,5 +1,5 @@
 -- Accesses of a word that neither a barrier nor a lock keeps apart in the script's text.
-use Rattle.std.specs.Prelude.{ℕ, ◌≡◌, ◌≢◌, ◌<◌, ◌⊎◌, Bool, false, IsTrue, List, Some, length, slice_get, slice_index_or}
+use Rattle.std.specs.Prelude.{ℕ, ◌≡◌, ◌≢◌, ◌<◌, ◌⊎◌, Bool, false, IsTrue, List, length, slice_index_or}
 use Rattle.std.specs.Global.{Vec}
 use Rattle.base.specs.InOrderOnce.{Has, InOrder}
 use Rattle.explore.specs.declared.prefixes.script_call.ScriptCall.{ScriptCall}

@@ -4,7 +4,6 @@ use Rattle.std.specs.Global.{Vec}
 use Rattle.journal.specs.declared.event.Kind.TheVariants.{Acquire}
 use Rattle.base.specs.InOrderOnce.{Has}
 use Rattle.explore.specs.declared.prefixes.script_call.ScriptCall.{ScriptCall}
-use Rattle.explore.specs.declared.prefixes.script_call.ScriptCall.TheVariants.{Call}
 use Rattle.explore.specs.declared.text.unranked_locks.TextAsk.{TextAsk}
 use Rattle.explore.specs.declared.text.unranked_locks.TextWait.{TextWait}
 use Rattle.explore.specs.declared.text.unranked_locks.UnrankedLocks.{UnrankedLocks}

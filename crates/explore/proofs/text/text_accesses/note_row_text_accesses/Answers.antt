@@ -1,10 +1,8 @@
-use Rattle.std.proofs.Common.{◌≡◌, ◌<◌, length, inl, inr, Some, slice_get, refl, sym, subst, ◌∙◌, add-one, arith}
-use Rattle.std.specs.Prelude.{vec_len}
+use Rattle.std.proofs.Common.{◌<◌, length, inl, inr, sym, subst, ◌∙◌, arith}
 use Rattle.std.specs.Global.{Vec}
-use Rattle.std.proofs.lemmas.Option.{same_Some, slice_get-get_or}
+use Rattle.std.proofs.lemmas.Option.{same_Some}
 use Rattle.explore.specs.declared.prefixes.script_call.ScriptCall.{ScriptCall}
 use Rattle.explore.specs.TextGuards.{text_guard_departures_at, text_guard_held_at, text_guarded_step_stores}
-use Rattle.explore.specs.UnguardedWords.{AreTextAccessesOfRow}
 use Rattle.explore.proofs.MachineSteps.{machine_step_read_at}
 use Rattle.explore.proofs.Locksets.Noted.{lockset_noted_holds_step, lockset_noted_phase_small, lockset_noted_phase_step}
 use Rattle.explore.proofs.UnguardedWords.{unguarded_words_are_next, unguarded_words_has_there, unguarded_words_like_there, unguarded_words_row_next}

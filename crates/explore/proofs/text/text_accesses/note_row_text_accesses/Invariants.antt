@@ -1,4 +1,4 @@
-use Rattle.std.proofs.Common.{ℕ, ◌≡◌, ◌<◌, Some, slice_get}
+use Rattle.std.proofs.Common.{ℕ, ◌≡◌}
 use Rattle.base.specs.InOrderOnce.{Has}
 use Rattle.explore.specs.declared.text.text_accesses.TextAccess.{TextAccess}
 use Rattle.explore.specs.TextGuards.{text_guard_departures_at, text_guard_held_at}

@@ -5,7 +5,7 @@ use Rattle.explore.proofs.text.unguarded_words.are_all_kept_apart.Goals as goal
 
 pub loop-word-preserved : goal.loop-word-preserved
 loop-word-preserved c = λ w lt. elim (cases_eq w c.loop-word.word) [
-  | inl is ↦ subst (IsGuardedByText c.args.steps.now) (sym is) (c.in_ok-is_kept_apart.ensures c.if-not-is_kept_apart.false)
+  | inl is ↦ subst (IsGuardedByText c.args.steps.now) (sym is) (c.in_ok-is_kept_apart.ensures c.if-not-branch.false)
   | inr isnt ↦ c.loop-word.invariant w (omega arith)
 ]
 

@@ -18,7 +18,7 @@ text_accesses_of-requires-clause-within c =
 pub text_accesses_of-requires-clause-few : goal.text_accesses_of-requires-clause-few
 text_accesses_of-requires-clause-few c = lockset_noted_each_few c.requires.lawful.0 c.args.steps.now c.requires.lawful.1
 
-pub returns-in-None : goal.returns-in-None
-returns-in-None c = λ _.
+pub returns : goal.returns
+returns c = λ _.
     unguarded_words_guarded c.args.steps.now c.args.word c.in_ok-accesses.accesses.items c.in_ok-accesses.ensures.noted
     (subst (λ xs. (x y : TextAccess) → Has xs x → Has xs y → AreTextAccessesApart x y) c.deref.ensures.value c.in-None.ensures)

@@ -1,4 +1,4 @@
-use Rattle.std.proofs.Common.{◌≡◌, sym, subst, ap}
+use Rattle.std.proofs.Common.{subst}
 use Rattle.lrc_script.specs.Lawful.{plan_addresses}
 use Rattle.base.specs.InOrderOnce.{Has}
 use Rattle.explore.specs.declared.text.text_accesses.TextAccess.{TextAccess}

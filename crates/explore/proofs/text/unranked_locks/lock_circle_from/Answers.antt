@@ -1,7 +1,6 @@
-use Rattle.std.proofs.Common.{◌≡◌, ◌++◌, ◌∷◌, [], List, Some, drop, slice_get, take, sym, subst, ap, ◌∙◌}
+use Rattle.std.proofs.Common.{◌++◌, ◌∷◌, [], drop, slice_get, take, sym, subst, ap, ◌∙◌}
 use Rattle.std.proofs.Math.Seq.{take-length}
 use Rattle.std.proofs.lemmas.List.{length-drop}
-use Rattle.explore.specs.declared.text.unranked_locks.TextAsk.{TextAsk}
 use Rattle.explore.specs.UnrankedLocks.{AreTextAsks, AreTextAsksChained, IsTextAskCircle}
 use Rattle.explore.proofs.TextAskPaths.{EndsTextAskPath, text_ask_path_chained_next, text_ask_path_circle, text_ask_path_each_next, text_ask_path_ends_next}
 use Rattle.explore.proofs.text.unranked_locks.lock_circle_from.Goals as goal

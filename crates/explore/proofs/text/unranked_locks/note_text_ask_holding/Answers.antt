@@ -1,5 +1,4 @@
-use Rattle.std.proofs.Common.{inl, inr, ◌≡◌, IsTrue, false, ap, sym, subst, rules}
-use Rattle.std.specs.Prelude.{slice_index_or}
+use Rattle.std.proofs.Common.{inl, inr, IsTrue, ap, sym, subst, rules}
 use Rattle.std.proofs.lemmas.Result.{on_ok_weaker}
 use Rattle.explore.specs.declared.text.unranked_locks.TextAsk.{TextAsk}
 use Rattle.explore.specs.WalkedWords.{walked_row_holds}

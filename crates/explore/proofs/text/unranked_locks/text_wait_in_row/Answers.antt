@@ -1,4 +1,4 @@
-use Rattle.std.proofs.Common.{◌<◌, length, sym, subst, ap, ◌∙◌, arith}
+use Rattle.std.proofs.Common.{◌<◌, length, sym, ◌∙◌, arith}
 use Rattle.explore.proofs.MachineSteps.{machine_step_read_at}
 use Rattle.explore.proofs.Locksets.Noted.{lockset_noted_holds_step, lockset_noted_phase_small, lockset_noted_phase_step}
 use Rattle.explore.proofs.text.unranked_locks.text_wait_in_row.Goals as goal
