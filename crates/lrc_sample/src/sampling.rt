@@ -1,5 +1,5 @@
 //! A script by many schedules.
-ghost use Rattle.std.specs.Prelude.{◌≤◌, ◌<◌, ◌+◌, ◌^◌, IfOk, OnOk};
+ghost use Rattle.std.specs.Prelude.{◌≤◌, ◌+◌, ◌^◌, IfOk, OnOk};
 ghost use Rattle.lrc_script.specs.Prelude.{IsLawful, plan_of};
 ghost use Rattle.lrc_sample.specs.Prelude.{CameBySampleRunSeed, AreSampleRunsInMaking, IsSampleOfRuns, tally_place_of_seed};
 
@@ -16,8 +16,9 @@ use std::thread::Threads;
 /// The most runs that are made beside each other.
 const MOST_JOBS: u64 = 64;
 
-/// How many runs each job makes between two looks at what they came to.
-const RUNS_OF_JOB: u64 = 16;
+/// How many runs are made by jobs before what they came to is noted, at most: so many schedules are kept until then. A thread is
+/// started once for its part of these runs.
+const MOST_BATCH: u64 = 256;
 
 /// What the runs of a script came to: a line for each outcome, the most frequent first, and of as frequent ones the one
 /// that came first.
@@ -125,7 +126,6 @@ fn sample_by_jobs<T: ScriptRunner + Sync, R: Threads + Wait + Sync, P: SamplePro
     lines: &mut Vec<TallyLine>,
     progress: &mut P,
 ) -> Result<(), RunFault>
-    requires jobs { 0 < jobs }
     requires lawful { IsLawful (plan_of script.now) }
     requires made { AreSampleRunsInMaking (CameBySampleRunSeed T.followed T.drawn lock) detail (plan_of script.now) 1 lines.old.items }
     ensures { OnOk result (AreSampleRunsInMaking (CameBySampleRunSeed T.followed T.drawn lock) detail (plan_of script.now) (seeds + 1) lines.new.items) }
@@ -134,7 +134,7 @@ fn sample_by_jobs<T: ScriptRunner + Sync, R: Threads + Wait + Sync, P: SamplePro
     let all = u64::from(seeds);
     let mut from = 0;
     while from < all {
-        let to = all.min(from + jobs * RUNS_OF_JOB);
+        let to = all.min(from + MOST_BATCH);
         sample_batch(runs, rt, alloc, detail, script, lock, jobs, from, to, lines)?;
         progress.ran(to + 1);
         from = to;
