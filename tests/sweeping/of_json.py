@@ -32,8 +32,14 @@ class Case:
     def sample(self):
         objects, printed = self.both(self.script.text(), "sample", "--seeds", SEEDS, "--outcomes", "all")
         json_lines.expect_same(json_lines.sample_text(objects), printed)
+        self.sample_by_jobs(printed)
         for it in objects[:-1]:
             self.found.seen["json", "result", it["verdict"]] += 1
+
+    def sample_by_jobs(self, printed):
+        """Three jobs print what one prints, byte for byte."""
+        told = self.program.call(self.script.text(), "sample", "--seeds", SEEDS, "--outcomes", "all", "--jobs", "3")
+        expect((told.status, told.errors, told.output) == (0, "", printed), f"by three jobs: {told} beside {printed}")
 
     def explore(self):
         objects, printed = self.both(self.script.text(), "explore", "--most", MOST)

@@ -20,6 +20,7 @@ use lrc_script::script::Script;
 use std::alloc::Global;
 use std::io::{Read, Write};
 use std::sync::Wait;
+use std::thread::Threads;
 
 /// What outcomes tell, by the options.
 fn sample_command_detail(outcomes: OutcomeDetail) -> SampleDetail
@@ -51,7 +52,12 @@ fn sample_command_writes<W: Write>(
 }
 
 /// Runs a script under the seeds that the options ask for, and writes what that came to.
-fn sample_command_prints<T: ScriptRunner, R: Wait, W: Write, P: SampleProgress>(
+fn sample_command_prints<
+    T: ScriptRunner + Sync,
+    R: Threads + Wait + Sync,
+    W: Write,
+    P: SampleProgress,
+>(
     study: &Study<'_, T, R>,
     options: &SampleOptions,
     script: &Script,
@@ -68,6 +74,7 @@ fn sample_command_prints<T: ScriptRunner, R: Wait, W: Write, P: SampleProgress>(
     let lock = command_lock_of(options.ticket);
     let detail = sample_command_detail(options.outcomes);
     let Study { runs, rt, alloc } = *study;
+    let jobs = options.jobs.unwrap_or(1);
     let sampled = sample(
         runs,
         rt,
@@ -75,6 +82,7 @@ fn sample_command_prints<T: ScriptRunner, R: Wait, W: Write, P: SampleProgress>(
         detail,
         script,
         lock,
+        jobs,
         options.seeds,
         progress,
     )?;
@@ -82,7 +90,13 @@ fn sample_command_prints<T: ScriptRunner, R: Wait, W: Write, P: SampleProgress>(
 }
 
 /// Reads a script, runs it under the seeds that the options ask for, and writes what that came to.
-fn sample_command_on_script<T: ScriptRunner, R: Wait, S: Read, W: Write, P: SampleProgress>(
+fn sample_command_on_script<
+    T: ScriptRunner + Sync,
+    R: Threads + Wait + Sync,
+    S: Read,
+    W: Write,
+    P: SampleProgress,
+>(
     study: &Study<'_, T, R>,
     options: &SampleOptions,
     source: &mut S,
@@ -103,7 +117,14 @@ fn sample_command_on_script<T: ScriptRunner, R: Wait, S: Read, W: Write, P: Samp
 /// Runs the script of `source` in rounds, and by the turns that as many seeds as the options say draw: writes what that came
 /// to to `out`, or one line to `err`, and answers the exit status. The file that the options name isn't opened here. `progress` is
 /// told how many runs are done.
-pub fn run_sample_command<T: ScriptRunner, R: Wait, S: Read, W: Write, E: Write, P: SampleProgress>(
+pub fn run_sample_command<
+    T: ScriptRunner + Sync,
+    R: Threads + Wait + Sync,
+    S: Read,
+    W: Write,
+    E: Write,
+    P: SampleProgress,
+>(
     study: &Study<'_, T, R>,
     options: &SampleOptions,
     source: &mut S,

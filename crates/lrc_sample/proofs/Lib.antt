@@ -6,3 +6,4 @@ pub mod SwappedItems
 pub mod TallyNoted
 pub mod TellingLaws
 pub mod ToldReplies
+pub mod ToldRuns

@@ -1,5 +1,5 @@
 -- What a script's runs came to, one run after another.
-use Rattle.std.proofs.Common.{◌≡◌, ◌∙◌, ◌+◌, ◌^◌, ◌<◌, ◌≤◌, ℕ, zero, suc, inl, inr, List, [], ◌∷◌, ◌++◌, Option, Some, None, length, map, slice_get, ap, sym, subst, refl, arith}
+use Rattle.std.proofs.Common.{◌≡◌, ◌∙◌, ◌+◌, ◌-◌, ◌^◌, ◌<◌, ◌≤◌, ℕ, zero, suc, inl, inr, List, [], ◌∷◌, ◌++◌, Option, Some, None, length, map, slice_get, ap, sym, subst, refl, arith}
 use Rattle.std.specs.List.{sum_by}
 use Rattle.std.proofs.lemmas.List.{length-append}
 use Rattle.std.proofs.lemmas.Option.{none-some, same_Some}
@@ -13,11 +13,12 @@ use Rattle.conformance.specs.OrderedTurns.{IsEndByOrderedTurns}
 use Rattle.conformance.specs.ScheduleTexts.{schedule_orders}
 use Rattle.lrc_sample.specs.declared.detail.SampleDetail.{SampleDetail}
 use Rattle.lrc_sample.specs.declared.outcome.SampleOutcome.{SampleOutcome}
+use Rattle.lrc_sample.specs.declared.sampled_run.SampledRun.{SampledRun}
 use Rattle.lrc_sample.specs.declared.tally.TallyLine.{TallyLine}
 use Rattle.lrc_sample.specs.declared.sampling.Sampled.{Sampled}
 use Rattle.lrc_sample.specs.TallyOrder.{IsTallyOrderByFrequency, IsTallyOrderAsSeen, IsTallyOrderStarted}
 use Rattle.lrc_sample.specs.SampleOutcomes.{IsSampleOutcomeOf, sample_outcome_of_end}
-use Rattle.lrc_sample.specs.SampleRuns.{AreSampleRuns, AreSampleRunsInMaking, IsSampleOfRuns, IsSampleRun, SampleRunShows, sample_runs_came_to, sample_run_schedules}
+use Rattle.lrc_sample.specs.SampleRuns.{AreSampleRuns, AreSampleRunsInMaking, IsSampleOfRuns, IsSampleRun, IsSampleRunTold, SampleRunShows, sample_runs_came_to, sample_run_schedules}
 use Rattle.lrc_sample.specs.Tally.{IsTallyShown, TallyCountsOutcomes, tally_place_of_seed, tally_times_of}
 use Rattle.lrc_sample.proofs.TellingLaws.{telling_law_first_run}
 
@@ -70,7 +71,7 @@ tallied_runs_none came d s = record {
 }
 
 -- one run more
-pub tallied_runs_next : {came : Plan → Option ℕ → DrawnRun → Type 0} {d : SampleDetail} {s : Plan} {seed : Option ℕ} {run : DrawnRun} {old new : List TallyLine} (is : AreSampleRunsInMaking came d s (tally_place_of_seed seed) old) → IsSampleRun came s seed run
+tallied_runs_next : {came : Plan → Option ℕ → DrawnRun → Type 0} {d : SampleDetail} {s : Plan} {seed : Option ℕ} {run : DrawnRun} {old new : List TallyLine} (is : AreSampleRunsInMaking came d s (tally_place_of_seed seed) old) → IsSampleRun came s seed run
     → IsTallyOrderStarted (sample_runs_came_to d s is.runs ++ sample_outcome_of_end d s run.ended ∷ []) new
     → IsTallyShown (sample_run_schedules is.runs ++ run.schedule.turns.items ∷ []) new → AreSampleRunsInMaking came d s (tally_place_of_seed seed + 1) new
 tallied_runs_next {came = came} {d = d} {s = s} {seed = seed} {run = run} {new = new} is one noted shown = record {
@@ -92,7 +93,7 @@ tallied_runs_next {came = came} {d = d} {s = s} {seed = seed} {run = run} {new =
     ]
 
 -- the runs have as many outcomes and schedules
-pub tallied_runs_counted : (came : Plan → Option ℕ → DrawnRun → Type 0) (d : SampleDetail) (s : Plan) (n : ℕ) (lines : List TallyLine)
+tallied_runs_counted : (came : Plan → Option ℕ → DrawnRun → Type 0) (d : SampleDetail) (s : Plan) (n : ℕ) (lines : List TallyLine)
     (is : AreSampleRunsInMaking came d s n lines) → (n ≡ length (sample_runs_came_to d s is.runs)) × (n ≡ length (sample_run_schedules is.runs))
 tallied_runs_counted came d s n lines is =
     let outcomes = tallied_runs_map_length (λ (r : DrawnRun). sample_outcome_of_end d s r.ended) is.runs in
@@ -101,8 +102,22 @@ tallied_runs_counted came d s n lines is =
 
 -- the counts fit
 pub tallied_runs_few : (came : Plan → Option ℕ → DrawnRun → Type 0) (d : SampleDetail) (s : Plan) (n : ℕ) (lines : List TallyLine) → n ≤ 2 ^ 32
-    → AreSampleRunsInMaking came d s n lines → sum_by tally_times_of lines < 2 ^ 64
+    → AreSampleRunsInMaking came d s n lines → sum_by tally_times_of lines < 2 ^ 64 - 1
 tallied_runs_few came d s n lines few is = omega (arith, few, is.noted.tally.sum, (tallied_runs_counted came d s n lines is).0)
+
+-- one run more, which is told, as it is noted
+pub tallied_runs_noted : {came : Plan → Option ℕ → DrawnRun → Type 0} {d : SampleDetail} {s : Plan} {seed : Option ℕ} {told : SampledRun} {old new : List TallyLine} → AreSampleRunsInMaking came d s (tally_place_of_seed seed) old → IsSampleRunTold came d s seed told
+    → ((schedules : List (List ℕ)) → IsTallyShown schedules old → tally_place_of_seed seed ≡ length schedules
+      → IsTallyShown (schedules ++ told.schedule.turns.items ∷ []) new)
+    → ((outcomes : List SampleOutcome) → IsTallyOrderStarted outcomes old → tally_place_of_seed seed ≡ length outcomes
+      → IsTallyOrderStarted (outcomes ++ told.outcome ∷ []) new)
+    → AreSampleRunsInMaking came d s (tally_place_of_seed seed + 1) new
+tallied_runs_noted {came = came} {d = d} {s = s} {seed = seed} {old = old} {new = new} is one shown noted =
+    let many = tallied_runs_counted came d s (tally_place_of_seed seed) old is in
+    let schedules = sample_run_schedules is.runs in
+    let outcomes = sample_runs_came_to d s is.runs in
+    tallied_runs_next is one.is (subst (λ o. IsTallyOrderStarted (outcomes ++ o ∷ []) new) one.outcome (noted outcomes is.noted many.0))
+    (subst (λ turns. IsTallyShown (schedules ++ turns ∷ []) new) one.schedule (shown schedules is.shown many.1))
 
 -- a line's schedule shows its outcome
 tallied_runs_shown_by_schedule : (d : SampleDetail) {came : Plan → Option ℕ → DrawnRun → Type 0} {s : Plan} {n : ℕ} {runs : List DrawnRun} {lines : List TallyLine} → AreSampleRuns came s n runs → TallyCountsOutcomes (sample_runs_came_to d s runs) lines

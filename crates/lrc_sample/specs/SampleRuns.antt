@@ -1,5 +1,5 @@
 -- What the runs of a script came to.
-use Rattle.std.specs.Prelude.{ℕ, ◌≡◌, List, [], map, Option, Some, None, Result, Ok, length, slice_get}
+use Rattle.std.specs.Prelude.{ℕ, ◌≡◌, ◌+◌, List, [], ◌∷◌, map, Option, Some, None, Result, Ok, length, slice_get}
 use Rattle.base.specs.InOrderOnce.{Has}
 use Rattle.lrc_script.specs.Plan.{Plan}
 use Rattle.conformance.specs.declared.cause.RunFault.{RunFault}
@@ -11,6 +11,7 @@ use Rattle.conformance.specs.OrderedTurns.{IsEndByOrderedTurns}
 use Rattle.conformance.specs.ScheduleTexts.{schedule_orders}
 use Rattle.lrc_sample.specs.declared.detail.SampleDetail.{SampleDetail}
 use Rattle.lrc_sample.specs.declared.outcome.SampleOutcome.{SampleOutcome}
+use Rattle.lrc_sample.specs.declared.sampled_run.SampledRun.{SampledRun}
 use Rattle.lrc_sample.specs.declared.tally.TallyLine.{TallyLine}
 use Rattle.lrc_sample.specs.declared.sampling.Sampled.{Sampled}
 use Rattle.lrc_sample.specs.TallyOrder.{IsTallyOrderByFrequency, IsTallyOrderStarted}
@@ -39,6 +40,19 @@ pub record AreSampleRuns (came : Plan → Option ℕ → DrawnRun → Type 0) (s
     : Type 0 where
   pub many : length runs ≡ count
   pub each : (seed : Option ℕ) (run : DrawnRun) → slice_get runs (tally_place_of_seed seed) ≡ Some run → IsSampleRun came s seed run
+
+-- it tells what a run by this seed, or without one, came to in this detail, and by which turns
+pub record IsSampleRunTold (came : Plan → Option ℕ → DrawnRun → Type 0) (d : SampleDetail) (s : Plan) (seed : Option ℕ) (told : SampledRun)
+    : Type 0 where
+  pub run : DrawnRun
+  pub is : IsSampleRun came s seed run
+  pub outcome : told.outcome ≡ sample_outcome_of_end d s run.ended
+  pub schedule : told.schedule.turns.items ≡ run.schedule.turns.items
+
+-- they tell of a run by each seed from this one on and less than that, in order
+abbrev pub AreSampleRunsTold : (Plan → Option ℕ → DrawnRun → Type 0) → SampleDetail → Plan → ℕ → ℕ → List SampledRun → Type 0
+AreSampleRunsTold came d s from to [] = from ≡ to
+AreSampleRunsTold came d s from to (told ∷ rest) = IsSampleRunTold came d s (Some from) told × AreSampleRunsTold came d s (from + 1) to rest
 
 -- what the runs came to, in this detail
 abbrev pub sample_runs_came_to : SampleDetail → Plan → List DrawnRun → List SampleOutcome

@@ -14,10 +14,13 @@
 #![tactic(auto)]
 
 pub mod detail;
+mod jobs;
 pub mod laws;
 pub mod outcome;
+mod sampled_run;
 pub mod sampling;
 mod tally;
 pub mod text;
 
+pub use sampled_run::SampledRun;
 pub use tally::TallyLine;

@@ -1,17 +1,24 @@
 //! A script by many schedules.
-ghost use Rattle.std.specs.Prelude.{◌≡◌, ◌≤◌, ◌+◌, ◌^◌, IfOk, OnOk};
+ghost use Rattle.std.specs.Prelude.{◌≤◌, ◌+◌, ◌^◌, IfOk, OnOk};
 ghost use Rattle.lrc_script.specs.Prelude.{IsLawful, plan_of};
-ghost use Rattle.lrc_sample.specs.Prelude.{CameBySampleRunSeed, AreSampleRunsInMaking, IsSampleOfRuns, IsSampleRun, sample_outcome_of_end, tally_place_of_seed};
+ghost use Rattle.lrc_sample.specs.Prelude.{CameBySampleRunSeed, AreSampleRunsInMaking, IsSampleOfRuns, tally_place_of_seed};
 
 use crate::detail::SampleDetail;
-use crate::outcome::{SampleOutcome, SampleOutcomeAnswers};
+use crate::jobs::sampled_runs_by_jobs;
+use crate::sampled_run::{SampledRun, no_memory, told_sampled_run};
 use crate::tally::{TallyLine, note_in_sample_tally, sort_sample_tally};
-use conformance::{
-    Cause, DrawnRun, Ended, LockChoice, RunFault, Schedule, ScheduleFault, ScriptRunner,
-};
+use conformance::{LockChoice, RunFault, ScriptRunner};
 use lrc_script::script::Script;
-use std::alloc::{AllocError, Global};
+use std::alloc::Global;
 use std::sync::Wait;
+use std::thread::Threads;
+
+/// The most runs that are made beside each other.
+const MOST_JOBS: u64 = 64;
+
+/// How many runs are made by jobs before what they came to is noted, at most: so many schedules are kept until then. A thread is
+/// started once for its part of these runs.
+const MOST_BATCH: u64 = 256;
 
 /// What the runs of a script came to: a line for each outcome, the most frequent first, and of as frequent ones the one
 /// that came first.
@@ -24,57 +31,6 @@ pub struct Sampled {
 pub trait SampleProgress {
     /// So many runs are done.
     fn ran(&mut self, runs: u64);
-}
-
-/// Running out of memory is told with processor 0.
-fn no_memory(error: AllocError) -> RunFault {
-    RunFault {
-        processor: 0,
-        cause: Cause::from(error),
-    }
-}
-
-/// What a run came to, in this detail: a run that can't go on is stuck.
-fn sampled_outcome(
-    alloc: Global,
-    detail: SampleDetail,
-    script: &Script,
-    ended: Ended,
-) -> Result<SampleOutcome, RunFault>
-    ensures { IfOk result (λ outcome. outcome ≡ sample_outcome_of_end detail (plan_of script.now) ended) }
-{
-    match ended {
-        Ended::Whole(report) => match SampleOutcomeAnswers::of(alloc, detail, script, report) {
-            Ok(answers) => Ok(SampleOutcome::Ended(answers)),
-            Err(error) => Err(no_memory(error)),
-        },
-        Ended::Halted(halt) => Ok(SampleOutcome::Stuck(halt.processor)),
-    }
-}
-
-/// Runs the script by the turns that the seed draws, or without one in rounds by rising number.
-fn sampled_run<T: ScriptRunner, R: Wait>(
-    runs: &T,
-    rt: &R,
-    alloc: Global,
-    script: &Script,
-    lock: LockChoice,
-    seed: Option<u64>,
-) -> Result<DrawnRun, RunFault>
-    requires { IsLawful (plan_of script.now) }
-    ensures { IfOk result (IsSampleRun (CameBySampleRunSeed T.followed T.drawn lock) (plan_of script.now) seed) }
-{
-    let Some(seed) = seed else {
-        let schedule = Schedule {
-            turns: Vec::new(alloc),
-        };
-        return match runs.step_by(rt, alloc, script, lock, &schedule) {
-            Ok(ended) => Ok(DrawnRun { schedule, ended }),
-            Err(ScheduleFault::Run(fault)) => Err(fault),
-            Err(ScheduleFault::Misfit(..)) => unreachable!("no turn"),
-        };
-    };
-    runs.step_drawn(rt, alloc, script, lock, seed)
 }
 
 /// Runs the script once more, by this seed's turns or without one, and notes what it came to.
@@ -94,27 +50,142 @@ fn sample_once<T: ScriptRunner, R: Wait>(
     ensures { OnOk result (AreSampleRunsInMaking (CameBySampleRunSeed T.followed T.drawn lock) detail (plan_of script.now) (tally_place_of_seed seed + 1)
         lines.new.items) }
 {
-    let DrawnRun { schedule, ended } = sampled_run(runs, rt, alloc, script, lock, seed)?;
-    let outcome = sampled_outcome(alloc, detail, script, ended)?;
+    let run = told_sampled_run(runs, rt, alloc, detail, script, lock, seed)?;
+    let SampledRun { outcome, schedule } = run;
     match note_in_sample_tally(lines, outcome, seed, schedule) {
         Ok(()) => Ok(()),
         Err(error) => Err(no_memory(error)),
     }
 }
 
-/// Runs the script by turns: in rounds by rising number, and then by the turns that each seed from 0 to `seeds` - 1 draws. It
-/// tells each outcome once, in this detail, with the schedule of the first run that came to it. A run that is stuck is an outcome.
-/// Every fault ends it, also running out of memory.
-///
-/// It takes the time of the runs, and for each run a comparison with each outcome that came before: kinds are few. `progress`
-/// is told after each run how many are done.
-pub fn sample<T: ScriptRunner, R: Wait, P: SampleProgress>(
+/// Runs the script by the turns that each seed from 0 to `seeds` - 1 draws, one after the other, and notes what that came to.
+fn sample_in_turn<T: ScriptRunner, R: Wait, P: SampleProgress>(
     runs: &T,
     rt: &R,
     alloc: Global,
     detail: SampleDetail,
     script: &Script,
     lock: LockChoice,
+    seeds: u32,
+    lines: &mut Vec<TallyLine>,
+    progress: &mut P,
+) -> Result<(), RunFault>
+    requires lawful { IsLawful (plan_of script.now) }
+    requires made { AreSampleRunsInMaking (CameBySampleRunSeed T.followed T.drawn lock) detail (plan_of script.now) 1 lines.old.items }
+    ensures { OnOk result (AreSampleRunsInMaking (CameBySampleRunSeed T.followed T.drawn lock) detail (plan_of script.now) (seeds + 1) lines.new.items) }
+{
+    for seed in 0..seeds {
+        let drawn = Some(u64::from(seed));
+        sample_once(runs, rt, alloc, detail, script, lock, drawn, lines)?;
+        progress.ran(u64::from(seed) + 2);
+    }
+    Ok(())
+}
+
+/// Runs the script by the turns that the seeds from `from` on draw that are less than `to`, by so many jobs, and notes in the
+/// order of the seeds what that came to.
+fn sample_batch<T: ScriptRunner + Sync, R: Threads + Wait + Sync>(
+    runs: &T,
+    rt: &R,
+    alloc: Global,
+    detail: SampleDetail,
+    script: &Script,
+    lock: LockChoice,
+    jobs: u64,
+    from: u64,
+    to: u64,
+    lines: &mut Vec<TallyLine>,
+) -> Result<(), RunFault>
+    requires lawful { IsLawful (plan_of script.now) }
+    requires order { (from ≤ to) × (to ≤ 2 ^ 32) }
+    requires made { AreSampleRunsInMaking (CameBySampleRunSeed T.followed T.drawn lock) detail (plan_of script.now) (from + 1) lines.old.items }
+    ensures { OnOk result (AreSampleRunsInMaking (CameBySampleRunSeed T.followed T.drawn lock) detail (plan_of script.now) (to + 1) lines.new.items) }
+{
+    let told = sampled_runs_by_jobs(runs, rt, alloc, detail, script, lock, jobs, from, to)?;
+    let mut seed = from;
+    for run in told {
+        let SampledRun { outcome, schedule } = run;
+        match note_in_sample_tally(lines, outcome, Some(seed), schedule) {
+            Ok(()) => seed += 1,
+            Err(error) => return Err(no_memory(error)),
+        }
+    }
+    Ok(())
+}
+
+/// Does as `sample_in_turn`, with so many jobs beside each other.
+fn sample_by_jobs<T: ScriptRunner + Sync, R: Threads + Wait + Sync, P: SampleProgress>(
+    runs: &T,
+    rt: &R,
+    alloc: Global,
+    detail: SampleDetail,
+    script: &Script,
+    lock: LockChoice,
+    jobs: u64,
+    seeds: u32,
+    lines: &mut Vec<TallyLine>,
+    progress: &mut P,
+) -> Result<(), RunFault>
+    requires lawful { IsLawful (plan_of script.now) }
+    requires made { AreSampleRunsInMaking (CameBySampleRunSeed T.followed T.drawn lock) detail (plan_of script.now) 1 lines.old.items }
+    ensures { OnOk result (AreSampleRunsInMaking (CameBySampleRunSeed T.followed T.drawn lock) detail (plan_of script.now) (seeds + 1) lines.new.items) }
+{
+    let jobs = jobs.min(MOST_JOBS);
+    let all = u64::from(seeds);
+    let mut from = 0;
+    while from < all {
+        let to = all.min(from + MOST_BATCH);
+        sample_batch(runs, rt, alloc, detail, script, lock, jobs, from, to, lines)?;
+        progress.ran(to + 1);
+        from = to;
+    }
+    Ok(())
+}
+
+/// Does as `sample_in_turn`, or with more than one job as `sample_by_jobs`.
+fn sample_seeds<T: ScriptRunner + Sync, R: Threads + Wait + Sync, P: SampleProgress>(
+    runs: &T,
+    rt: &R,
+    alloc: Global,
+    detail: SampleDetail,
+    script: &Script,
+    lock: LockChoice,
+    jobs: u64,
+    seeds: u32,
+    lines: &mut Vec<TallyLine>,
+    progress: &mut P,
+) -> Result<(), RunFault>
+    requires lawful { IsLawful (plan_of script.now) }
+    requires made { AreSampleRunsInMaking (CameBySampleRunSeed T.followed T.drawn lock) detail (plan_of script.now) 1 lines.old.items }
+    ensures { OnOk result (AreSampleRunsInMaking (CameBySampleRunSeed T.followed T.drawn lock) detail (plan_of script.now) (seeds + 1) lines.new.items) }
+{
+    if jobs < 2 {
+        return sample_in_turn(
+            runs, rt, alloc, detail, script, lock, seeds, lines, progress,
+        );
+    }
+    sample_by_jobs(
+        runs, rt, alloc, detail, script, lock, jobs, seeds, lines, progress,
+    )
+}
+
+/// Runs the script by turns: in rounds by rising number, and then by the turns that each seed from 0 to `seeds` - 1 draws. It
+/// tells each outcome once, in this detail, with the schedule of the first run that came to it. A run that is stuck is an outcome.
+/// Every fault ends it, also running out of memory.
+///
+/// With more than one job, up to 64, so many runs are made beside each other, each on a thread of its own if that can be started.
+/// What is told is the same: what they came to is noted in the order of the seeds.
+///
+/// It takes the time of the runs, and for each run a comparison with each outcome that came before: kinds are few. `progress`
+/// is told now and then how many are done, with one job after each run.
+pub fn sample<T: ScriptRunner + Sync, R: Threads + Wait + Sync, P: SampleProgress>(
+    runs: &T,
+    rt: &R,
+    alloc: Global,
+    detail: SampleDetail,
+    script: &Script,
+    lock: LockChoice,
+    jobs: u64,
     seeds: u32,
     progress: &mut P,
 ) -> Result<Sampled, RunFault>
@@ -124,19 +195,9 @@ pub fn sample<T: ScriptRunner, R: Wait, P: SampleProgress>(
     let mut lines = Vec::new(alloc);
     sample_once(runs, rt, alloc, detail, script, lock, None, &mut lines)?;
     progress.ran(1);
-    for seed in 0..seeds {
-        sample_once(
-            runs,
-            rt,
-            alloc,
-            detail,
-            script,
-            lock,
-            Some(u64::from(seed)),
-            &mut lines,
-        )?;
-        progress.ran(u64::from(seed) + 2);
-    }
+    sample_seeds(
+        runs, rt, alloc, detail, script, lock, jobs, seeds, &mut lines, progress,
+    )?;
     match sort_sample_tally(&mut lines) {
         Ok(()) => Ok(Sampled { lines }),
         Err(error) => Err(no_memory(error)),

@@ -1,7 +1,7 @@
 use Rattle.std.proofs.Common.{◌+◌}
 use Rattle.lrc_script.specs.Plan.{plan_of}
 use Rattle.lrc_sample.specs.SampleRuns.{CameBySampleRunSeed, AreSampleRunsInMaking}
-use Rattle.lrc_sample.proofs.sampling.sample.Given as goal
+use Rattle.lrc_sample.proofs.sampling.sample_in_turn.Given as goal
 
 abbrev pub invariant-loop-seed : goal.invariant-loop-seed
 invariant-loop-seed g l =

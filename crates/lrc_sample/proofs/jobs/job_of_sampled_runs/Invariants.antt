@@ -1,0 +1,7 @@
+use Rattle.lrc_script.specs.Plan.{plan_of}
+use Rattle.lrc_sample.specs.SampleRuns.{CameBySampleRunSeed, AreSampleRunsTold}
+use Rattle.lrc_sample.proofs.jobs.job_of_sampled_runs.Given as goal
+
+abbrev pub invariant-loop-seed : goal.invariant-loop-seed
+invariant-loop-seed g l =
+    AreSampleRunsTold (CameBySampleRunSeed g.T.ScriptRunner.followed g.T.ScriptRunner.drawn l.lock) l.detail (plan_of l.script) l.from l.seed l.told.items
