@@ -1,5 +1,5 @@
 -- What the command does with a trace.
-use Rattle.std.specs.Prelude.{ℕ, ◌≡◌, ◌⊎◌, List, Option, Some, None, IfSome}
+use Rattle.std.specs.Prelude.{ℕ, ◌≡◌, ◌⊎◌, Bool, true, false, List, Option, Some, None, IfSome}
 use Rattle.std.specs.Io.KnownBytes.{Appends}
 use Rattle.lrc_commands.specs.ExitStatus.{IsCommandExitStatusOf, IsCommandExitStatusOfInput}
 use Rattle.lrc_pages.specs.declared.page_row.PageRow.{PageRow}
@@ -7,10 +7,11 @@ use Rattle.lrc_pages.specs.declared.pages_command.PagesFault.{PagesFault}
 use Rattle.lrc_pages.specs.declared.pages_command.PagesFault.TheVariants.{Command, Unfit}
 use Rattle.lrc_pages.specs.PageStreams.{IsFoundOnPages}
 
--- so many pages are told of each size
-abbrev pub pages_told : Option ℕ → ℕ
-pages_told None = 0
-pages_told (Some n) = n
+-- so many pages are told of each size at most, if so many are asked for, and a picture or none
+abbrev pub pages_told : Option ℕ → Bool → ℕ
+pages_told (Some n) svg = n
+pages_told None true = 32
+pages_told None false = 0
 
 -- the source had the text of a trace, and the rows are what that costs on pages of so many words
 abbrev pub ArePagesFound : ℕ → List ℕ → Option (List ℕ) → List PageRow → Type 0

@@ -7,8 +7,10 @@ ghost use Rattle.lrc_pages.specs.declared.paged_history.PagedHistory.{PagedHisto
 ghost use Rattle.lrc_pages.specs.Prelude.{ArePageRows, ArePagedTraces, AreTracedEvents, IsPageRow, IsPagedOn, paged_sizes, paged_words};
 
 use crate::eager_pages::EagerTraffic;
+use crate::page_cells::PageCell;
 use crate::page_traffic::PageTraffic;
-use crate::page_watch::{LabelWait, PageWatch, labels_waited_for};
+use crate::page_uses::PageUses;
+use crate::page_watch::{LabelWait, PageWatch, cells_watched, labels_waited_for};
 use crate::paged_history::{PagedFault, PagedHistory};
 use crate::top_pages::{TopPage, top_pages};
 use journal::Event;
@@ -32,6 +34,18 @@ pub struct PageRow {
     pub labels: Vec<LabelWait>,
     /// What the trace costs under eager release consistency, if that is asked for.
     pub eager: Option<EagerTraffic>,
+    /// How many words useless fetches bring, if pages or a picture are asked for.
+    pub useless_words: u64,
+    /// Of each page of `top` what each processor does there, if a picture is asked for and this is its first size.
+    pub cells: Vec<Vec<PageCell>>,
+}
+
+/// How many of so many words useless fetches bring; 0 if that isn't watched.
+fn useless_words_of(uses: Option<&PageUses>, words: u64) -> u64 {
+    match uses {
+        Some(uses) => uses.useless_words(words),
+        None => 0,
+    }
 }
 
 /// The sizes of the same memory on pages of so many words.
@@ -119,6 +133,7 @@ fn page_row_of(
     let uses = watch.and_then(|watch| watch.uses(at));
     let top = top_pages(alloc, history.tallies(), uses, most)?;
     let labels = labels_waited_for(alloc, watch, at, most)?;
+    let cells = cells_watched(alloc, watch, at, &top)?;
     Ok(PageRow {
         words: history.words(),
         messages: history.traffic().messages(),
@@ -127,6 +142,8 @@ fn page_row_of(
         top,
         labels,
         eager: watch.and_then(|watch| watch.eager(at)),
+        useless_words: useless_words_of(uses, history.traffic().words),
+        cells,
     })
 }
 

@@ -6,6 +6,7 @@ ghost use Rattle.lrc_commands.specs.Prelude.{IsCommandExitStatusOfInput};
 use crate::eager_pages::EagerTraffic;
 use crate::page_row::PageRow;
 use crate::page_watch::LabelWait;
+use crate::pages_picture::write_pages_picture;
 use crate::text_table::{TextTable, number_word, table_word};
 use crate::top_pages::TopPage;
 use lrc_commands::fault::CommandFault;
@@ -368,7 +369,7 @@ fn write_page_table<W: Write>(
     Ok(())
 }
 
-/// Writes the rows, as a table or as JSON, with what the options ask for, and flushes the writer.
+/// Writes the rows, as a table, as JSON or as a picture, with what the options ask for, and flushes the writer.
 pub(crate) fn write_page_rows<W: Write>(
     alloc: Global,
     options: &PagesOptions,
@@ -378,7 +379,9 @@ pub(crate) fn write_page_rows<W: Write>(
     ensures written { OnOk result ((text : List ℕ) × Appends (W.contents out.old) (W.contents out.new) text) }
     ensures runs { IfErr result (λ fault. IsCommandExitStatusOfInput fault → ⊥) }
 {
-    if options.json {
+    if options.svg {
+        write_pages_picture(alloc, options.eager, rows, out)
+    } else if options.json {
         write_page_rows_json(alloc, options.top.is_some(), rows, out)
     } else {
         write_page_table(alloc, options.eager, rows, out)

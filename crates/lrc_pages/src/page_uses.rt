@@ -31,11 +31,13 @@ struct LastFetch {
     before: u32,
     /// How often it had before the last one.
     last: u32,
+    /// How many words the last one brought.
+    words: u32,
     /// Whether the last one has been of no use so far.
     is_unused: bool,
 }
 
-/// What pages of one size are used for. It takes 24 bytes for each page, 12 for each page and processor that accesses any, and 8
+/// What pages of one size are used for. It takes 24 bytes for each page, 16 for each page and processor that accesses any, and 8
 /// for each label.
 #[derive(Drop)]
 pub(crate) struct PageUses {
@@ -45,6 +47,8 @@ pub(crate) struct PageUses {
     fetched: Vec<Vec<LastFetch>>,
     /// By labels: the messages that accesses with this label waited for.
     waited: Vec<u64>,
+    /// How many words the fetches of use brought.
+    useful_words: u64,
     /// What the history had cost before the event at hand.
     seen: PageTraffic,
 }
@@ -93,10 +97,11 @@ impl WordAccess {
 }
 
 impl LastFetch {
-    /// The processor fetches the page, after it has taken so often.
-    fn fetch(&mut self, takes: u32) {
+    /// The processor fetches the page, after it has taken so often, which brings so many words.
+    fn fetch(&mut self, takes: u32, words: u64) {
         self.before = self.last;
         self.last = takes;
+        self.words = u32::try_from(words).unwrap_or(u32::MAX);
         self.is_unused = true;
     }
 
@@ -132,6 +137,7 @@ impl PageUses {
             pages: Vec::new(alloc),
             fetched: Vec::new(alloc),
             waited: Vec::new(alloc),
+            useful_words: 0,
             seen: PageTraffic::default(),
         }
     }
@@ -153,14 +159,19 @@ impl PageUses {
         &self.waited
     }
 
-    /// Whether the access of a word of the page is the first that its processor's last fetch of the page is of use for. The only
-    /// error is running out of memory.
+    /// Of so many words that all fetches bring, how many the useless ones do.
+    pub(crate) fn useless_words(&self, words: u64) -> u64 {
+        words.saturating_sub(self.useful_words)
+    }
+
+    /// Whether the access of a word of the page is the first that its processor's last fetch of the page is of use for. Right before
+    /// it the page is fetched with so many words, if it is. The only error is running out of memory.
     fn uses(
         &mut self,
         alloc: Global,
         access: WordAccess,
         page: usize,
-        is_fetched: bool,
+        fetched: Option<u64>,
     ) -> Result<bool, AllocError> {
         for _ in self.fetched.len()..access.processor.saturating_add(1) {
             self.fetched.push(Vec::new(alloc))?;
@@ -172,10 +183,14 @@ impl PageUses {
         let Some(fetch) = row.get_mut(page) else {
             return Ok(false);
         };
-        if is_fetched {
-            fetch.fetch(access.heard.takes);
+        if let Some(words) = fetched {
+            fetch.fetch(access.heard.takes, words);
         }
-        Ok(fetch.is_used_now(access.heard.last))
+        let used = fetch.is_used_now(access.heard.last);
+        if used {
+            self.useful_words = self.useful_words.saturating_add(u64::from(fetch.words));
+        }
+        Ok(used)
     }
 
     /// Counts the messages that an access with this label waited for. The only error is running out of memory.
@@ -200,7 +215,8 @@ impl PageUses {
         self.seen = now;
         let page = page_of_word(access.address, self.words);
         let is_fetched = now.fetches > before.fetches;
-        let used = self.uses(alloc, access, page, is_fetched)?;
+        let words = now.words.saturating_sub(before.words);
+        let used = self.uses(alloc, access, page, is_fetched.then_some(words))?;
         lengthen_row(&mut self.pages, page, UsedPage::default())?;
         if let Some(found) = self.pages.get_mut(page) {
             found.access(access.processor, access.stores, used);

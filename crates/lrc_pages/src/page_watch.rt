@@ -4,9 +4,12 @@
 use crate::eager_pages::{EagerPages, EagerTraffic};
 use crate::heard_stores::HeardStores;
 use crate::line_labels::{LineLabels, shown_label};
+use crate::page_cells::{PageCell, PageCells};
 use crate::page_uses::{PageUses, WordAccess};
 use crate::paged_history::PagedHistory;
+use crate::top_pages::TopPage;
 use journal::Event;
+use lrc_options::options::PagesOptions;
 use std::alloc::{AllocError, Global};
 use std::cmp::Reverse;
 
@@ -28,6 +31,8 @@ pub struct PageWatch {
     uses: Vec<PageUses>,
     /// One for each size, if eager release consistency is to be told.
     eager: Vec<EagerPages>,
+    /// One for the first size, if a picture is to be made.
+    cells: Vec<PageCells>,
 }
 
 /// What the uses of pages of these sizes are kept in. The only error is running out of memory.
@@ -48,22 +53,38 @@ fn eager_of_sizes(alloc: Global, words: &[usize]) -> Result<Vec<EagerPages>, All
     Ok(eager)
 }
 
+/// What processors do on pages of the first size is kept in this. The only error is running out of memory.
+fn cells_of_sizes(alloc: Global, words: &[usize]) -> Result<Vec<PageCells>, AllocError> {
+    let mut cells = Vec::new(alloc);
+    if let Some(first) = words.first() {
+        cells.push(PageCells::new(alloc, *first))?;
+    }
+    Ok(cells)
+}
+
+/// Whether what pages are used for is asked for.
+fn wants_page_uses(options: &PagesOptions) -> bool {
+    options.top.is_some() || options.svg
+}
+
+/// Whether something is asked for that a watch finds.
+pub(crate) fn wants_page_watch(options: &PagesOptions) -> bool {
+    wants_page_uses(options) || options.eager
+}
+
 impl PageWatch {
-    /// Before the first piece, on pages of so many words each: of their uses, of eager release consistency, or of both. The only
-    /// error is running out of memory.
-    pub fn new(
-        alloc: Global,
-        words: &[usize],
-        has_top: bool,
-        is_eager: bool,
-    ) -> Result<PageWatch, AllocError> {
-        let used = if has_top { words } else { &[] };
-        let held = if is_eager { words } else { &[] };
+    /// Before the first piece: of what the options ask for. The only error is running out of memory.
+    pub fn new(alloc: Global, options: &PagesOptions) -> Result<PageWatch, AllocError> {
+        let words: &[usize] = &options.page_words;
+        let used = if wants_page_uses(options) { words } else { &[] };
+        let held = if options.eager { words } else { &[] };
+        let drawn = if options.svg { words } else { &[] };
         Ok(PageWatch {
             labels: LineLabels::new(alloc),
             heard: HeardStores::new(alloc),
             uses: uses_of_sizes(alloc, used)?,
             eager: eager_of_sizes(alloc, held)?,
+            cells: cells_of_sizes(alloc, drawn)?,
         })
     }
 
@@ -112,6 +133,9 @@ impl PageWatch {
         for eager in self.eager.iter_mut() {
             eager.note(alloc, event)?;
         }
+        for cells in self.cells.iter_mut() {
+            cells.note(alloc, event)?;
+        }
         Ok(())
     }
 
@@ -125,6 +149,20 @@ impl PageWatch {
         match self.eager.get(at) {
             Some(eager) => Some(eager.traffic()),
             None => None,
+        }
+    }
+
+    /// What each processor does on each of these pages of the size at this place; nothing if that isn't watched. The only error is
+    /// running out of memory.
+    fn cells(
+        &self,
+        alloc: Global,
+        at: usize,
+        pages: &[TopPage],
+    ) -> Result<Vec<Vec<PageCell>>, AllocError> {
+        match self.cells.get(at) {
+            Some(cells) => cells.rows(alloc, pages),
+            None => Ok(Vec::new(alloc)),
         }
     }
 
@@ -184,6 +222,19 @@ pub(crate) fn labels_waited_for(
 ) -> Result<Vec<LabelWait>, AllocError> {
     match watch {
         Some(watch) => watch.labels(alloc, at, most),
+        None => Ok(Vec::new(alloc)),
+    }
+}
+
+/// What each processor does on each of these pages, if that is watched. The only error is running out of memory.
+pub(crate) fn cells_watched(
+    alloc: Global,
+    watch: Option<&PageWatch>,
+    at: usize,
+    pages: &[TopPage],
+) -> Result<Vec<Vec<PageCell>>, AllocError> {
+    match watch {
+        Some(watch) => watch.cells(alloc, at, pages),
         None => Ok(Vec::new(alloc)),
     }
 }

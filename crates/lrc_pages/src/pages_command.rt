@@ -8,7 +8,7 @@ ghost use Rattle.lrc_pages.specs.declared.pages_command.PagesFault.TheVariants.{
 use crate::page_row::PageRow;
 use crate::page_stream::{PageFault, PageStream};
 use crate::page_table::write_page_rows;
-use crate::page_watch::PageWatch;
+use crate::page_watch::{PageWatch, wants_page_watch};
 use lrc_commands::checking::check_command_reads_some;
 use lrc_commands::fault::CommandFault;
 use lrc_commands::refused_line::RefusedLine;
@@ -25,6 +25,9 @@ const PIECE: usize = 1 << 16;
 
 /// The exit status if the trace's addresses don't fit on pages of so many words.
 const UNFIT: u8 = 5;
+
+/// How many pages a picture has at most, if no number is given.
+const DRAWN_PAGES: usize = 32;
 
 /// Why the command ends without an answer.
 #[derive(Clone, Copy)]
@@ -142,21 +145,21 @@ fn pages_command_reads<S: Read>(
 
 /// How many pages are told of each size, at most.
 fn most_pages_told(options: &PagesOptions) -> usize
-    ensures { result ≡ pages_told options.now.top }
+    ensures { result ≡ pages_told options.now.top options.now.svg }
 {
     match options.top {
         Some(top) => top as usize,
+        None if options.svg => DRAWN_PAGES,
         None => 0,
     }
 }
 
 /// What finds what else is asked for, if anything is. The only error is running out of memory.
 fn watch_asked_for(alloc: Global, options: &PagesOptions) -> Result<Option<PageWatch>, AllocError> {
-    let has_top = options.top.is_some();
-    if !has_top && !options.eager {
+    if !wants_page_watch(options) {
         return Ok(None);
     }
-    let watch = PageWatch::new(alloc, &options.page_words, has_top, options.eager)?;
+    let watch = PageWatch::new(alloc, options)?;
     Ok(Some(watch))
 }
 
@@ -168,7 +171,7 @@ fn pages_command_on_source<S: Read, W: Write>(
     refused: &mut RefusedLine,
     out: &mut W,
 ) -> Result<(), PagesFault>
-    ensures done { OnOk result (IsPagesCommandDone (pages_told options.now.top) options.now.page_words.items (S.remaining source.old) (W.contents out.old) (W.contents out.new)) }
+    ensures done { OnOk result (IsPagesCommandDone (pages_told options.now.top options.now.svg) options.now.page_words.items (S.remaining source.old) (W.contents out.old) (W.contents out.new)) }
     ensures refused { IfErr result (λ fault. IsPagesFaultOfInput fault → IsTraceCommandOnNone false (S.remaining source.old)) }
 {
     let words = options.page_words.clone()?;
@@ -191,7 +194,7 @@ pub fn run_pages_command<S: Read, W: Write, E: Write>(
 ) -> u8
     // The source had a trace, and what it costs was found.
     ensures done { result ≡ 0
-        → IsPagesCommandDone (pages_told options.now.top) options.now.page_words.items (S.remaining source.old) (W.contents out.old) (W.contents out.new) }
+        → IsPagesCommandDone (pages_told options.now.top options.now.svg) options.now.page_words.items (S.remaining source.old) (W.contents out.old) (W.contents out.new) }
     // What is refused as a trace is none.
     ensures refused { result ≡ 2 → IsTraceCommandOnNone false (S.remaining source.old) }
     // If it was told, no line goes to the error output.

@@ -108,9 +108,9 @@ tallied_runs_few came d s n lines few is = omega (arith, few, is.noted.tally.sum
 -- one run more, which is told, as it is noted
 pub tallied_runs_noted : {came : Plan → Option ℕ → DrawnRun → Type 0} {d : SampleDetail} {s : Plan} {seed : Option ℕ} {told : SampledRun} {old new : List TallyLine} → AreSampleRunsInMaking came d s (tally_place_of_seed seed) old → IsSampleRunTold came d s seed told
     → ((schedules : List (List ℕ)) → IsTallyShown schedules old → tally_place_of_seed seed ≡ length schedules
-      → IsTallyShown (schedules ++ told.schedule.turns.items ∷ []) new)
+    → IsTallyShown (schedules ++ told.schedule.turns.items ∷ []) new)
     → ((outcomes : List SampleOutcome) → IsTallyOrderStarted outcomes old → tally_place_of_seed seed ≡ length outcomes
-      → IsTallyOrderStarted (outcomes ++ told.outcome ∷ []) new)
+    → IsTallyOrderStarted (outcomes ++ told.outcome ∷ []) new)
     → AreSampleRunsInMaking came d s (tally_place_of_seed seed + 1) new
 tallied_runs_noted {came = came} {d = d} {s = s} {seed = seed} {old = old} {new = new} is one shown noted =
     let many = tallied_runs_counted came d s (tally_place_of_seed seed) old is in
