@@ -6,6 +6,7 @@ mod eager_pages;
 mod heard_stores;
 mod laws;
 mod line_labels;
+mod output;
 mod page_cells;
 mod page_map;
 mod page_row;

@@ -4,6 +4,7 @@ ghost use Rattle.std.specs.Io.KnownBytes.{Appends};
 ghost use Rattle.lrc_commands.specs.Prelude.{IsCommandExitStatusOfInput};
 
 use crate::eager_pages::EagerTraffic;
+use crate::output::write_pages_text;
 use crate::page_row::PageRow;
 use crate::page_watch::LabelWait;
 use crate::pages_picture::write_pages_picture;
@@ -364,9 +365,7 @@ fn write_page_table<W: Write>(
     ensures runs { IfErr result (λ fault. IsCommandExitStatusOfInput fault → ⊥) }
 {
     let text = page_table(alloc, rows, is_eager)?;
-    out.write_all(text.as_bytes())?;
-    out.flush()?;
-    Ok(())
+    write_pages_text(text.as_bytes(), out)
 }
 
 /// Writes the rows, as a table, as JSON or as a picture, with what the options ask for, and flushes the writer.

@@ -4,6 +4,7 @@ ghost use Rattle.std.specs.Io.KnownBytes.{Appends};
 ghost use Rattle.lrc_commands.specs.Prelude.{IsCommandExitStatusOfInput};
 
 use crate::cost_bars::{cost_bars_height, put_cost_bars};
+use crate::output::write_pages_text;
 use crate::page_map::{page_map_height, put_page_map};
 use crate::page_row::PageRow;
 use crate::page_svg::PageSvg;
@@ -74,7 +75,5 @@ pub(crate) fn write_pages_picture<W: Write>(
     ensures runs { IfErr result (λ fault. IsCommandExitStatusOfInput fault → ⊥) }
 {
     let text = pages_picture(alloc, rows, is_eager)?;
-    out.write_all(text.as_bytes())?;
-    out.flush()?;
-    Ok(())
+    write_pages_text(text.as_bytes(), out)
 }
