@@ -71,7 +71,7 @@ static void sets_own(struct thread *thread, struct object *object, bool goes_on,
         object->own = new_flag();
     object->is_released = object->own != NULL;
     if (object->own)
-        set_flag(thread, object->own, place);
+        set_flag(thread, object->own, "an atomic's release sequence", place);
     trace_leave(thread);
 }
 
@@ -316,7 +316,7 @@ static void fence_releases(struct thread *thread, uintptr_t place)
     if (!thread->fence)
         return;
     trace_enter(thread);
-    set_flag(thread, thread->fence, place);
+    set_flag(thread, thread->fence, "a release fence", place);
     trace_leave(thread);
 }
 

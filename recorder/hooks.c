@@ -116,7 +116,7 @@ PUBLIC void __tsan_release(void *address)
     struct object *object = recorded() ? object_at((uintptr_t)address) : NULL;
 
     if (object)
-        hand_on(&object->flags[0], HERE);
+        hand_on(&object->flags[0], "what the program says is released", HERE);
 }
 
 PUBLIC void __tsan_acquire(void *address)

@@ -416,7 +416,10 @@ PUBLIC int pthread_rwlock_unlock(pthread_rwlock_t *lock)
 
     if (object) {
         trace_enter(thread);
-        set_flag(thread, &object->flags[held && held->is_writer ? 0 : 1], HERE);
+        if (held && held->is_writer)
+            set_flag(thread, &object->flags[0], "a read-write lock's writers", HERE);
+        else
+            set_flag(thread, &object->flags[1], "a read-write lock's readers", HERE);
         if (held)
             let_go(thread, held);
         trace_leave(thread);
@@ -460,7 +463,7 @@ PUBLIC int pthread_barrier_wait(pthread_barrier_t *barrier)
     if (object && object->count) {
         trace_enter(thread);
         flag = &object->flags[object->arrivals++ / object->count % 2];
-        set_flag(thread, flag, HERE);
+        set_flag(thread, flag, "a barrier", HERE);
         trace_leave(thread);
     }
     int result = is_scheduled && flag ? meet_by_turns(thread, barrier, object, HERE) : NEXT(pthread_barrier_wait)(barrier);
@@ -481,7 +484,7 @@ PUBLIC int sem_post(sem_t *semaphore)
     struct object *object = recorded() ? object_at((uintptr_t)semaphore) : NULL;
 
     if (object)
-        hand_on(&object->flags[0], HERE);
+        hand_on(&object->flags[0], "a semaphore", HERE);
     return freed(NEXT(sem_post)(semaphore), semaphore);
 }
 
@@ -548,7 +551,7 @@ static void does_errand(void)
     struct errand mine = errand;
 
     mine.routine();
-    hand_on(&mine.object->flags[0], 0);
+    hand_on(&mine.object->flags[0], "what is done once", 0);
 }
 
 /* With a seed: it is begun by one thread, and the others wait for that. */

@@ -184,10 +184,12 @@ static void hears(struct flag *flag, const struct thread *thread)
     flag->heard.members[thread->processor / 64] |= (uint64_t)1 << thread->processor % 64;
 }
 
-void set_flag(struct thread *thread, struct flag *flag, uintptr_t place)
+void set_flag(struct thread *thread, struct flag *flag, const char *what, uintptr_t place)
 {
-    if (flag->number == NONE)
+    if (flag->number == NONE) {
         flag->number = flag_number();
+        trace_names(flag->number, what, place);
+    }
     /* Who sets it has heard of all that did so if it had before. */
     bool knows = !flag->is_set || has_heard(flag, thread);
     clear(&flag->heard, sizeof flag->heard);
@@ -207,18 +209,21 @@ void await_flag(struct thread *thread, struct flag *flag, uintptr_t place)
 
 void await_never(struct thread *thread, struct flag *flag, uintptr_t place)
 {
-    if (flag)
-        trace_line(thread, "watch", flag->number = flag_number(), place);
+    if (!flag)
+        return;
+    flag->number = flag_number();
+    trace_names(flag->number, "what this thread waits for in vain", place);
+    trace_line(thread, "watch", flag->number, place);
 }
 
-void hand_on(struct flag *flag, uintptr_t place)
+void hand_on(struct flag *flag, const char *what, uintptr_t place)
 {
     struct thread *thread = recorded();
 
     if (!thread)
         return;
     trace_enter(thread);
-    set_flag(thread, flag, place);
+    set_flag(thread, flag, what, place);
     trace_leave(thread);
 }
 

@@ -140,6 +140,8 @@ void trace_leave(struct thread *thread);
 void trace_line(struct thread *thread, const char *event, uint32_t number, uintptr_t place);
 /* A line that is no event, once for each text; it goes to standard error too. */
 void trace_says(const char *text);
+/* A line that is no event: what the flag stands for in the program. Inside. */
+void trace_names(uint32_t flag, const char *what, uintptr_t place);
 /* Writes the thread's accesses. */
 void trace_accesses(struct thread *thread);
 /* One event with all of this round it. */
@@ -193,14 +195,15 @@ uint32_t lock_of(struct object *object);
 /* A flag that no one has set. */
 struct flag *new_flag(void);
 void renew_flag(struct flag *flag);
-/* Sets a flag, and awaits one unless the thread has heard of all that set it. Both inside. */
-void set_flag(struct thread *thread, struct flag *flag, uintptr_t place);
+/* Sets a flag, and awaits one unless the thread has heard of all that set it. Both inside. The first time the trace says what the
+   flag stands for in the program. */
+void set_flag(struct thread *thread, struct flag *flag, const char *what, uintptr_t place);
 void await_flag(struct thread *thread, struct flag *flag, uintptr_t place);
 bool has_heard(const struct flag *flag, const struct thread *thread);
 /* It waits for a flag that nobody sets. Inside. */
 void await_never(struct thread *thread, struct flag *flag, uintptr_t place);
 /* The same with the trace round it. */
-void hand_on(struct flag *flag, uintptr_t place);
+void hand_on(struct flag *flag, const char *what, uintptr_t place);
 void take_over(struct flag *flag, uintptr_t place);
 
 /* atomics.c: the value at this address is one that a release store has left. Nothing else is at hand. */

@@ -99,7 +99,7 @@ static void ends(void *given)
 
     if (++thread->put_off < PTHREAD_DESTRUCTOR_ITERATIONS && !pthread_setspecific(at_end, thread))
         return;
-    hand_on(&thread->start->ended, 0);
+    hand_on(&thread->start->ended, "a thread's end", 0);
     self = &nobody;
     atomic_store(&thread->stage, ENDED);
     wake(thread->start, true);
@@ -163,7 +163,7 @@ static int create(pthread_t *id, const pthread_attr_t *attributes, void *(*routi
 
     if (!start)
         return NEXT(pthread_create)(id, attributes, routine, argument);
-    hand_on(&start->begun, place);
+    hand_on(&start->begun, "a thread's start", place);
     int fault = NEXT(pthread_create)(id, attributes, begins, start);
     if (fault)
         return fault;

@@ -281,6 +281,18 @@ void trace_says(const char *what)
     }
 }
 
+void trace_names(uint32_t flag, const char *what, uintptr_t place)
+{
+    if (!is_recording())
+        return;
+    put_text("# flag ");
+    put_number(flag);
+    put_text(" is ");
+    put_text(what);
+    put_place(place);
+    end_line();
+}
+
 static void print_said(void)
 {
     while (printed < 16 && atomic_load_explicit(&said[printed], memory_order_relaxed)) {
