@@ -52,7 +52,9 @@ class Build:
 
     def begin_ready(self):
         """Starts the libraries that may start now, the longest way first."""
-        for crate, jobs in plan.starting(self.waiting, self.running, self.cores, self.most).items():
+        left = plan.left_of(self.waiting, self.progress.spent(self.spent()))
+        running = {crate: self.jobs[crate] for crate in self.running}
+        for crate, jobs in plan.starting(left, running, self.cores, self.most).items():
             self.begin(crate, jobs, ["lib", "--jobs", str(jobs)], rooms.enter(crate))
 
     def end_one(self):

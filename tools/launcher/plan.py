@@ -44,12 +44,29 @@ def jobs(crate, waiting, beside, cores):
     return max(1, min(cores, cores - beside + 1))
 
 
-def starting(waiting, running, cores, most):
-    """The crates that start now, each with its jobs: the longest ways first, as many as `most` allows. The program's own
-    crate, the last one, starts when all others are proved."""
+def ready_of(waiting, running, most):
+    """The crates that may start now: the longest ways first, as many as `most` allows. The program's own crate, the last one,
+    starts when all others are proved."""
     ready = [it for it in waiting if it not in running and is_ready(it, waiting)]
-    ready = sorted(ready, key=lambda it: -it.way)[: max(0, most - len(running))]
+    return sorted(ready, key=lambda it: -it.way)[: max(0, most - len(running))]
+
+
+def starting_plainly(waiting, running, cores, most):
+    """The crates that start now, each with its jobs, by a rule that looks at nothing but the ways."""
+    ready = ready_of(waiting, running, most)
     return {it: jobs(it, waiting, len(running) + len(ready) - 1, cores) for it in ready}
+
+
+def starting(left, running, cores, most):
+    """The crates that start now, each with its jobs. Of each crate that isn't proved yet there are so many seconds `left`;
+    `running`: the jobs of each that has begun. Each gets one job, or one of them gets more, if all is done sooner then, as
+    far as `steps` tells: the longest way may lead through a crate that has begun, and cores are idle beside it."""
+    ready = ready_of(list(left), running, most)
+    plain = dict.fromkeys(ready, 1)
+    given = [plain]
+    if len(left) > 1:
+        given += [{**plain, it: many} for it in ready for many in range(2, cores + 1)]
+    return min(given, key=lambda it: (seconds_of(left, {**running, **it}, cores), sum(it.values())))
 
 
 def steps(left, running, cores):
@@ -58,7 +75,7 @@ def steps(left, running, cores):
     many jobs."""
     running = dict(running)
     while left:
-        running.update(starting(list(left), running, cores, cores))
+        running.update(starting_plainly(list(left), running, cores, cores))
         share = min(1, cores / sum(running.values()))
         speeds = {crate: speed(many) * share for crate, many in running.items()}
         step = min(left[crate] / each for crate, each in speeds.items())
@@ -68,10 +85,19 @@ def steps(left, running, cores):
         running = {crate: many for crate, many in running.items() if crate in left}
 
 
+def left_of(waiting, spent):
+    """The seconds that each crate has left, where it takes those of its weight less what it has had."""
+    return {crate: max(crate.weight - spent.get(crate, 0), crate.weight / 20) for crate in waiting}
+
+
+def seconds_of(left, running, cores):
+    """How long the rest of a build takes, of which each crate has so many seconds left."""
+    return sum(step for step, _, _ in steps(left, running, cores))
+
+
 def seconds_left(waiting, spent, running, cores):
     """How long the rest takes, where each crate takes the seconds of its weight less what it has had."""
-    left = {crate: max(crate.weight - spent.get(crate, 0), crate.weight / 20) for crate in waiting}
-    return sum(step for step, _, _ in steps(left, running, cores))
+    return seconds_of(left_of(waiting, spent), running, cores)
 
 
 def add_up(crates, took):
