@@ -1,7 +1,17 @@
 /* What gcc's and clang's -fsanitize=thread put before each access. */
 #include "words.h"
 
-static inline void accesses(uintptr_t address, size_t size, bool is_store, uintptr_t place)
+/* An access that may say something new. */
+static __attribute__((noinline)) void accesses_anew(
+    struct thread *thread, uintptr_t address, size_t size, bool is_store, uintptr_t place)
+{
+    if (size % WORD == 0 && address % WORD == 0)
+        access_words(thread, address, size / WORD, is_store, place);
+    else
+        access_bytes(thread, address, size, is_store, place);
+}
+
+static ALWAYS_INLINE void accesses(uintptr_t address, size_t size, bool is_store, uintptr_t place)
 {
     struct thread *thread = recorded();
 
@@ -9,10 +19,9 @@ static inline void accesses(uintptr_t address, size_t size, bool is_store, uintp
         return;
     if (__builtin_expect(is_scheduled, 0) && !--thread->turn.left)
         turn_passes(thread, false);
-    if (__builtin_expect(size % WORD == 0 && address % WORD == 0, 1))
-        access_words(thread, address, size / WORD, is_store, place);
-    else
-        access_bytes(thread, address, size, is_store, place);
+    if ((size == WORD || size == 2 * WORD) && address % size == 0 && are_kept(thread, address, size / WORD, is_store))
+        return;
+    accesses_anew(thread, address, size, is_store, place);
 }
 
 /* A load and a store of these bytes, with or without the place in the program. */

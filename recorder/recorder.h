@@ -35,8 +35,14 @@ enum {
     MOST_FLAGS = 1 << 16,
 };
 
-/* How many accesses a thread keeps before it writes them, and how many it remembers to leave out their like. */
-enum { KEPT_ACCESSES = 1 << 13, REMEMBERED_ACCESSES = 1 << 18 };
+/* How many accesses a thread keeps before it writes them. */
+enum { KEPT_ACCESSES = 1 << 13 };
+
+/* How many synchronizations of a thread are told apart. */
+#define MOST_INTERVALS ((1u << 31) - 1)
+
+/* What has to be quick is a part of each hook. */
+#define ALWAYS_INLINE inline __attribute__((always_inline))
 
 /* No lock, flag or processor. */
 #define NONE UINT32_MAX
@@ -109,7 +115,8 @@ struct thread {
     uint32_t ignored;
     _Atomic uint32_t kept;
     struct access accesses[KEPT_ACCESSES];
-    uint64_t remembered[REMEMBERED_ACCESSES];
+    /* By the word's number which access was kept last, so that its like is left out. */
+    uint32_t remembered[MOST_WORDS + 1];
     struct held held[MOST_HELD];
     uint32_t holds;
     /* The flag of the last release fence, and the flags that an acquire fence takes. */
@@ -159,7 +166,8 @@ void bytes_are_new(uintptr_t address, size_t size);
 /* Marks that something synchronizes at this address, and asks for it. */
 void mark_synchronizing(uintptr_t address);
 bool is_synchronizing(uintptr_t address);
-void words_begin(void);
+/* Whether there is room for numbers of words. */
+bool words_begin(void);
 
 /* objects.c: what is known of an object that synchronizes, by its address. */
 

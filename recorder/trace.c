@@ -95,18 +95,15 @@ static void write_lines(void)
     length = whole = 0;
 }
 
-static inline void put(char sign)
-{
-    text[length++] = sign;
-}
-
-static inline void put_text(const char *signs)
+/* What these put stands from `to` on, and they answer where it ends: so a line is put without a look at what is kept elsewhere. */
+static inline char *put_text(char *to, const char *signs)
 {
     while (*signs)
-        put(*signs++);
+        *to++ = *signs++;
+    return to;
 }
 
-static inline void put_number(unsigned long number)
+static inline char *put_number(char *to, unsigned long number)
 {
     char digits[20];
     int count = 0;
@@ -115,23 +112,31 @@ static inline void put_number(unsigned long number)
         digits[count++] = (char)('0' + number % 10);
     while (number /= 10);
     while (count)
-        put(digits[--count]);
+        *to++ = digits[--count];
+    return to;
 }
 
-static inline void put_hexadecimal(uintptr_t number)
+static inline char *put_hexadecimal(char *to, uintptr_t number)
 {
-    int shift = 60;
+    int shift = 0;
 
-    while (shift && !(number >> shift & 15))
-        shift -= 4;
+    while (number >> shift > 15)
+        shift += 4;
     for (; shift >= 0; shift -= 4)
-        put("0123456789abcdef"[number >> shift & 15]);
+        *to++ = "0123456789abcdef"[number >> shift & 15];
+    return to;
 }
 
-static inline void end_line(void)
+/* Where the next line begins. */
+static inline char *begin_line(void)
 {
-    put('\n');
-    whole = length;
+    return text + length;
+}
+
+static inline void end_line(char *to)
+{
+    *to++ = '\n';
+    whole = length = (size_t)(to - text);
     if (length > ROOM - LONGEST_LINE)
         write_lines();
 }
@@ -180,57 +185,56 @@ static struct module *module_of(uintptr_t place)
 }
 
 /* A place in the program is the line's label. The call before it is meant, so it is the byte before. */
-static inline void put_place(uintptr_t place)
+static inline char *put_place(char *to, uintptr_t place)
 {
     struct module *module = place ? module_of(place - 1) : NULL;
 
     if (!module)
-        return;
-    put(' ');
-    put(' ');
-    put_text(module->name);
-    put('+');
-    put('0');
-    put('x');
-    put_hexadecimal(place - 1 - module->first);
+        return to;
+    to = put_text(put_text(to, "  "), module->name);
+    return put_hexadecimal(put_text(to, "+0x"), place - 1 - module->first);
 }
 
-static inline void begin_line(uint32_t processor)
+static inline char *begin_event(const struct thread *thread)
 {
-    put_text("event ");
-    put_number(events++);
-    put(' ');
-    put_number(processor);
-    put(' ');
+    char *to = put_number(put_text(begin_line(), "event "), events++);
+
+    *to++ = ' ';
+    to = put_number(to, thread->processor);
+    *to++ = ' ';
+    return to;
+}
+
+/* Like accesses say something new again. */
+static void begin_interval(struct thread *thread)
+{
+    if (thread->interval == MOST_INTERVALS) {
+        clear(thread->remembered, sizeof thread->remembered);
+        thread->interval = 0;
+    }
+    thread->interval++;
 }
 
 void trace_line(struct thread *thread, const char *event, uint32_t number, uintptr_t place)
 {
     if (!is_recording())
         return;
-    begin_line(thread->processor);
-    put_text(event);
-    if (number != NONE) {
-        put(' ');
-        put_number(number);
-    }
-    put_place(place);
-    end_line();
+    char *to = put_text(begin_event(thread), event);
+    if (number != NONE)
+        to = put_number(put_text(to, " "), number);
+    end_line(put_place(to, place));
     /* What a thread did before it took something over races with all that what it does after that would race with. */
     if (event[0] == 's' || event[0] == 'r' || event[1] == 'c')
-        thread->interval++;
+        begin_interval(thread);
 }
 
 /* Values aren't recorded: a load of 0 and a store of 0 stand for all. */
 static inline void access_line(struct thread *thread, struct access access)
 {
-    begin_line(thread->processor);
-    put_text(access.place & 1 ? "store " : "load ");
-    put_number(access.word);
-    put(' ');
-    put('0');
-    put_place(access.place >> 1);
-    end_line();
+    char *to = put_text(begin_event(thread), access.place & 1 ? "store " : "load ");
+
+    to = put_text(put_number(to, access.word), " 0");
+    end_line(put_place(to, access.place >> 1));
 }
 
 void trace_accesses(struct thread *thread)
@@ -285,20 +289,14 @@ void trace_names(uint32_t flag, const char *what, uintptr_t place)
 {
     if (!is_recording())
         return;
-    put_text("# flag ");
-    put_number(flag);
-    put_text(" is ");
-    put_text(what);
-    put_place(place);
-    end_line();
+    char *to = put_number(put_text(begin_line(), "# flag "), flag);
+    end_line(put_place(put_text(put_text(to, " is "), what), place));
 }
 
 static void print_said(void)
 {
     while (printed < 16 && atomic_load_explicit(&said[printed], memory_order_relaxed)) {
-        put_text("# ");
-        put_text(said[printed++]);
-        end_line();
+        end_line(put_text(put_text(begin_line(), "# "), said[printed++]));
     }
 }
 
@@ -316,17 +314,13 @@ static int open_trace(void)
 
 static void put_head(void)
 {
-    put_text("cluster ");
-    put_number(MOST_PROCESSORS);
-    put_text(" 1 ");
-    put_number(MOST_WORDS);
-    put(' ');
-    put_number(MOST_LOCKS);
-    put(' ');
-    put_number(MOST_FLAGS);
-    end_line();
-    put_text("# recorded: words are numbered as they were first touched, and values are left out");
-    end_line();
+    static const uint32_t sizes[] = {MOST_PROCESSORS, 1, MOST_WORDS, MOST_LOCKS, MOST_FLAGS};
+    char *to = put_text(begin_line(), "cluster");
+
+    for (size_t at = 0; at < sizeof sizes / sizeof *sizes; at++)
+        to = put_number(put_text(to, " "), sizes[at]);
+    end_line(to);
+    end_line(put_text(begin_line(), "# recorded: words are numbered as they were first touched, and values are left out"));
 }
 
 /* Writes what all threads have kept. */
@@ -380,7 +374,10 @@ static void end_in_child(void)
 
 static void begin_once(void)
 {
-    words_begin();
+    if (!words_begin()) {
+        say("memory ran out: nothing is recorded");
+        return;
+    }
     schedule_begin();
     file = open_trace();
     if (file < 0) {

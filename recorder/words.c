@@ -20,10 +20,11 @@ static void *reserve(size_t size)
     return room == MAP_FAILED ? NULL : room;
 }
 
-void words_begin(void)
+bool words_begin(void)
 {
-    blocks = reserve(sizeof *blocks << (ADDRESS_BITS - BLOCK_BITS));
+    blocks = reserve(sizeof *blocks * BLOCKS);
     parted = reserve(sizeof *parted * MOST_WORDS);
+    return blocks && parted;
 }
 
 cell *new_block(cell *_Atomic *place)

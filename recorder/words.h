@@ -21,6 +21,7 @@ enum {
 };
 #define IS_SYNCHRONIZING (1u << 31)
 #define ADDRESS_BITS 47
+#define BLOCKS ((uintptr_t)1 << (ADDRESS_BITS - BLOCK_BITS))
 
 extern cell *_Atomic *blocks;
 cell *new_block(cell *_Atomic *place);
@@ -34,7 +35,7 @@ void write_kept(struct thread *thread);
 /* The cell of the word at the address; NULL if memory ran out. */
 static inline cell *cell_at(uintptr_t address)
 {
-    if (__builtin_expect(address >> ADDRESS_BITS || !blocks, 0))
+    if (__builtin_expect(address >> ADDRESS_BITS != 0, 0))
         return NULL;
     cell *_Atomic *place = &blocks[address >> BLOCK_BITS];
     cell *block = atomic_load_explicit(place, memory_order_acquire);
@@ -44,15 +45,45 @@ static inline cell *cell_at(uintptr_t address)
     return &block[(address & ((1u << BLOCK_BITS) - 1)) / WORD];
 }
 
-/* Keeps an access, unless one like it, or a store, was kept since the thread's last synchronization. */
+/* What a thread remembers of a word: its synchronization after which it kept an access, and whether that stored. */
+static ALWAYS_INLINE uint32_t as_remembered(const struct thread *thread, bool is_store)
+{
+    return thread->interval << 1 | is_store;
+}
+
+/* Whether an access of the word was kept since the thread's last synchronization that is as strong. */
+static ALWAYS_INLINE bool is_kept(const struct thread *thread, uint32_t number, bool is_store)
+{
+    uint32_t like = thread->remembered[number];
+
+    return (is_store ? like : like | 1) == as_remembered(thread, true);
+}
+
+/*
+ * The same of one aligned word, or of two: so a loop over what it accessed before costs little. No thread remembers number 0, which
+ * a new word has.
+ */
+static ALWAYS_INLINE bool are_kept(const struct thread *thread, uintptr_t address, size_t count, bool is_store)
+{
+    cell *block = atomic_load_explicit(&blocks[address >> BLOCK_BITS & (BLOCKS - 1)], memory_order_acquire);
+    uint64_t cells;
+
+    if (__builtin_expect(!block, 0))
+        return false;
+    block += (address & ((1u << BLOCK_BITS) - 1)) / WORD;
+    cells = count == 2 ? __atomic_load_n((const uint64_t *)block, __ATOMIC_RELAXED) : atomic_load_explicit(block, memory_order_relaxed);
+    for (size_t at = 0; at < count; at++, cells >>= 32)
+        if (cells & IS_PARTED || !is_kept(thread, (uint32_t)cells & NUMBER, is_store))
+            return false;
+    return true;
+}
+
+/* Keeps an access, unless one as strong was kept since the thread's last synchronization. */
 static inline void keep(struct thread *thread, uint32_t number, bool is_store, uintptr_t place)
 {
-    uint64_t *like = &thread->remembered[number % REMEMBERED_ACCESSES];
-    uint64_t mine = (uint64_t)thread->interval << 32 | (uint64_t)number << 1 | is_store;
-
-    if ((*like | 1) == (mine | 1) && (*like & 1) >= (mine & 1))
+    if (is_kept(thread, number, is_store))
         return;
-    *like = mine;
+    thread->remembered[number] = as_remembered(thread, is_store);
     uint32_t kept = atomic_load_explicit(&thread->kept, memory_order_relaxed);
     if (__builtin_expect(kept == KEPT_ACCESSES, 0)) {
         write_kept(thread);
