@@ -1,7 +1,9 @@
 //! Lines of JSON, and that they are written.
-ghost use Rattle.std.specs.Prelude.{◌≡◌, ◌++◌, ℕ, Err, IfErr, List, OnOk, codes, string_bytes};
+ghost use Rattle.std.specs.Prelude.{◌≡◌, ◌++◌, [], ℕ, Err, IfErr, IsOkAnd, List, None, OnOk, codes, false, string_bytes};
 ghost use Rattle.std.specs.Io.KnownBytes.{Appends};
+ghost use Rattle.serde_json.specs.Written.{members_have_float};
 ghost use Rattle.lrc_json.specs.declared.fault.JsonFault.TheVariants.{NoMemory, Output};
+ghost use Rattle.lrc_json.specs.Prelude.{IsLinePut, json_line, members_so_far};
 
 use crate::fault::JsonFault;
 use crate::members::Members;
@@ -21,7 +23,10 @@ fn put_json_output_line(
     text: &mut String,
     alloc: Global,
     members: Members,
-) -> Result<(), AllocError> {
+) -> Result<(), AllocError>
+    ensures { OnOk result ((members.fault ≡ None) × (members_have_float (members_so_far members) ≡ false
+        → string_bytes text.new ≡ string_bytes text.old ++ json_line (members_so_far members))) }
+{
     let line = members.into_value()?.to_string(alloc)?;
     text.push_str(&line)?;
     text.push_str("\n")
@@ -43,7 +48,9 @@ fn write_json_output<W: Write>(text: &str, out: &mut W) -> Result<(), JsonFault>
 
 impl JsonLines {
     /// No line.
-    pub fn new(alloc: Global) -> JsonLines {
+    pub fn new(alloc: Global) -> JsonLines
+        ensures { string_bytes result.text ≡ [] }
+    {
         JsonLines {
             alloc,
             text: String::new(alloc),
@@ -52,14 +59,18 @@ impl JsonLines {
     }
 
     /// Adds the object as a line.
-    pub fn put(&mut self, members: Members) {
+    pub fn put(&mut self, members: Members)
+        ensures { IsLinePut self.old self.new members }
+    {
         if let Err(error) = put_json_output_line(&mut self.text, self.alloc, members) {
             self.fault = Some(error);
         }
     }
 
     /// Adds the object as a line, if there was memory for it.
-    pub fn put_made(&mut self, members: Result<Members, AllocError>) {
+    pub fn put_made(&mut self, members: Result<Members, AllocError>)
+        ensures { self.new.fault ≡ None → IsOkAnd members (IsLinePut self.old self.new) }
+    {
         match members {
             Ok(members) => self.put(members),
             Err(error) => self.fault = Some(error),
@@ -80,6 +91,7 @@ impl JsonLines {
     /// NoMemory, after which nothing was written. After Output a beginning of the lines may be.
     pub fn write<W: Write>(&self, out: &mut W) -> Result<(), JsonFault>
         ensures written { OnOk result ((text : List ℕ) × Appends (W.contents out.old) (W.contents out.new) text) }
+        ensures lines { OnOk result ((self.now.fault ≡ None) × Appends (W.contents out.old) (W.contents out.new) (string_bytes self.now.text)) }
         ensures unwritten { result ≡ Err NoMemory → W.contents out.new ≡ W.contents out.old }
     {
         match self.fault {

@@ -1,0 +1,9 @@
+use Rattle.std.proofs.Common.{◌≡◌, ◌++◌, None, drop, map}
+use Rattle.lrc_json.specs.PutTogether.{items_so_far}
+use Rattle.lrc_json.specs.SampledJson.{json_owner, json_replies, sampled_owners}
+use Rattle.lrc_json.proofs.sampled.put_sampled_replies_json.Given as goal
+
+abbrev pub invariant-loop-reply : goal.invariant-loop-reply
+invariant-loop-reply l = l.list.fault ≡ None → (l.fn.list.fault ≡ None)
+    × (items_so_far l.list ++ map (json_owner l.replies) (sampled_owners l.last (drop l.reply-index l.replies))
+    ≡ items_so_far l.fn.list ++ json_replies l.replies)

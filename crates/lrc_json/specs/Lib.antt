@@ -1,0 +1,3 @@
+pub mod PutTogether
+pub mod SampledJson
+pub mod Prelude
