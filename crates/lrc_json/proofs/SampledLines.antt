@@ -1,5 +1,5 @@
 -- The lines of a sample.
-use Rattle.std.proofs.Common.{◌≡◌, ℕ, zero, suc, ◌+◌, List, [], ◌∷◌, ◌++◌, Bool, true, false, None, Some, Ok, Err, IfOk, Result, ◌∙◌, ap, append_assoc, append-nil, arith, codes, length, refl, rules, slice_get, subst, sym, take}
+use Rattle.std.proofs.Common.{◌≡◌, ℕ, zero, suc, ◌+◌, List, [], ◌∷◌, ◌++◌, false, None, Some, Ok, Err, IfOk, Result, ◌∙◌, ap, append_assoc, append-nil, arith, codes, length, refl, slice_get, subst, sym, take}
 use Rattle.std.proofs.lemmas.Option.{none-some, same_Some}
 use Rattle.std.specs.List.{flat_map}
 use Rattle.std.specs.Prelude.{IsOkAnd, map}
@@ -15,7 +15,7 @@ use Rattle.lrc_sample.specs.declared.tally.TallyLine.{TallyLine}
 use Rattle.lrc_sample.specs.SampleAnswers.{SampleAnswers}
 use Rattle.lrc_sample.specs.SampleText.{sample_runs_of_verdict, sample_text_runs}
 use Rattle.lrc_sample.specs.declared.outcome.SampleVerdict.TheVariants as verdict
-use Rattle.lrc_json.specs.PutTogether.{HasMembers, IsLinePut, json_line, json_list, json_number, json_telling, members_so_far}
+use Rattle.lrc_json.specs.PutTogether.{HasMembers, IsLinePut, json_line, json_list, json_number, json_telling}
 use Rattle.lrc_json.specs.SampledJson.{json_owner, json_replies, json_sampled_result, json_sampled_summary, json_word, sampled_owners, sampled_verdict, sampled_words_by, with_sampled_answers, with_sampled_outcome}
 use Rattle.lrc_json.specs.declared.members.Members.{Members as Object}
 use Rattle.lrc_json.specs.declared.output.JsonLines.{JsonLines}

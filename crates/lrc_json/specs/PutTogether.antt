@@ -1,5 +1,5 @@
 -- Objects, lists and lines of JSON that are put together piece by piece.
-use Rattle.std.specs.Prelude.{ℕ, ◌≡◌, ◌≤◌, Option, None, List, [], ◌∷◌, ◌++◌, Result, IsOkAnd, codes, cond, decimal, false, map, nat_le, string_bytes}
+use Rattle.std.specs.Prelude.{ℕ, ◌≡◌, None, List, [], ◌∷◌, ◌++◌, Result, IsOkAnd, codes, cond, decimal, false, map, nat_le, string_bytes}
 use Rattle.std.specs.declared.alloc.AllocError.{AllocError}
 use Rattle.serde_json.specs.Data.{Data, Members, array, no_members, number, object, put, string, unsigned}
 use Rattle.serde_json.specs.View.{items_of, members_view, view}

@@ -1,5 +1,5 @@
 -- What a script's runs came to, as JSON.
-use Rattle.std.specs.Prelude.{ℕ, Option, Some, None, List, [], ◌∷◌, ◌++◌, Bool, codes, cond, filter, flat_map, if◌then◌else◌, length, map, ◌==◌}
+use Rattle.std.specs.Prelude.{ℕ, Option, Some, None, List, [], ◌∷◌, ◌++◌, codes, cond, flat_map, if◌then◌else◌, length, map, ◌==◌}
 use Rattle.serde_json.specs.Data.{Data, Members, no_members, object, put, string}
 use Rattle.conformance.specs.ScheduleTexts.{schedule_text}
 use Rattle.lrc_sample.specs.declared.outcome.Reply.{Reply}
