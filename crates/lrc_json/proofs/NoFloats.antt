@@ -1,10 +1,15 @@
 -- What is put together of numbers, texts and flags has no float.
-use Rattle.std.proofs.Common.{◌≡◌, ℕ, List, [], ◌∷◌, Bool, true, false, Ordering, Less, Equal, Greater, nat_cmp, refl, true≢false}
-use Rattle.std.specs.Prelude.{◌||◌, map}
+use Rattle.std.proofs.Common.{◌≡◌, ℕ, List, [], ◌∷◌, ◌++◌, Bool, true, false, Ordering, Less, Equal, Greater, nat_cmp, refl, true≢false, Err, Ok, Result, ap, subst, sym, ◌∙◌}
+use Rattle.std.proofs.lemmas.List.{map_push}
+use Rattle.std.specs.Prelude.{◌||◌, IsOkAnd, map}
+use Rattle.std.specs.declared.alloc.AllocError.{AllocError}
 use Rattle.std.specs.Cmp.Lexicographic.{slice_cmp}
 use Rattle.std.specs.Ordering.{match_ordering}
 use Rattle.serde_json.specs.Data.{Data, Members, member, no_members, put}
-use Rattle.serde_json.specs.View.{items_of}
+use Rattle.serde_json.specs.View.{items_of, view}
+use Rattle.serde_json.specs.declared.value.Value.{Value}
+use Rattle.lrc_json.specs.declared.members.Values.{Values}
+use Rattle.lrc_json.specs.PutTogether.{IsValueAdded, items_so_far}
 use Rattle.serde_json.specs.Written.{has_float, items_have_float, members_have_float}
 
 or_false : (a b : Bool) → a ≡ false → b ≡ false → (a || b) ≡ false
@@ -36,7 +41,17 @@ no_float_put k d (member l e ms) is are =
     (or_false (has_float d) (members_have_float ms) is rest)
     (or_false (has_float e) (members_have_float (put k d ms)) first (no_float_put k d ms is rest))
 
--- a list of what has none
-pub no_float_items : {A : Type 0} (f : A → Data) (xs : List A) → ((x : A) → has_float (f x) ≡ false) → items_have_float (items_of (map f xs)) ≡ false
-no_float_items f [] are = refl
-no_float_items f (x ∷ xs) are = or_false (has_float (f x)) (items_have_float (items_of (map f xs))) (are x) (no_float_items f xs are)
+-- one item more
+pub no_float_added : (ds : List Data) (d : Data) → has_float d ≡ false → items_have_float (items_of ds) ≡ false → items_have_float (items_of (ds ++ d ∷ [])) ≡ false
+no_float_added [] d is are = or_false (has_float d) false is refl
+no_float_added (x ∷ ds) d is are =
+    or_false (has_float x) (items_have_float (items_of (ds ++ d ∷ []))) (or_false_left (has_float x) (items_have_float (items_of ds)) are)
+    (no_float_added ds d is (or_false_right (has_float x) (items_have_float (items_of ds)) are))
+
+-- a value that was added to those of a list
+pub value_added : (old new : Values) (value : Result Value AllocError) → old.fault ≡ new.fault
+    → IsOkAnd value (λ v. new.values.items ≡ old.values.items ++ v ∷ []) → IsValueAdded old new value
+value_added old new (Ok v) same is = λ none no_float.
+    let items : items_so_far new ≡ items_so_far old ++ view v ∷ [] = ap (map view) is ∙ map_push view old.values.items v in
+    (same ∙ none, items, λ are. subst (λ ds. items_have_float (items_of ds) ≡ false) (sym items) (no_float_added (items_so_far old) (view v) no_float are))
+value_added old new (Err error) same is = absurd is

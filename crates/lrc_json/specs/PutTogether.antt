@@ -3,7 +3,7 @@ use Rattle.std.specs.Prelude.{ℕ, ◌≡◌, None, List, [], ◌∷◌, ◌++�
 use Rattle.std.specs.declared.alloc.AllocError.{AllocError}
 use Rattle.serde_json.specs.Data.{Data, Members, array, no_members, number, object, put, string, unsigned}
 use Rattle.serde_json.specs.View.{items_of, members_view, view}
-use Rattle.serde_json.specs.Written.{compact_text, members_have_float}
+use Rattle.serde_json.specs.Written.{compact_text, has_float, items_have_float, members_have_float}
 use Rattle.serde_json.specs.declared.value.Value.{Value}
 use Rattle.lrc_json.specs.declared.members.Members.{Members as Object}
 use Rattle.lrc_json.specs.declared.members.Values.{Values}
@@ -33,37 +33,59 @@ json_list ds = array (items_of ds)
 abbrev pub json_telling : List ℕ → Members
 json_telling told = put (codes "told") (string told) no_members
 
--- memory hadn't run out, and the members became these
+-- memory hadn't run out, and the members became these; a float isn't new among them
 abbrev pub AreMembersNow : Object → Object → (Members → Members) → Type 0
 AreMembersNow old new f = (old.fault ≡ None) × (members_so_far new ≡ f (members_so_far old))
+    × (members_have_float (members_so_far old) ≡ false → members_have_float (members_so_far new) ≡ false)
 
 -- so they did, unless memory ran out
 abbrev pub BecameMembers : Object → Object → (Members → Members) → Type 0
 BecameMembers old new f = new.fault ≡ None → AreMembersNow old new f
 
--- unless memory ran out, there was a value, and it was put at this key
+-- unless memory ran out, there was a value, and it was put at this key, if it has no float
 abbrev pub IsValuePut : Object → Object → List ℕ → Result Value AllocError → Type 0
-IsValuePut old new key value = new.fault ≡ None → IsOkAnd value (λ v. AreMembersNow old new (put key (view v)))
+IsValuePut old new key value = new.fault ≡ None → IsOkAnd value (λ v. has_float (view v) ≡ false → AreMembersNow old new (put key (view v)))
 
--- unless memory ran out, these are its members
+-- unless memory ran out, so it hadn't at the object, which was put at this key, if it has no float
+abbrev pub IsObjectPut : Object → Object → List ℕ → Object → Type 0
+IsObjectPut old new key x = new.fault ≡ None → (x.fault ≡ None)
+    × (members_have_float (members_so_far x) ≡ false → AreMembersNow old new (put key (object (members_so_far x))))
+
+-- the same of a list
+abbrev pub IsListPut : Object → Object → List ℕ → Values → Type 0
+IsListPut old new key x = new.fault ≡ None → (x.fault ≡ None)
+    × (items_have_float (items_of (items_so_far x)) ≡ false → AreMembersNow old new (put key (json_list (items_so_far x))))
+
+-- unless memory ran out, these are its members, and none has a float
 abbrev pub HasMembers : Object → Members → Type 0
-HasMembers x ms = x.fault ≡ None → members_so_far x ≡ ms
+HasMembers x ms = x.fault ≡ None → (members_so_far x ≡ ms) × (members_have_float (members_so_far x) ≡ false)
 
--- memory hadn't run out, and the list has these items more
+-- memory hadn't run out, and the list has these items more; a float isn't new among them
 abbrev pub AreItemsAdded : Values → Values → List Data → Type 0
 AreItemsAdded old new ds = (old.fault ≡ None) × (items_so_far new ≡ items_so_far old ++ ds)
+    × (items_have_float (items_of (items_so_far old)) ≡ false → items_have_float (items_of (items_so_far new)) ≡ false)
 
 -- so it has, unless memory ran out
 abbrev pub AddedItems : Values → Values → List Data → Type 0
 AddedItems old new ds = new.fault ≡ None → AreItemsAdded old new ds
 
--- unless memory ran out, there was a value, and it was added
+-- unless memory ran out, there was a value, and it was added, if it has no float
 abbrev pub IsValueAdded : Values → Values → Result Value AllocError → Type 0
-IsValueAdded old new value = new.fault ≡ None → IsOkAnd value (λ v. AreItemsAdded old new (view v ∷ []))
+IsValueAdded old new value = new.fault ≡ None → IsOkAnd value (λ v. has_float (view v) ≡ false → AreItemsAdded old new (view v ∷ []))
 
--- unless memory ran out, these are its items
+-- unless memory ran out, so it hadn't at the object, which was added, if it has no float
+abbrev pub IsObjectAdded : Values → Values → Object → Type 0
+IsObjectAdded old new x = new.fault ≡ None → (x.fault ≡ None)
+    × (members_have_float (members_so_far x) ≡ false → AreItemsAdded old new (object (members_so_far x) ∷ []))
+
+-- the same of a list
+abbrev pub IsListAdded : Values → Values → Values → Type 0
+IsListAdded old new x = new.fault ≡ None → (x.fault ≡ None)
+    × (items_have_float (items_of (items_so_far x)) ≡ false → AreItemsAdded old new (json_list (items_so_far x) ∷ []))
+
+-- unless memory ran out, these are its items, and none has a float
 abbrev pub HasItems : Values → List Data → Type 0
-HasItems x ds = x.fault ≡ None → items_so_far x ≡ ds
+HasItems x ds = x.fault ≡ None → (items_so_far x ≡ ds) × (items_have_float (items_of (items_so_far x)) ≡ false)
 
 -- an object as a line
 abbrev pub json_line : Members → List ℕ

@@ -2,7 +2,7 @@
 ghost use Rattle.std.specs.Prelude.{◌≡◌, [], ◌∷◌, ◌++◌, None, IfOk, IsOkAnd, OnOk, map, string_bytes};
 ghost use Rattle.serde_json.specs.Data as tree;
 ghost use Rattle.serde_json.specs.View.{view};
-ghost use Rattle.lrc_json.specs.Prelude.{AddedItems, AreItemsAdded, AreMembersNow, BecameMembers, HasItems, HasMembers, IsValueAdded, IsValuePut, json_count, items_so_far, json_list, json_number, json_telling, members_so_far};
+ghost use Rattle.lrc_json.specs.Prelude.{AddedItems, AreMembersNow, BecameMembers, HasItems, HasMembers, IsListAdded, IsListPut, IsObjectAdded, IsObjectPut, IsValueAdded, IsValuePut, items_so_far, json_count, json_list, json_number, json_telling, members_so_far};
 
 use serde_json::{Map, Value};
 use std::alloc::{AllocError, Global};
@@ -116,16 +116,14 @@ impl Members {
 
     /// Adds an object.
     pub fn put_object(&mut self, key: &str, object: Members)
-        ensures { self.new.fault ≡ None → (object.fault ≡ None)
-            × AreMembersNow self.old self.new (tree.put key.now (tree.object (members_so_far object))) }
+        ensures { IsObjectPut self.old self.new key.now object }
     {
         self.put(key, object.into_value());
     }
 
     /// Adds a list.
     pub fn put_list(&mut self, key: &str, list: Values)
-        ensures { self.new.fault ≡ None → (list.fault ≡ None)
-            × AreMembersNow self.old self.new (tree.put key.now (json_list (items_so_far list))) }
+        ensures { IsListPut self.old self.new key.now list }
     {
         self.put(key, list.into_value());
     }
@@ -201,14 +199,14 @@ impl Values {
 
     /// Adds an object.
     pub fn put_object(&mut self, object: Members)
-        ensures { self.new.fault ≡ None → (object.fault ≡ None) × AreItemsAdded self.old self.new (tree.object (members_so_far object) ∷ []) }
+        ensures { IsObjectAdded self.old self.new object }
     {
         self.put(object.into_value());
     }
 
     /// Adds a list.
     pub fn put_list(&mut self, list: Values)
-        ensures { self.new.fault ≡ None → (list.fault ≡ None) × AreItemsAdded self.old self.new (json_list (items_so_far list) ∷ []) }
+        ensures { IsListAdded self.old self.new list }
     {
         self.put(list.into_value());
     }
