@@ -95,3 +95,7 @@ json_line ms = compact_text (object ms) ++ codes "\n"
 abbrev pub IsLinePut : JsonLines → JsonLines → Object → Type 0
 IsLinePut old new x = new.fault ≡ None → (old.fault ≡ None) × (x.fault ≡ None)
     × (members_have_float (members_so_far x) ≡ false → string_bytes new.text ≡ string_bytes old.text ++ json_line (members_so_far x))
+
+-- unless memory ran out, it hadn't before, and the text has these bytes more
+abbrev pub AreLinesPut : JsonLines → JsonLines → List ℕ → Type 0
+AreLinesPut old new bytes = new.fault ≡ None → (old.fault ≡ None) × (string_bytes new.text ≡ string_bytes old.text ++ bytes)

@@ -1,5 +1,5 @@
 //! Objects that are put together member by member, and lists. If memory runs out, that is told at the end.
-ghost use Rattle.std.specs.Prelude.{◌≡◌, [], ◌∷◌, ◌++◌, None, IfOk, IsOkAnd, OnOk, map, string_bytes};
+ghost use Rattle.std.specs.Prelude.{◌≡◌, ◌↔◌, [], ◌∷◌, ◌++◌, IsTrue, None, IfOk, IsOkAnd, OnOk, map, string_bytes};
 ghost use Rattle.serde_json.specs.Data as tree;
 ghost use Rattle.serde_json.specs.View.{view};
 ghost use Rattle.lrc_json.specs.Prelude.{AddedItems, AreMembersNow, BecameMembers, HasItems, HasMembers, IsListAdded, IsListPut, IsObjectAdded, IsObjectPut, IsValueAdded, IsValuePut, items_so_far, json_count, json_list, json_number, json_telling, members_so_far};
@@ -218,9 +218,11 @@ impl Values {
         self.put(Ok(Value::Null));
     }
 
-    /// Whether it has no value.
-    pub fn is_empty(&self) -> bool {
-        self.values.is_empty()
+    /// Whether it has no value. If memory ran out it isn't empty: so who asks puts it, and that is told at the end.
+    pub fn is_empty(&self) -> bool
+        ensures { IsTrue result ↔ ((self.now.fault ≡ None) × (items_so_far self.now ≡ [])) }
+    {
+        self.values.is_empty() && self.fault.is_none()
     }
 
     /// The list. The only error is that memory ran out.
