@@ -16,7 +16,8 @@ pub line_put : (old new : JsonLines) (x : Object) (ms : Members) → HasMembers 
 line_put old new x ms has is_put is =
     let was = is_put is in
     let are = has was.1 in
-    (was.0, subst (λ m. string_bytes new.text ≡ string_bytes old.text ++ json_line m) are.0 (was.2 are.1))
+    let line = was.2.is are.1 ∙ ap json_line are.0 in
+    (was.0, was.2.added ∙ ap (λ bytes. string_bytes old.text ++ bytes) line)
 
 -- so was one for which there was memory
 pub made_line_put : (old new : JsonLines) (made : Result Object AllocError) (ms : Members) → IfOk made (λ x. HasMembers x ms)

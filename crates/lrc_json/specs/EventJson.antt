@@ -1,7 +1,7 @@
 -- An event, as JSON.
-use Rattle.std.specs.Prelude.{ℕ, List, [], ◌∷◌, codes}
+use Rattle.std.specs.Prelude.{ℕ, suc, List, [], ◌∷◌, codes}
 use Rattle.std.specs.Str.Lossy.{utf8_lossy}
-use Rattle.serde_json.specs.Data.{Members, no_members, put, string}
+use Rattle.serde_json.specs.Data.{Data, Members, no_members, object, put, string}
 use Rattle.journal.specs.declared.event.Event.{Event}
 use Rattle.journal.specs.declared.event.Kind.{Kind}
 use Rattle.journal.specs.declared.event.Kind.TheVariants as kind
@@ -52,3 +52,8 @@ json_place place processor = put (codes "processor") (json_number processor) (pu
 -- an event
 abbrev pub json_event : ℕ → Event → List ℕ → Members
 json_event place e label = with_label label (with_event e.kind (json_place place e.processor))
+
+-- events without labels, the first of which has this place
+abbrev pub json_events : ℕ → List Event → List Data
+json_events place [] = []
+json_events place (e ∷ es) = object (json_event place e []) ∷ json_events (suc place) es

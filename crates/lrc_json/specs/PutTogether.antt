@@ -91,11 +91,21 @@ HasItems x ds = x.fault ≡ None → (items_so_far x ≡ ds) × (items_have_floa
 abbrev pub json_line : Members → List ℕ
 json_line ms = compact_text (object ms) ++ codes "\n"
 
--- unless memory ran out, it hadn't before, and the text has this object's line more, if that has no float
+-- a line was added to a text: that of an object with these members, if they have no float
+pub record IsLineAdded (old new : List ℕ) (ms : Members) : Type 0 where
+  pub line : List ℕ
+  pub is : members_have_float ms ≡ false → line ≡ json_line ms
+  pub added : new ≡ old ++ line
+
+-- unless memory ran out, it hadn't before, and the text has this object's line more
 abbrev pub IsLinePut : JsonLines → JsonLines → Object → Type 0
 IsLinePut old new x = new.fault ≡ None → (old.fault ≡ None) × (x.fault ≡ None)
-    × (members_have_float (members_so_far x) ≡ false → string_bytes new.text ≡ string_bytes old.text ++ json_line (members_so_far x))
+    × IsLineAdded (string_bytes old.text) (string_bytes new.text) (members_so_far x)
 
 -- unless memory ran out, it hadn't before, and the text has these bytes more
 abbrev pub AreLinesPut : JsonLines → JsonLines → List ℕ → Type 0
 AreLinesPut old new bytes = new.fault ≡ None → (old.fault ≡ None) × (string_bytes new.text ≡ string_bytes old.text ++ bytes)
+
+-- unless memory ran out, it hadn't before, and the text has some bytes more
+abbrev pub AreMoreLinesPut : JsonLines → JsonLines → Type 0
+AreMoreLinesPut old new = new.fault ≡ None → (bytes : List ℕ) × (old.fault ≡ None) × (string_bytes new.text ≡ string_bytes old.text ++ bytes)

@@ -1,5 +1,5 @@
 //! An event as an object: its `place`, `processor` and `kind`, and what the kind names.
-ghost use Rattle.lrc_json.specs.Prelude.{BecameMembers, HasMembers, json_event, with_access_event, with_event, with_fetch_event, with_numbered_event};
+ghost use Rattle.lrc_json.specs.Prelude.{BecameMembers, HasItems, HasMembers, json_event, json_events, with_access_event, with_event, with_fetch_event, with_numbered_event};
 
 use crate::members::{Members, Values};
 use journal::{Event, Kind};
@@ -72,7 +72,9 @@ pub fn event_json(alloc: Global, place: usize, event: Event, label: &[u8]) -> Me
 }
 
 /// These events, without labels.
-pub fn events_json(alloc: Global, events: &[Event]) -> Values {
+pub fn events_json(alloc: Global, events: &[Event]) -> Values
+    ensures { HasItems result (json_events 0 events.now) }
+{
     let mut list = Values::new(alloc);
     for (place, event) in events.iter().enumerate() {
         list.put_object(event_json(alloc, place, *event, b""));

@@ -1,9 +1,8 @@
 //! Lines of JSON, and that they are written.
-ghost use Rattle.std.specs.Prelude.{◌≡◌, ◌++◌, [], ℕ, Err, IfErr, IsOkAnd, List, None, OnOk, codes, false, string_bytes};
+ghost use Rattle.std.specs.Prelude.{◌≡◌, ◌++◌, [], ℕ, Err, IfErr, IsOk, IsOkAnd, List, None, OnOk, codes, false, string_bytes};
 ghost use Rattle.std.specs.Io.KnownBytes.{Appends};
-ghost use Rattle.serde_json.specs.Written.{members_have_float};
 ghost use Rattle.lrc_json.specs.declared.fault.JsonFault.TheVariants.{NoMemory, Output};
-ghost use Rattle.lrc_json.specs.Prelude.{IsLinePut, json_line, members_so_far};
+ghost use Rattle.lrc_json.specs.Prelude.{IsLineAdded, IsLinePut, members_so_far};
 
 use crate::fault::JsonFault;
 use crate::members::Members;
@@ -24,8 +23,7 @@ fn put_json_output_line(
     alloc: Global,
     members: Members,
 ) -> Result<(), AllocError>
-    ensures { OnOk result ((members.fault ≡ None) × (members_have_float (members_so_far members) ≡ false
-        → string_bytes text.new ≡ string_bytes text.old ++ json_line (members_so_far members))) }
+    ensures { OnOk result ((members.fault ≡ None) × IsLineAdded (string_bytes text.old) (string_bytes text.new) (members_so_far members)) }
 {
     let line = members.into_value()?.to_string(alloc)?;
     text.push_str(&line)?;
@@ -78,7 +76,9 @@ impl JsonLines {
     }
 
     /// Takes note that memory ran out, if it did.
-    pub fn note(&mut self, done: Result<(), AllocError>) {
+    pub fn note(&mut self, done: Result<(), AllocError>)
+        ensures { self.new.fault ≡ None → (self.old.fault ≡ None) × IsOk done × (self.new.text ≡ self.old.text) }
+    {
         if let Err(error) = done {
             self.fault = Some(error);
         }

@@ -1,6 +1,5 @@
 use Rattle.std.proofs.Common.{inl, arith}
 use Rattle.std.proofs.lemmas.Result.{IfOk-weaker}
-use Rattle.std.specs.Prelude.{IfOk}
 use Rattle.lrc_script.specs.Plan.{plan_of}
 use Rattle.lrc_exploring.proofs.ToldAnswers.{told_schedules}
 use Rattle.lrc_exploring.proofs.stages.schedules_explored.Goals as goal
