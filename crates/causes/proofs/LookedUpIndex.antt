@@ -15,6 +15,7 @@ use Rattle.journal.specs.Events.{EventAt, event_count, event_interval_at, event_
 use Rattle.journal.specs.declared.event.Kind.{Kind}
 use Rattle.journal.proofs.Order.EventPlacesAndCounts.{event_place_same, event_place_inside, event_count-mono, event_count-past, event_place_does}
 use Rattle.journal.proofs.Passes.NextRaces.{next_race_count}
+use Rattle.judge.specs.JudgedSizes.{most_judged_processors}
 use Rattle.causes.specs.declared.index.Turn.{Turn}
 use Rattle.causes.specs.Index.{AreIndexedClosings, AreIndexedClosingsOf, IsIndexedClosing, IsIndexedTurn}
 
@@ -83,7 +84,7 @@ pub record IsLookedUpClosing (rows : List (Vec ℕ)) (q n p : ℕ) : Type 0 wher
   pub place_is : p ≡ slice_index_or row.items n p
 
 -- q's interval of this number is closed there, if it closes so many
-pub looked_up_closing_read : {j : List Event} {rows : List (Vec ℕ)} {q n p : ℕ} → AreIndexedClosings j rows → q < 64
+pub looked_up_closing_read : {j : List Event} {rows : List (Vec ℕ)} {q n p : ℕ} → AreIndexedClosings j rows → q < most_judged_processors
     → n < event_count event_closes j q → IsLookedUpClosing rows q n p → IsIndexedClosing j q n p
 looked_up_closing_read {j} {rows} {q} {n} {p} are low lt read =
     let long = are.long in
@@ -143,9 +144,9 @@ abbrev pub AreLookedUpNextTurns : List Event → ℕ → List Turn → Type 0
 AreLookedUpNextTurns j n next = (q : ℕ) (t : Turn) → slice_get next q ≡ Some t → IsIndexedTurn j n q t
 
 pub looked_up_turns_start : (j : List Event) (zero : Turn) → zero.arrived ≡ 0 → zero.departed ≡ 0
-    → AreLookedUpNextTurns j 0 (replicate 64 zero)
+    → AreLookedUpNextTurns j 0 (replicate most_judged_processors zero)
 looked_up_turns_start j zero arrived departed q t at =
-    let is = slice_get-replicate_found 64 zero t q at in
+    let is = slice_get-replicate_found most_judged_processors zero t q at in
     record {
       arrived = sym (ap (λ (x : Turn). x.arrived) is) ∙ arrived;
       departed = sym (ap (λ (x : Turn). x.departed) is) ∙ departed;

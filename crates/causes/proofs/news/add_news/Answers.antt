@@ -7,6 +7,7 @@ use Rattle.journal.specs.DidEvent.{event}
 use Rattle.journal.specs.declared.event.Event.{Event}
 use Rattle.journal.specs.Events.{event_interval_at}
 use Rattle.journal.proofs.Order.EventPlacesAndCounts.{event_place_inside}
+use Rattle.judge.specs.JudgedSizes.{most_judged_processors}
 use Rattle.causes.specs.declared.index.Index.{Index}
 use Rattle.causes.specs.declared.step.Step.{Step}
 use Rattle.causes.specs.Index.{AreIndexedClosingsOf, IsIndex}
@@ -17,7 +18,7 @@ use Rattle.causes.proofs.news.add_news.Goals as goal
 use Rattle.causes.proofs.news.add_news.Goals.{then-is_news_edge+in_ok-push, else-is_news_edge}
 
 -- the row that is read has the places of q's closings
-row_read : (j : List Event) (x : Index) (q : ℕ) (row : Vec ℕ) → IsIndex j x → q < 64
+row_read : (j : List Event) (x : Index) (q : ℕ) (row : Vec ℕ) → IsIndex j x → q < most_judged_processors
     → row ≡ slice_index_or x.closings.items q row → AreIndexedClosingsOf j q row.items
 row_read j x q row is lt read =
     let long = is.closings.long in
