@@ -28,7 +28,7 @@ pub(crate) struct DueAmounts {
 ///
 /// Of a page and a processor, the intervals that store in the page are kept that some other processor doesn't know of yet, and
 /// one for each processor's last fetch of the page: so the memory goes with how far the processors are apart, not with how long
-/// the history is. It takes 12 bytes for each of these, up to twice that, and 256 for each page and processor that fetches it. It takes 12
+/// the history is. It takes 12 bytes for each of these, up to twice that, and 4 a processor and 40 more for each page and processor that fetches it. It takes 12
 /// for each page and processor that stores in it, 4 for each word and processor that stores there, and what cuts take.
 #[derive(Drop)]
 pub struct DueCounts {

@@ -4,14 +4,11 @@ use journal::{Event, Kind};
 use std::alloc::{AllocError, Global};
 use std::collections::VecDeque;
 
-/// The most processors of a trace.
-const MOST: usize = 64;
-
 /// How many stores are kept at least before some are let go of.
 const FEW_STORES: usize = 4096;
 
-/// Of each processor how many of its stores are known.
-type StoreCut = [usize; MOST];
+/// Of each processor how many of its stores are known; 0 past its end.
+type StoreCut = Vec<usize>;
 
 /// What one processor has stored.
 #[derive(Drop)]
@@ -29,7 +26,7 @@ struct StoreLog {
 }
 
 /// A barrier episode: what those know that arrived, and how many have departed.
-#[derive(Clone, Copy, Drop)]
+#[derive(Drop)]
 struct Episode {
     known: StoreCut,
     departures: usize,
@@ -48,7 +45,7 @@ pub(crate) struct Heard {
 /// it is kept that it was made until all processors have heard of it.
 ///
 /// It takes 8 bytes for each store that some processor has still to hear of, and 8 for each word and processor up to the last word
-/// stored to. Each processor, lock, flag and open episode takes 512.
+/// stored to. Each processor, lock, flag and open episode takes 8 for each processor.
 #[derive(Drop)]
 pub(crate) struct HeardStores {
     logs: Vec<StoreLog>,
@@ -79,10 +76,22 @@ pub(crate) fn lengthen_row<T: Clone + Drop>(
     Ok(())
 }
 
-/// The greater of each number.
-fn join_cut(cut: &mut StoreCut, other: &StoreCut) {
+/// Raises each number to the other cut's, if that is greater. The only error is running out of memory.
+fn join_cut(cut: &mut StoreCut, other: &[usize]) -> Result<(), AllocError> {
+    for _ in cut.len()..other.len() {
+        cut.push(0)?;
+    }
     for (mine, theirs) in cut.iter_mut().zip(other.iter()) {
         *mine = (*mine).max(*theirs);
+    }
+    Ok(())
+}
+
+/// How many of the processor's stores are known.
+fn known_of(cut: &[usize], processor: usize) -> usize {
+    match cut.get(processor) {
+        Some(known) => *known,
+        None => 0,
     }
 }
 
@@ -193,7 +202,7 @@ impl HeardStores {
     fn begin(&mut self, alloc: Global, processors: usize) -> Result<(), AllocError> {
         for _ in self.logs.len()..processors {
             self.logs.push(StoreLog::new(alloc))?;
-            self.known.push([0; MOST])?;
+            self.known.push(vec![in alloc; 0; processors]?)?;
             self.takes.push(0)?;
             self.heard.push(Vec::new(alloc))?;
             self.arrived.push(0)?;
@@ -202,23 +211,27 @@ impl HeardStores {
         Ok(())
     }
 
-    /// What the processor knows, its own stores with it; its interval is closed.
-    fn close(&mut self, processor: usize) -> StoreCut {
-        let mut cut = match self.known.get(processor) {
-            Some(known) => *known,
-            None => [0; MOST],
-        };
+    /// The processor's interval is closed.
+    fn close(&mut self, processor: usize) {
         if let Some(log) = self.logs.get_mut(processor) {
             log.closed = log.closed.saturating_add(1);
-            if let Some(own) = cut.get_mut(processor) {
-                *own = log.end();
-            }
         }
-        cut
+    }
+
+    /// What the processor knows, its own stores with it; its interval is closed. The only error is running out of memory.
+    fn close_and_tell(&mut self, alloc: Global, processor: usize) -> Result<StoreCut, AllocError> {
+        self.close(processor);
+        let mut cut = cut_at(alloc, &self.known, processor)?;
+        if let Some(log) = self.logs.get(processor)
+            && let Some(own) = cut.get_mut(processor)
+        {
+            *own = log.end();
+        }
+        Ok(cut)
     }
 
     /// Tells the processor of these stores. The only error is running out of memory.
-    fn take(&mut self, processor: usize, cut: &StoreCut) -> Result<(), AllocError> {
+    fn take(&mut self, processor: usize, cut: &[usize]) -> Result<(), AllocError> {
         let (Some(known), Some(heard), Some(take)) = (
             self.known.get_mut(processor),
             self.heard.get_mut(processor),
@@ -229,19 +242,22 @@ impl HeardStores {
         *take = (*take).saturating_add(1);
         for (by, log) in self.logs.iter().enumerate() {
             if by != processor {
-                log.tell(known[by % MOST], cut[by % MOST], heard, *take)?;
+                log.tell(known_of(known, by), known_of(cut, by), heard, *take)?;
             }
         }
-        join_cut(known, cut);
-        Ok(())
+        join_cut(known, cut)
     }
 
     /// What the barrier episode knows of this number, if it isn't over. The only error is running out of memory.
-    fn episode(&mut self, number: usize) -> Result<Option<&mut Episode>, AllocError> {
+    fn episode(
+        &mut self,
+        alloc: Global,
+        number: usize,
+    ) -> Result<Option<&mut Episode>, AllocError> {
         let place = number.saturating_sub(self.past_episodes);
         for _ in self.episodes.len()..place.saturating_add(1) {
             self.episodes.push_back(Episode {
-                known: [0; MOST],
+                known: Vec::new(alloc),
                 departures: 0,
             })?;
         }
@@ -249,8 +265,8 @@ impl HeardStores {
     }
 
     /// The processor arrives at the barrier. The only error is running out of memory.
-    fn arrive(&mut self, processor: usize) -> Result<(), AllocError> {
-        let cut = self.close(processor);
+    fn arrive(&mut self, alloc: Global, processor: usize) -> Result<(), AllocError> {
+        let cut = self.close_and_tell(alloc, processor)?;
         let number = match self.arrived.get_mut(processor) {
             Some(arrived) => {
                 *arrived = (*arrived).saturating_add(1);
@@ -258,14 +274,14 @@ impl HeardStores {
             }
             None => return Ok(()),
         };
-        if let Some(episode) = self.episode(number - 1)? {
-            join_cut(&mut episode.known, &cut);
+        match self.episode(alloc, number - 1)? {
+            Some(episode) => join_cut(&mut episode.known, &cut),
+            None => Ok(()),
         }
-        Ok(())
     }
 
     /// It departs. The only error is running out of memory.
-    fn depart(&mut self, processor: usize) -> Result<(), AllocError> {
+    fn depart(&mut self, alloc: Global, processor: usize) -> Result<(), AllocError> {
         let number = match self.departed.get_mut(processor) {
             Some(departed) => {
                 *departed = (*departed).saturating_add(1);
@@ -273,10 +289,10 @@ impl HeardStores {
             }
             None => return Ok(()),
         };
-        let mut cut = [0; MOST];
-        if let Some(episode) = self.episode(number - 1)? {
+        let mut cut = Vec::new(alloc);
+        if let Some(episode) = self.episode(alloc, number - 1)? {
             episode.departures = episode.departures.saturating_add(1);
-            cut = episode.known;
+            cut.extend_from_slice(&episode.known)?;
         }
         self.take(processor, &cut)?;
         self.let_go_of_episodes();
@@ -307,7 +323,7 @@ impl HeardStores {
         let mut known = log.end();
         for (by, cut) in self.known.iter().enumerate() {
             if by != processor {
-                known = known.min(cut[processor % MOST]);
+                known = known.min(known_of(cut, processor));
             }
         }
         log.let_go(known);
@@ -320,7 +336,7 @@ impl HeardStores {
         processors: usize,
         event: Event,
     ) -> Result<(), AllocError> {
-        self.begin(alloc, processors.min(MOST))?;
+        self.begin(alloc, processors)?;
         let processor = event.processor;
         match event.kind {
             Kind::Store(address, _) => match self.logs.get_mut(processor) {
@@ -328,50 +344,57 @@ impl HeardStores {
                 None => Ok(()),
             },
             Kind::Release(lock) => {
-                let cut = self.close(processor);
+                let cut = self.close_and_tell(alloc, processor)?;
                 self.let_go(processor);
-                hand_over(&mut self.locks, lock, &cut)
+                hand_over(alloc, &mut self.locks, lock, &cut)
             }
             Kind::Set(flag) => {
-                let cut = self.close(processor);
+                let cut = self.close_and_tell(alloc, processor)?;
                 self.let_go(processor);
-                hand_over(&mut self.flags, flag, &cut)
+                hand_over(alloc, &mut self.flags, flag, &cut)
             }
             Kind::Arrive => {
                 self.let_go(processor);
-                self.arrive(processor)
+                self.arrive(alloc, processor)
             }
             Kind::Ask(_) | Kind::Watch(_) => {
-                drop(self.close(processor));
+                self.close(processor);
                 Ok(())
             }
             Kind::Acquire(lock) => {
-                let cut = handed_over(&self.locks, lock);
+                let cut = cut_at(alloc, &self.locks, lock)?;
                 self.take(processor, &cut)
             }
             Kind::Await(flag) => {
-                let cut = handed_over(&self.flags, flag);
+                let cut = cut_at(alloc, &self.flags, flag)?;
                 self.take(processor, &cut)
             }
-            Kind::Depart => self.depart(processor),
+            Kind::Depart => self.depart(alloc, processor),
             _ => Ok(()),
         }
     }
 }
 
 /// Keeps what who takes it next is told. The only error is running out of memory.
-fn hand_over(cuts: &mut Vec<StoreCut>, place: usize, cut: &StoreCut) -> Result<(), AllocError> {
-    lengthen_row(cuts, place, [0; MOST])?;
-    if let Some(kept) = cuts.get_mut(place) {
-        join_cut(kept, cut);
+fn hand_over(
+    alloc: Global,
+    cuts: &mut Vec<StoreCut>,
+    place: usize,
+    cut: &[usize],
+) -> Result<(), AllocError> {
+    for _ in cuts.len()..place.saturating_add(1) {
+        cuts.push(Vec::new(alloc))?;
     }
-    Ok(())
+    match cuts.get_mut(place) {
+        Some(kept) => join_cut(kept, cut),
+        None => Ok(()),
+    }
 }
 
-/// What who takes it is told.
-fn handed_over(cuts: &[StoreCut], place: usize) -> StoreCut {
+/// The cut at this place; zeros if there is none. The only error is running out of memory.
+fn cut_at(alloc: Global, cuts: &[StoreCut], place: usize) -> Result<StoreCut, AllocError> {
     match cuts.get(place) {
-        Some(cut) => *cut,
-        None => [0; MOST],
+        Some(cut) => Vec::from_slice(alloc, cut),
+        None => Ok(Vec::new(alloc)),
     }
 }
