@@ -2,7 +2,7 @@
 ghost use Rattle.std.specs.Prelude.{◌≡◌, ◌≢◌, ◌↔◌, ◌⊎◌, IsTrue, ℕ, ◌+◌, ◌-◌, ◌*◌, ◌<◌, ◌≤◌, ◌^◌, [], ◌∷◌, ◌++◌, IfOk, IfSome, OnOk, List};
 ghost use Rattle.std.specs.Prelude.{Some, slice_index};
 ghost use Rattle.journal.specs.declared.event.Event.{Event};
-ghost use Rattle.journal.specs.Prelude.{Conflict, EventAddressInRange, EventProcessorsInRange};
+ghost use Rattle.journal.specs.Prelude.{Conflict, EventAddressInRange};
 ghost use Rattle.judge.specs.Prelude.{NearestRaceAccessesAreKept, AreNearestRacesOf, IsCutOf, IsFirstRaceTo, IsNearestRaceLastUnknown, IsNearestRaceTo, IsSparse, IsNearestRaceUnknown};
 ghost use Rattle.judge.specs.Prelude.{most_judged_events, most_judged_processors, nearest_race_row, sparse_at};
 
@@ -39,7 +39,6 @@ fn nearest_race_candidate(
 ) -> Option<usize>
     requires sparse { IsSparse rows.now }
     requires within { row + by < 2 ^ 64 }
-    requires by { by < most_judged_processors }
     ensures { (i : ℕ) → (result ≡ Some i)
         ↔ IsNearestRaceUnknown (sparse_at rows.now) row (slice_index cut.now) processor by i }
 {
@@ -74,7 +73,6 @@ fn nearest_race_in_row(
 ) -> Option<usize>
     requires sparse { IsSparse rows.now }
     requires within { row + count < 2 ^ 64 }
-    requires count { count ≤ most_judged_processors }
     ensures { IsNearestRaceLastUnknown (sparse_at rows.now) row (slice_index cut.now) processor count result }
 {
     let mut nearest = None;
@@ -100,8 +98,7 @@ fn is_nearest_race_conflict(first: Event, second: Event) -> bool
 
 /// The first of the events that races with this one, which comes next and whose processor has this cut.
 fn first_race_to(events: &[Event], event: Event, cut: &[u32]) -> Option<usize>
-    requires few { EventProcessorsInRange most_judged_processors events.now }
-    requires cut { IsCutOf events.now event.processor (slice_index cut.now) }
+    requires { IsCutOf events.now event.processor (slice_index cut.now) }
     ensures { IsFirstRaceTo events.now event result }
 {
     for place in 0..events.len() {

@@ -97,7 +97,6 @@ impl WatchedStorers {
 
 /// Whether the accesses, of which the second one's processor knows this of the others, need a lock.
 fn are_watched_racing(earlier: &LockedAccess, later: &LockedAccess, cut: &[u32]) -> bool
-    requires { earlier.now.processor < most_judged_processors }
     ensures { IsTrue result ↔ AreWatchedRacing earlier.now later.now (slice_index cut.now) }
 {
     earlier.processor != later.processor
@@ -111,7 +110,6 @@ fn watched_word_first_guarded(
     later: &LockedAccess,
     cut: &[u32],
 ) -> Option<Guarded>
-    requires { (x : LockedAccess) → Has accesses.now x → x.processor < most_judged_processors }
     ensures { MatchOption result
         ((x : LockedAccess) (l : ℕ) → Has accesses.now x → AreWatchedRacing x later.now (slice_index cut.now)
         → ¬ HeldLocksShare x.held later.now.held l)
@@ -134,7 +132,6 @@ fn watched_word_first_unguarded(
     later: &LockedAccess,
     cut: &[u32],
 ) -> Option<(PairedAccess, PairedAccess)>
-    requires { (x : LockedAccess) → Has accesses.now x → x.processor < most_judged_processors }
     ensures { MatchOption result
         ((x : LockedAccess) → Has accesses.now x → AreWatchedRacing x later.now (slice_index cut.now)
         → (l : ℕ) × HeldLocksShare x.held later.now.held l)

@@ -23,7 +23,7 @@ returns-then-place-known_in c =
     let both = c.if-is_nearest_race_conflict.ensures.0 refl in
     let known = c.known_in.ensures in
     let above = c.if-place-known_in.true in (
-      (cut_tells_race c.requires.cut at both.0 both.1).1 (omega (arith, known, above)),
+      (cut_tells_race c.requires at both.0 both.1).1 (omega (arith, known, above)),
       λ m r. elim (cases_lt m c.loop-place.place) [ inl below ↦ absurd (c.loop-place.invariant m below r) | inr le ↦ le ],
     )
 
@@ -39,7 +39,7 @@ loop-place-preserved c =
     let none : Race (events ++ e ∷ []) i (length events) → ⊥ = elim c.else-is_nearest_race_conflict.branch [
       | else-is_nearest_race_conflict-via-then-is_nearest_race_conflict+else-place-known_in w ↦ (λ r.
           let both = c.is_nearest_race_conflict.ensures.0 w.if-is_nearest_race_conflict.true in
-          let le = (cut_tells_race c.requires.cut at both.0 both.1).0 r in
+          let le = (cut_tells_race c.requires at both.0 both.1).0 r in
           let known = w.known_in.ensures in
           let above = w.if-place-known_in.false in
           omega arith)

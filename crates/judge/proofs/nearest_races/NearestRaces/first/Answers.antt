@@ -19,8 +19,8 @@ returns-then-is_none c =
     none_races c.args.events.now c.args.event c.nearest.result
     (c.is_none.ensures ∙ ap (λ b. not b) c.if-is_none.true) (c.nearest.ensures c.args.events.now c.requires.tells)
 
-pub first_race_to-requires-clause-cut : goal.first_race_to-requires-clause-cut
-first_race_to-requires-clause-cut c =
+pub first_race_to-requires : goal.first_race_to-requires
+first_race_to-requires c =
     let tells = c.requires.tells in
     let present = tells.present in
     let lt = c.requires.processor in

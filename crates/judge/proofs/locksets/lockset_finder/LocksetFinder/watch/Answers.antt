@@ -3,13 +3,11 @@ use Rattle.std.proofs.lemmas.List.{take_all}
 use Rattle.std.specs.Prelude.{Result, Ok, Err, OnOk}
 use Rattle.journal.specs.declared.event.Event.{Event}
 use Rattle.journal.specs.DidEvent.{event}
-use Rattle.journal.specs.EventsInRange.{EventProcessorsInRange}
 use Rattle.journal.proofs.Order.EventPlacesAndCounts.{event_place_same}
 use Rattle.judge.specs.CutRows.{cut_entry}
 use Rattle.judge.specs.declared.locksets.lockset_finder.LocksetFinder.{LocksetFinder}
 use Rattle.judge.specs.declared.locksets.watched_word.LockedAccess.{LockedAccess}
 use Rattle.judge.specs.Cuts.{IsCutOf}
-use Rattle.judge.specs.JudgedSizes.{most_judged_processors}
 use Rattle.judge.specs.SparseTables.{sparse_at}
 use Rattle.judge.specs.Locksets.KeptLocksets.{ComesNextToWatch, IsLocksetFinderOf}
 use Rattle.judge.specs.Locksets.Unlocked.{unlocked_history}
@@ -28,8 +26,6 @@ comes_next x h j e a y t tells comes lt is read =
     let cut = cut_of_equal (unlocked_history j) e.processor (cut_entry x.cuts.processors e.processor) (slice_index t) (λ q. sym (read q))
     (cut_of_present tells.cuts e.processor lt) in
     record {
-      range = subst (EventProcessorsInRange most_judged_processors) (sym comes.begins)
-          (λ i f at. (let below = tells.processors i f at in let few = tells.cuts.long.few in omega arith));
       access = is;
       cut = subst (λ xs. IsCutOf (unlocked_history xs) y.processor (slice_index t)) (sym comes.begins)
           (subst (λ q. IsCutOf (unlocked_history j) q (slice_index t)) same cut);
