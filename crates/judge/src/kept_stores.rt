@@ -35,8 +35,8 @@ const ROWS_A_CUT: usize = 256;
 /// ones of its past, and which ones its past doesn't have.
 ///
 /// A store follows another one if its cut has it. It is let go of once each processor knows one that follows it. It takes 16 bytes
-/// for each store that is kept, up to twice that, and 4 a processor for each cut that one of these has; and what the cuts of locks, flags
-/// and open episodes take.
+/// for each store that is kept, up to twice that. It takes 4 a processor for each cut that one of these has, and what the cuts of
+/// locks, flags and open episodes take.
 #[derive(Drop)]
 pub struct KeptStores {
     pub(crate) processors: usize,
