@@ -175,7 +175,7 @@ fn command_line_processors(matches: &ArgMatches<'_>) -> Option<[bool; MOST_TRACE
 /// What is wanted of `--processors`, in words.
 fn command_line_processors_wanted(matches: &ArgMatches<'_>) -> &'static str {
     if is_in_words(matches, "trace") {
-        "numbers from 0 to 63, as 2 or 0,2"
+        "numbers from 0 to 255, as 2 or 0,2"
     } else {
         "numbers from 0 to 15, as 2 or 0,2"
     }

@@ -3,7 +3,7 @@
 use crate::ranges::EventRange;
 
 /// The most processors that a trace may have which is told.
-pub const MOST_TRACE_PROCESSORS: usize = 64;
+pub const MOST_TRACE_PROCESSORS: usize = 256;
 
 /// What the words ask for.
 #[derive(Drop)]
