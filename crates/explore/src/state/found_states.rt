@@ -10,33 +10,32 @@ ghost use Rattle.explore.specs.FoundStates.{AreEventsOfMakers, AreFoundStateMake
 ghost use Rattle.explore.specs.KeptStates.{AreOfOneSearch};
 ghost use Rattle.explore.specs.NoFoundStates.{AreNoFoundStates};
 ghost use Rattle.explore.specs.Origins.{most_origin_makers, state_origins};
-ghost use Rattle.journal.specs.declared.event.Kind.{Kind as AKind};
-ghost use Rattle.explore.specs.FollowedStates.{AreFollowedStates, IsFollowedState, IsLastNext, MayBeFollowedState, MayBeFollowedStateByEach};
-ghost use Rattle.explore.specs.FreeChoice.{AreFreeChoiceTextFacts};
+ghost use Rattle.explore.specs.FollowedStates.{IsFollowedState, MayBeFollowedState};
+ghost use Rattle.explore.specs.Followers.{AreFollowersAdded, AreFollowersAt, IsFollowerAt};
+ghost use Rattle.explore.specs.declared.prefixes.script_call.ScriptCall.{ScriptCall as AStep};
+ghost use Rattle.std.specs.Global.{Vec as AVec};
 ghost use Rattle.explore.specs.StatesOfScript.{HasStatesOfScript};
 ghost use Rattle.explore.specs.Machines.{AreLawfulMachineSteps, MachineKnows, MachinesInSameState};
 ghost use Rattle.explore.specs.declared.outcomes.telling.Detail.{Detail as ADetail};
 ghost use Rattle.explore.specs.OutcomeTelling.{outcome_telling_of_script};
 
 use crate::prefixes::ScriptCall;
-use crate::search::free_run::make_free_run;
 use crate::state::call_table::CallTable;
 use crate::state::flat_state::FlatState;
+use crate::state::follower::Follower;
 use crate::state::hasher::StateSet;
 use crate::state::kept_state::{KeptState, StateParts};
-use crate::state::origins::{MOST_MAKERS, Origins};
+use crate::state::origins::Origins;
 use crate::state::wait_code::ProcessorNumber;
-use crate::text::facts::TextFacts;
-use arrayvec::ArrayVec;
 use indexmap::IndexSet;
-use journal::{Event, Kind};
+use journal::Event;
 use std::alloc::{AllocError, Global};
 use std::hash::BuildHasherDefault;
 
 /// States, each once, in the order in which they were found.
 #[derive(Drop)]
 pub struct FoundStates {
-    alloc: Global,
+    pub(crate) alloc: Global,
     /// The first state. By the makers of its events each other one can be made from it again.
     first: FlatState,
     parts: StateParts,
@@ -77,19 +76,6 @@ fn events_of_makers(
         events.push(Event { processor, kind })?;
     }
     Ok(events)
-}
-
-/// The last processor that may do something next.
-fn last_next(nexts: &[Option<Kind>]) -> Option<usize>
-    ensures { MatchOption result ((p : ℕ) (k : AKind) → slice_index_or nexts.now p None ≢ Some k) (IsLastNext nexts.now) }
-{
-    for behind in 0..nexts.len() {
-        let processor = nexts.len() - 1 - behind;
-        if let Some(_) = nexts[processor] {
-            return Some(processor);
-        }
-    }
-    None
 }
 
 impl FoundStates {
@@ -152,6 +138,11 @@ impl FoundStates {
         self.states.len()
     }
 
+    /// How many words the memory of each state has.
+    pub fn memory_words(&self) -> usize {
+        self.first.memory.len()
+    }
+
     /// The state at this place. The only error is running out of memory.
     pub fn at(&self, place: usize) -> Result<FlatState, AllocError>
         requires place { place < length (found_states self.now) }
@@ -186,65 +177,36 @@ impl FoundStates {
         Ok(())
     }
 
-    /// Adds what the state at this place, which is given, comes to by the event, and then by free ones (`make_free_run`). The only
-    /// error is running out of memory, after which this may be of no use.
-    fn follow(
-        &mut self,
-        state: FlatState,
-        steps: &[Vec<ScriptCall>],
-        facts: &TextFacts,
-        place: usize,
-        event: Event,
-    ) -> Result<(), AllocError>
-        requires state { IsFoundStateAt self.old place state }
-        requires facts { AreFreeChoiceTextFacts steps.now facts.now }
+    /// Adds what the state at this place comes to, if it is a new state. The only error is running out of memory, after which this may be
+    /// of no use.
+    fn add_follower(&mut self, follower: Follower, place: usize) -> Result<(), AllocError>
         requires room { HasRoomForStates self.old 1 }
-        requires may { (s : Plan) × MayBeFollowedState s steps.now self.old place event.processor event.kind }
-        ensures { OnOk result ((s : Plan) → MayBeFollowedState s steps.now self.old place event.processor event.kind
-            → IsFollowedState s steps.now self.old self.new place event.processor event.kind) }
+        requires may { (s : Plan) × (rows : List (AVec AStep)) × MayBeFollowedState s rows self.old place follower.event.processor follower.event.kind
+            × IsFollowerAt rows self.old place follower }
+        ensures { OnOk result ((s : Plan) (rows : List (AVec AStep))
+            → MayBeFollowedState s rows self.old place follower.event.processor follower.event.kind → IsFollowerAt rows self.old place follower
+            → IsFollowedState s rows self.old self.new place follower.event.processor follower.event.kind) }
     {
-        let mut state = state;
-        state.step(steps, event.processor, event.kind)?;
-        let mut makers = ArrayVec::<ProcessorNumber, MOST_MAKERS>::new();
-        makers.push(ProcessorNumber::of(event.processor));
-        make_free_run(&mut state, &mut makers, steps, facts)?;
+        let Follower { state, makers, .. } = follower;
         self.add(state, place, &makers)
     }
 
-    /// Adds what the state at this place, which is given, comes to by each of these events, one of each processor, as `follow` does.
-    /// The only error is running out of memory, after which this may be of no use.
-    pub fn follow_all(
+    /// Adds what the state at this place comes to by some events, in this order, as far as these are new states. The only error is running
+    /// out of memory, after which this may be of no use.
+    pub fn add_followers(
         &mut self,
-        state: FlatState,
-        steps: &[Vec<ScriptCall>],
-        facts: &TextFacts,
+        followers: Vec<Follower>,
         place: usize,
-        nexts: &[Option<Kind>],
     ) -> Result<(), AllocError>
-        requires state { IsFoundStateAt self.old place state }
-        requires facts { AreFreeChoiceTextFacts steps.now facts.now }
-        requires room { HasRoomForStates self.old (length nexts.now) }
-        requires may { (s : Plan) × MayBeFollowedStateByEach s steps.now self.old place nexts.now }
-        ensures { OnOk result ((s : Plan) → MayBeFollowedStateByEach s steps.now self.old place nexts.now
-            → AreFollowedStates s steps.now self.old self.new place nexts.now (length nexts.now)) }
+        requires room { HasRoomForStates self.old (length followers.items) }
+        requires may { (s : Plan) × (rows : List (AVec AStep)) × AreFollowersAt s rows self.old place followers.items }
+        ensures { OnOk result ((s : Plan) (rows : List (AVec AStep)) → AreFollowersAt s rows self.old place followers.items
+            → AreFollowersAdded s rows self.old self.new place followers.items) }
     {
-        let Some(last) = last_next(nexts) else {
-            return Ok(());
-        };
-        for processor in 0..last {
-            if let Some(kind) = nexts[processor] {
-                let event = Event { processor, kind };
-                self.follow(state.copy()?, steps, facts, place, event)?;
-            }
+        for follower in followers {
+            self.add_follower(follower, place)?;
         }
-        let Some(kind) = nexts[last] else {
-            return Ok(());
-        };
-        let event = Event {
-            processor: last,
-            kind,
-        };
-        self.follow(state, steps, facts, place, event)
+        Ok(())
     }
 
     /// Of each event after which the state at this place was found, in order, the processor that makes it. The only error is
