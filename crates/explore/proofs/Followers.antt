@@ -20,6 +20,9 @@ use Rattle.explore.specs.FoundStates.{AreFoundStates, FoundStateMayDo, KeepsFoun
 use Rattle.explore.specs.FreeRun.{IsFoundByFreeRun}
 use Rattle.explore.specs.Machines.{MachineKnows, MachinesInSameState}
 use Rattle.explore.proofs.AddedStates.{IsAddedStateFreelyReached, added_state_found_soon_kept}
+use Rattle.explore.specs.KeptStates.{AreOfOneSearch, AreStatePartsKept}
+use Rattle.explore.proofs.KeptParts.{kept_parts_longer, kept_parts_reached, kept_parts_same}
+use Rattle.explore.proofs.KeptStates.{kept_state_of_one_search}
 use Rattle.explore.proofs.LikeMachines.{like_machine_knows}
 use Rattle.explore.proofs.MachineSteps.{machine_step_next_within, machine_step_some_at}
 
@@ -34,9 +37,11 @@ follower_same_state m = record {
 }
 
 -- a machine in the same state has the same followers
-pub follower_of_like : (rows : List (Vec ScriptCall)) (m n : FlatState) (x : Follower) → MachinesInSameState m n → IsFollower rows n x
-    → IsFollower rows m x
-follower_of_like rows m n x like is = record {
+pub follower_of_like : (among : FoundStates) (rows : List (Vec ScriptCall)) (m n : FlatState) (x : Follower) → MachinesInSameState m n
+    → IsFollower among rows n x → IsFollower among rows m x
+follower_of_like among rows m n x like is = record {
+  state = is.state;
+  reached = is.reached;
   more = is.more;
   free = is.free;
   telling = is.telling ∙ like.telling;
@@ -44,10 +49,33 @@ follower_of_like rows m n x like is = record {
   knows = λ s g lawful knows next. is.knows s g lawful (like_machine_knows s g m n like knows) next;
 }
 
-pub followers_of_like : (rows : List (Vec ScriptCall)) (m n : FlatState) (nexts : List (Option Kind)) (many : ℕ) (xs : List Follower)
-    → MachinesInSameState m n → AreFollowers rows n nexts many xs → AreFollowers rows m nexts many xs
-followers_of_like rows m n nexts many xs like are = record {
-  each = λ x has. follower_of_like rows m n x like (are.each x has);
+pub followers_of_like : (among : FoundStates) (rows : List (Vec ScriptCall)) (m n : FlatState) (nexts : List (Option Kind)) (many : ℕ) (xs : List Follower)
+    → MachinesInSameState m n → AreFollowers among rows n nexts many xs → AreFollowers among rows m nexts many xs
+followers_of_like among rows m n nexts many xs like are = record {
+  each = λ x has. follower_of_like among rows m n x like (are.each x has);
+  next = are.next;
+  all = are.all;
+  few = are.few;
+}
+
+-- and so it is where more was found
+pub follower_longer : (x y : FoundStates) (rows : List (Vec ScriptCall)) (m : FlatState) (z : Follower)
+    → KeepsFoundStates (found_states x) (found_states y) → AreStatePartsKept x.parts y.parts → IsFollower x rows m z → IsFollower y rows m z
+follower_longer x y rows m z keeps parts is = record {
+  state = is.state;
+  reached = kept_parts_reached x y is.state z.reached keeps parts is.reached;
+  more = is.more;
+  free = is.free;
+  telling = is.telling;
+  makers = is.makers;
+  knows = is.knows;
+}
+
+pub followers_longer : (x y : FoundStates) (rows : List (Vec ScriptCall)) (m : FlatState) (nexts : List (Option Kind)) (many : ℕ) (xs : List Follower)
+    → KeepsFoundStates (found_states x) (found_states y) → AreStatePartsKept x.parts y.parts → AreFollowers x rows m nexts many xs
+    → AreFollowers y rows m nexts many xs
+followers_longer x y rows m nexts many xs keeps parts are = record {
+  each = λ z has. follower_longer x y rows m z keeps parts (are.each z has);
   next = are.next;
   all = are.all;
   few = are.few;
@@ -55,8 +83,8 @@ followers_of_like rows m n nexts many xs like are = record {
 
 -- it is what is freely reached
 pub follower_is_reached : (s : Plan) (rows : List (Vec ScriptCall)) (x : FoundStates) (place : ℕ) (f : FlatState) (z : Follower)
-    → MayBeFollowedState s rows x place z.event.processor z.event.kind → slice_get (found_states x) place ≡ Some f → IsFollower rows f z
-    → IsAddedStateFreelyReached s rows place z.event.processor z.event.kind f z.state (record { from = place; makers = z.makers.items })
+    → MayBeFollowedState s rows x place z.event.processor z.event.kind → slice_get (found_states x) place ≡ Some f → (is : IsFollower x rows f z)
+    → IsAddedStateFreelyReached s rows place z.event.processor z.event.kind f is.state (record { from = place; makers = z.makers.items })
 follower_is_reached s rows x place f z may at is = record {
   more = is.more;
   free = is.free;
@@ -67,8 +95,9 @@ follower_is_reached s rows x place f z may at is = record {
 }
 
 -- followers as they are made, one processor after another
-pub followers_none : (rows : List (Vec ScriptCall)) (m : FlatState) (nexts : List (Option Kind)) → AreFollowers rows m nexts 0 []
-followers_none rows m nexts = record {
+pub followers_none : (among : FoundStates) (rows : List (Vec ScriptCall)) (m : FlatState) (nexts : List (Option Kind))
+    → AreFollowers among rows m nexts 0 []
+followers_none among rows m nexts = record {
   each = λ x has. absurd (joined_list_has-nil x has);
   next = λ x has. absurd (joined_list_has-nil x has);
   all = λ p k lt. absurd (omega arith);
@@ -84,11 +113,11 @@ followers_has_more xs ys p k h = record {
   kind = h.kind;
 }
 
-module _ (rows : List (Vec ScriptCall)) (m : FlatState) (nexts : List (Option Kind)) (n : ℕ) (xs : List Follower)
-    (old : AreFollowers rows m nexts n xs) where
+module _ (among : FoundStates) (rows : List (Vec ScriptCall)) (m : FlatState) (nexts : List (Option Kind)) (n : ℕ) (xs : List Follower)
+    (old : AreFollowers among rows m nexts n xs) where
   -- what a processor does that may do something
   module _ (e : Event) (new : List Follower) (is : e.processor ≡ n) (told : slice_index_or nexts n None ≡ Some e.kind)
-      (pushed : IsFollowerPushed rows m e xs new) where
+      (pushed : IsFollowerPushed among rows m e xs new) where
     followers_cases : (x : Follower) → Has new x → Has xs x ⊎ (pushed.follower ≡ x)
     followers_cases x has = elim ((joined_list_has-append xs (pushed.follower ∷ []) x).0 (subst (λ ys. Has ys x) pushed.pushed has)) [
       | inl before ↦ inl before
@@ -109,11 +138,11 @@ module _ (rows : List (Vec ScriptCall)) (m : FlatState) (nexts : List (Option Ki
       kind = ap (λ (d : Event). d.kind) pushed.event;
     }
 
-    pub followers_pushed : AreFollowers rows m nexts (n + 1) new
+    pub followers_pushed : AreFollowers among rows m nexts (n + 1) new
     followers_pushed = record {
       each = λ x has. elim (followers_cases x has) [
         | inl before ↦ old.each x before
-        | inr same ↦ subst (IsFollower rows m) same pushed.is
+        | inr same ↦ subst (IsFollower among rows m) same pushed.is
       ];
       next = λ x has. elim (followers_cases x has) [
         | inl before ↦ old.next x before
@@ -137,7 +166,7 @@ module _ (rows : List (Vec ScriptCall)) (m : FlatState) (nexts : List (Option Ki
     }
 
   -- a processor that may do nothing
-  pub followers_idle : ((k : Kind) → slice_index_or nexts n None ≢ Some k) → AreFollowers rows m nexts (n + 1) xs
+  pub followers_idle : ((k : Kind) → slice_index_or nexts n None ≢ Some k) → AreFollowers among rows m nexts (n + 1) xs
   followers_idle none = record {
     each = old.each;
     next = old.next;
@@ -150,7 +179,7 @@ module _ (rows : List (Vec ScriptCall)) (m : FlatState) (nexts : List (Option Ki
 
   -- nobody else may do anything
   pub followers_rest : n ≤ length nexts → ((p : ℕ) (k : Kind) → slice_index_or nexts p None ≡ Some k → p < n)
-      → AreFollowers rows m nexts (length nexts) xs
+      → AreFollowers among rows m nexts (length nexts) xs
   followers_rest le last = record {
     each = old.each;
     next = old.next;
@@ -166,7 +195,8 @@ pub record AreFollowersAdding (s : Plan) (rows : List (Vec ScriptCall)) (x y : F
       → Has left z ⊎ IsFoundByFreeRun s rows (found_states y) (did g z.event.processor z.event.kind)
   pub among : (z : Follower) → Has left z → Has all z
   pub few : length (found_states y) + length left ≤ length (found_states x) + length all
-  pub telling : y.first.telling ≡ x.first.telling
+  pub first : y.first ≡ x.first
+  pub parts : AreStatePartsKept x.parts y.parts
 
 module _ (s : Plan) (rows : List (Vec ScriptCall)) (x : FoundStates) (place : ℕ) (all : List Follower) (at : AreFollowersAt s rows x place all) where
   pub followers_adding_start : AreFollowersAdding s rows x x place all all
@@ -176,7 +206,8 @@ module _ (s : Plan) (rows : List (Vec ScriptCall)) (x : FoundStates) (place : �
     known = λ m g z here knows has. inl has;
     among = λ z has. has;
     few = omega arith;
-    telling = refl;
+    first = refl;
+    parts = kept_parts_same x.parts;
   }
 
   pub followers_adding_end : (y : FoundStates) → AreFollowersAdding s rows x y place all [] → AreFollowersAdded s rows x y place all
@@ -188,7 +219,8 @@ module _ (s : Plan) (rows : List (Vec ScriptCall)) (x : FoundStates) (place : �
       | inr found ↦ found
     ];
     few = (let few = old.few in omega (arith, few));
-    telling = old.telling;
+    first = old.first;
+    parts = old.parts;
   }
 
   -- the state at the place is still there
@@ -220,7 +252,8 @@ module _ (s : Plan) (rows : List (Vec ScriptCall)) (x : FoundStates) (place : �
         omega arith
 
     pub followers_adding_at : IsFollowerAt rows y place z
-    followers_adding_at m here = at.each z followers_adding_has m (followers_still_at y old.keeps m here)
+    followers_adding_at m here =
+        follower_longer x y rows m z old.keeps old.parts (at.each z followers_adding_has m (followers_still_at y old.keeps m here))
 
     pub followers_adding_may : MayBeFollowedState s rows y place z.event.processor z.event.kind
     followers_adding_may = record {
@@ -247,12 +280,13 @@ module _ (s : Plan) (rows : List (Vec ScriptCall)) (x : FoundStates) (place : �
       ];
       among = λ u has. old.among u ((joined_list_has-cons z left u).1 (inr has));
       few = (let one = followed.few in let before = old.few in omega (arith, one, before));
-      telling = followed.telling ∙ old.telling;
+      first = followed.first ∙ old.first;
+      parts = kept_parts_longer x.parts y.parts w.parts old.parts followed.parts;
     }
 
 -- so what is chosen is found soon
 pub followers_are_followed : (s : Plan) (rows : List (Vec ScriptCall)) (x y : FoundStates) (place : ℕ) (m : FlatState) (nexts : List (Option Kind))
-    (xs : List Follower) → AreFollowers rows m nexts (length nexts) xs → AreFollowersAdded s rows x y place xs
+    (xs : List Follower) → AreFollowers x rows m nexts (length nexts) xs → AreFollowersAdded s rows x y place xs
     → AreFollowedStates s rows x y place nexts (length nexts)
 followers_are_followed s rows x y place m nexts xs are added = record {
   keeps = added.keeps;
@@ -263,10 +297,19 @@ followers_are_followed s rows x y place m nexts xs are added = record {
       (subst (λ j. IsFoundByFreeRun s rows (found_states y) (did g h.follower.event.processor j)) h.kind
       (added.known f g h.follower here knows h.has));
   few = (let one = added.few in let few = are.few in omega (arith, one, few));
-  telling = added.telling;
+  telling = ap (λ (f : FlatState). f.telling) added.first;
 }
 
 -- where none are left, there are none
 pub followers_none_left : {A : Type 0} (left : List A) (n : ℕ) → n ≡ length left → n ≡ 0 → left ≡ []
 followers_none_left [] n long zeroth = refl
 followers_none_left (x ∷ xs) n long zeroth = absurd (omega (arith, long, zeroth))
+
+-- it is of the search whose states these are
+pub follower_of_one_search : (s : Plan) (rows : List (Vec ScriptCall)) (x : FoundStates) (place : ℕ) (f : FlatState) (z : Follower)
+    → MayBeFollowedState s rows x place z.event.processor z.event.kind → slice_get (found_states x) place ≡ Some f → (is : IsFollower x rows f z)
+    → AreOfOneSearch x.first is.state
+follower_of_one_search s rows x place f z may at is =
+    let g = may.found.known place f at in
+    kept_state_of_one_search s _ x.first is.state may.found.begins (is.knows s g.0 may.lawful g.1 (may.next f at g.0 g.1))
+    (sym (is.telling ∙ may.found.told place f at))

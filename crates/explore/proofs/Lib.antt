@@ -34,6 +34,7 @@ pub mod Reduced
 pub mod AllowedRuns
 pub mod Determined
 pub mod KeptStates
+pub mod KeptParts
 pub mod TrimmedWords
 pub mod StateOrigins
 pub mod CountedStates

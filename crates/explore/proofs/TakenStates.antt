@@ -23,23 +23,25 @@ use Rattle.explore.specs.FoundStates.{KeepsFoundStates, found_states}
 use Rattle.explore.specs.Machines.{MachineKnows, MachinesInSameState}
 use Rattle.explore.specs.Nexts.{AreNexts, NextsAreOver}
 use Rattle.explore.specs.OpenedStates.{AreOpenedStates, IsOpenedEnd, IsOpenedStateAt, IsOpenedState, IsOpenedUnmet}
-use Rattle.explore.proofs.Followers.{followers_are_followed, followers_of_like}
+use Rattle.explore.proofs.Followers.{followers_are_followed, followers_longer, followers_of_like}
+use Rattle.explore.specs.KeptStates.{AreStatePartsKept}
+use Rattle.explore.proofs.KeptParts.{kept_parts_longer, kept_parts_same}
 use Rattle.explore.proofs.LikeMachines.{like_machine_knows}
 use Rattle.explore.proofs.MachineSteps.{machine_step_some_at}
 use Rattle.explore.proofs.SearchGoals.{goal_unmet_next}
 use Rattle.explore.proofs.SearchedStates.{searched_state_was_at, searched_states_next, searched_states_noted_kept, searched_states_noted_skip}
 
 -- what one machine is, another one in the same state is
-pub opened_state_of_like : (s : Plan) (rows : List (Vec ScriptCall)) (P : List Event → Type 0) (m n : FlatState) (o : OpenedState)
-    → MachinesInSameState m n → IsOpenedState s rows P n o → IsOpenedState s rows P m o
-opened_state_of_like s rows P m n Ending like is = λ g knows. is g (like_machine_knows s g m n like knows)
-opened_state_of_like s rows P m n (InConflict a b) like is = record {
+pub opened_state_of_like : (s : Plan) (among : FoundStates) (rows : List (Vec ScriptCall)) (P : List Event → Type 0) (m n : FlatState) (o : OpenedState)
+    → MachinesInSameState m n → IsOpenedState s among rows P n o → IsOpenedState s among rows P m o
+opened_state_of_like s among rows P m n Ending like is = λ g knows. is g (like_machine_knows s g m n like knows)
+opened_state_of_like s among rows P m n (InConflict a b) like is = record {
   apart = is.apart;
   conflict = is.conflict;
   first = λ g knows. is.first g (like_machine_knows s g m n like knows);
   second = λ g knows. is.second g (like_machine_knows s g m n like knows);
 }
-opened_state_of_like s rows P m n (Whole outcome) like is = (
+opened_state_of_like s among rows P m n (Whole outcome) like is = (
   λ g knows. is.0 g (like_machine_knows s g m n like knows),
   record {
     over = λ g p k knows. is.1.over g p k (like_machine_knows s g m n like knows);
@@ -47,14 +49,14 @@ opened_state_of_like s rows P m n (Whole outcome) like is = (
     shows = is.1.shows ∙ like.replies;
   },
 )
-opened_state_of_like s rows P m n Stuck like is = (
+opened_state_of_like s among rows P m n Stuck like is = (
   λ g knows. is.0 g (like_machine_knows s g m n like knows),
   record {
     over = λ g p k knows. is.1.over g p k (like_machine_knows s g m n like knows);
     unfinished = λ g knows. is.1.unfinished g (like_machine_knows s g m n like knows);
   },
 )
-opened_state_of_like s rows P m n (Followed followers) like is = (
+opened_state_of_like s among rows P m n (Followed followers) like is = (
   λ g knows. is.0 g (like_machine_knows s g m n like knows),
   record {
     nexts = is.1.nexts;
@@ -65,18 +67,41 @@ opened_state_of_like s rows P m n (Followed followers) like is = (
     among = is.1.among;
     choice = λ g knows. is.1.choice g (like_machine_knows s g m n like knows);
     few = is.1.few;
-    followers = followers_of_like rows m n is.1.chosen (length is.1.chosen) followers.items like is.1.followers;
+    followers = followers_of_like among rows m n is.1.chosen (length is.1.chosen) followers.items like is.1.followers;
+  },
+)
+
+-- what it was, it is where more was found
+pub opened_state_longer : (s : Plan) (x y : FoundStates) (rows : List (Vec ScriptCall)) (P : List Event → Type 0) (m : FlatState) (o : OpenedState)
+    → KeepsFoundStates (found_states x) (found_states y) → AreStatePartsKept x.parts y.parts → IsOpenedState s x rows P m o
+    → IsOpenedState s y rows P m o
+opened_state_longer s x y rows P m Ending keeps parts is = is
+opened_state_longer s x y rows P m (InConflict a b) keeps parts is = is
+opened_state_longer s x y rows P m (Whole outcome) keeps parts is = is
+opened_state_longer s x y rows P m Stuck keeps parts is = is
+opened_state_longer s x y rows P m (Followed followers) keeps parts is = (
+  is.0,
+  record {
+    nexts = is.1.nexts;
+    are = is.1.are;
+    quiet = is.1.quiet;
+    goes = is.1.goes;
+    chosen = is.1.chosen;
+    among = is.1.among;
+    choice = is.1.choice;
+    few = is.1.few;
+    followers = followers_longer x y rows m is.1.chosen (length is.1.chosen) followers.items keeps parts is.1.followers;
   },
 )
 
 -- an end isn't what is looked for
-pub opened_state_ends : (s : Plan) (rows : List (Vec ScriptCall)) (P : List Event → Type 0) (m : FlatState) (o : OpenedState)
-    → IsOpenedUnmet s P m → IsOpenedEnd s m o → IsOpenedState s rows P m o
-opened_state_ends s rows P m (Whole outcome) unmet is = (unmet, is)
-opened_state_ends s rows P m Stuck unmet is = (unmet, is)
-opened_state_ends s rows P m Ending unmet is = absurd is
-opened_state_ends s rows P m (InConflict a b) unmet is = absurd is
-opened_state_ends s rows P m (Followed followers) unmet is = absurd is
+pub opened_state_ends : (s : Plan) (among : FoundStates) (rows : List (Vec ScriptCall)) (P : List Event → Type 0) (m : FlatState) (o : OpenedState)
+    → IsOpenedUnmet s P m → IsOpenedEnd s m o → IsOpenedState s among rows P m o
+opened_state_ends s among rows P m (Whole outcome) unmet is = (unmet, is)
+opened_state_ends s among rows P m Stuck unmet is = (unmet, is)
+opened_state_ends s among rows P m Ending unmet is = absurd is
+opened_state_ends s among rows P m (InConflict a b) unmet is = absurd is
+opened_state_ends s among rows P m (Followed followers) unmet is = absurd is
 
 module _ (s : Plan) (x : Search) (rows : List (Vec ScriptCall)) (P : List Event → Type 0) (place : ℕ) where
   -- what is looked for
@@ -84,7 +109,8 @@ module _ (s : Plan) (x : Search) (rows : List (Vec ScriptCall)) (P : List Event 
   taken_state_is_met next = record {
     keeps = λ k m is. is;
     few = omega arith;
-    telling = refl;
+    first = refl;
+    parts = kept_parts_same x.found.parts;
     taken = (next.without.searched, record { within = next.more; ends = λ m g here knows. next.is m here g knows });
   }
 
@@ -97,7 +123,8 @@ module _ (s : Plan) (x : Search) (rows : List (Vec ScriptCall)) (P : List Event 
       record {
         keeps = λ k m here. here;
         few = omega arith;
-        telling = refl;
+        first = refl;
+        parts = kept_parts_same x.found.parts;
         taken = (
           next.without.searched,
           record {
@@ -144,7 +171,8 @@ module _ (s : Plan) (x : Search) (rows : List (Vec ScriptCall)) (P : List Event 
         record {
           keeps = kept.keeps;
           few = omega (arith, few);
-          telling = kept.telling;
+          first = ap (λ (z : FoundStates). z.first) same;
+          parts = subst (λ (z : FoundStates). AreStatePartsKept x.found.parts z.parts) (sym same) (kept_parts_same x.found.parts);
           taken = record {
             searched = searched_states_next y [] [] taken_state_has_more
                 (λ m here g knows p k. ((λ is. absurd (none-some k is)), (λ is. absurd (over m here g p k knows is))))
@@ -186,7 +214,8 @@ module _ (s : Plan) (x : Search) (rows : List (Vec ScriptCall)) (P : List Event 
         record {
           keeps = added.keeps;
           few = omega (arith, few, most);
-          telling = added.telling;
+          first = added.first;
+          parts = added.parts;
           taken = record {
             searched = searched_states_next y is.nexts is.chosen (taken_state_has_more (Followed xs) next)
                 (λ m here. subst (λ z. AreNexts s z is.nexts) (same_Some f.0 m (sym f.1 ∙ here)) is.are)
@@ -208,7 +237,8 @@ pub record AreBeingTaken (s : Plan) (x y : Search) (rows : List (Vec ScriptCall)
   pub keeps : KeepsFoundStates (found_states x.found) (found_states y.found)
   pub are : AreOpenedStates s rows P x.found place to left
   pub few : length (found_states x.found) ≤ most + 16 → length (found_states y.found) ≤ most + 16
-  pub telling : y.found.first.telling ≡ x.found.first.telling
+  pub first : y.found.first ≡ x.found.first
+  pub parts : AreStatePartsKept x.found.parts y.found.parts
 
 -- they end no sooner than they begin
 pub opened_states_within : (s : Plan) (rows : List (Vec ScriptCall)) (P : List Event → Type 0) (x : FoundStates) (from to : ℕ) (os : List OpenedState)
@@ -238,7 +268,8 @@ module _ (s : Plan) (x : Search) (rows : List (Vec ScriptCall)) (P : List Event 
     keeps = λ k m here. here;
     are = begun.are;
     few = λ few. few;
-    telling = refl;
+    first = refl;
+    parts = kept_parts_same x.found.parts;
   }
 
   module _ (y : Search) (place : ℕ) where
@@ -247,7 +278,7 @@ module _ (s : Plan) (x : Search) (rows : List (Vec ScriptCall)) (P : List Event 
     being_taken_past left old past = record {
       some = (place, old.without.searched);
       few = old.few;
-      telling = old.telling;
+      telling = ap (λ (f : FlatState). f.telling) old.first;
       taken = λ few. absurd (omega (arith, past, few));
     }
 
@@ -255,7 +286,7 @@ module _ (s : Plan) (x : Search) (rows : List (Vec ScriptCall)) (P : List Event 
     being_taken_end old = record {
       some = (place, old.without.searched);
       few = old.few;
-      telling = old.telling;
+      telling = ap (λ (f : FlatState). f.telling) old.first;
       taken = λ few. subst (FlatSearchedWithout s y rows P) old.are old.without;
     }
 
@@ -274,7 +305,7 @@ module _ (s : Plan) (x : Search) (rows : List (Vec ScriptCall)) (P : List Event 
             without = old.without;
             more = slice_get_within (found_states y.found) place f.0 (old.keeps place f.0 f.1);
             is = λ m here.
-                old.are.0 m (searched_state_was_at (found_states x.found) (found_states y.found) place m old.keeps being_taken_before here);
+                opened_state_longer s x.found y.found rows P m o old.keeps old.parts (old.are.0 m (searched_state_was_at (found_states x.found) (found_states y.found) place m old.keeps being_taken_before here));
           }
 
       module _ (z : Search) (under : length (found_states y.found) ≤ most) where
@@ -284,14 +315,15 @@ module _ (s : Plan) (x : Search) (rows : List (Vec ScriptCall)) (P : List Event 
           keeps = λ k m here. taken.keeps k m (old.keeps k m here);
           are = old.are.1;
           few = λ few. (let more = taken.few in omega (arith, more, under));
-          telling = taken.telling ∙ old.telling;
+          first = taken.first ∙ old.first;
+          parts = kept_parts_longer x.found.parts y.found.parts z.found.parts old.parts taken.parts;
         }
 
         pub being_taken_met : (met : Met) → IsTakenByFlatSearch s y z rows P place (Some met) → AreTakenByFlatSearch s x z rows P most to (Some met)
         being_taken_met met taken = record {
           some = (place, taken.taken.0);
           few = λ few. (let more = taken.few in omega (arith, more, under));
-          telling = taken.telling ∙ old.telling;
+          telling = ap (λ (f : FlatState). f.telling) (taken.first ∙ old.first);
           taken = taken.taken.1;
         }
 

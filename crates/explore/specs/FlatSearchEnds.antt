@@ -17,6 +17,7 @@ use Rattle.explore.specs.FoundStates.{KeepsFoundStates, found_states}
 use Rattle.explore.specs.Machines.{AreLawfulMachineSteps}
 use Rattle.explore.specs.OpenedStates.{AreOpenedStates, IsOpenedStateAt}
 use Rattle.explore.specs.declared.search.opened_state.OpenedState.{OpenedState}
+use Rattle.explore.specs.KeptStates.{AreStatePartsKept}
 use Rattle.explore.specs.OutcomeTelling.{outcome_telling_of_script}
 use Rattle.explore.specs.Racing.{AreRacing}
 use Rattle.explore.specs.SearchGoals.{IsGoalMetAt, IsGoalUnmet}
@@ -45,7 +46,8 @@ pub record IsTakenByFlatSearch (s : Plan) (x y : Search) (steps : List (Vec Scri
     : Type 0 where
   pub keeps : KeepsFoundStates (found_states x.found) (found_states y.found)
   pub few : length (found_states y.found) ≤ length (found_states x.found) + most_processors
-  pub telling : y.found.first.telling ≡ x.found.first.telling
+  pub first : y.found.first ≡ x.found.first
+  pub parts : AreStatePartsKept x.found.parts y.found.parts
   pub taken : MatchOption o (FlatSearchedWithout s y steps P (place + 1)) (λ met. FlatSearchedUpTo s y steps place × IsMetByFlatSearch s y steps P met)
 
 -- the states from this place on up to another, which were opened to be these, are the next ones

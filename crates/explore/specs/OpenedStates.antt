@@ -56,7 +56,7 @@ abbrev pub IsOpenedEndAt : Plan → FoundStates → ℕ → OpenedState → Type
 IsOpenedEndAt s x place o = (m : FlatState) → slice_get (found_states x) place ≡ Some m → IsOpenedEnd s m o
 
 -- no two events that may come next after m conflict, and these are its followers by those of them that are chosen
-pub record IsOpenedFollowed (s : Plan) (rows : List (Vec ScriptCall)) (m : FlatState) (xs : List Follower) : Type 0 where
+pub record IsOpenedFollowed (s : Plan) (x : FoundStates) (rows : List (Vec ScriptCall)) (m : FlatState) (xs : List Follower) : Type 0 where
   pub nexts : List (Option Kind)
   pub are : AreNexts s m nexts
   pub quiet : (p q : ℕ) (a b : Kind) → ¬ AreNextInConflict nexts p q a b
@@ -65,19 +65,19 @@ pub record IsOpenedFollowed (s : Plan) (rows : List (Vec ScriptCall)) (m : FlatS
   pub among : AreFreeChoiceAmongNexts nexts chosen
   pub choice : (g : List Event) → MachineKnows s g m → IsFreeChoice rows g nexts chosen
   pub few : length chosen ≤ 16
-  pub followers : AreFollowers rows m chosen (length chosen) xs
+  pub followers : AreFollowers x rows m chosen (length chosen) xs
 
 -- that is what m is, if P is looked for
-abbrev pub IsOpenedState : Plan → List (Vec ScriptCall) → (List Event → Type 0) → FlatState → OpenedState → Type 0
-IsOpenedState s rows P m Ending = IsOpenedMet s P m
-IsOpenedState s rows P m (InConflict a b) = IsOpenedInConflict s m a b
-IsOpenedState s rows P m (Whole outcome) = IsOpenedUnmet s P m × IsOpenedWhole s m (explored_outcome outcome)
-IsOpenedState s rows P m Stuck = IsOpenedUnmet s P m × IsOpenedStuck s m
-IsOpenedState s rows P m (Followed followers) = IsOpenedUnmet s P m × IsOpenedFollowed s rows m followers.items
+abbrev pub IsOpenedState : Plan → FoundStates → List (Vec ScriptCall) → (List Event → Type 0) → FlatState → OpenedState → Type 0
+IsOpenedState s among rows P m Ending = IsOpenedMet s P m
+IsOpenedState s among rows P m (InConflict a b) = IsOpenedInConflict s m a b
+IsOpenedState s among rows P m (Whole outcome) = IsOpenedUnmet s P m × IsOpenedWhole s m (explored_outcome outcome)
+IsOpenedState s among rows P m Stuck = IsOpenedUnmet s P m × IsOpenedStuck s m
+IsOpenedState s among rows P m (Followed followers) = IsOpenedUnmet s P m × IsOpenedFollowed s among rows m followers.items
 
 -- that is what the state at this place is
 abbrev pub IsOpenedStateAt : Plan → List (Vec ScriptCall) → (List Event → Type 0) → FoundStates → ℕ → OpenedState → Type 0
-IsOpenedStateAt s rows P x place o = (m : FlatState) → slice_get (found_states x) place ≡ Some m → IsOpenedState s rows P m o
+IsOpenedStateAt s rows P x place o = (m : FlatState) → slice_get (found_states x) place ≡ Some m → IsOpenedState s x rows P m o
 
 -- these are the states from one place on up to another, in order
 abbrev pub AreOpenedStates : Plan → List (Vec ScriptCall) → (List Event → Type 0) → FoundStates → ℕ → ℕ → List OpenedState → Type 0

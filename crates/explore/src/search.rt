@@ -723,7 +723,8 @@ pub fn explore<P: Progress>(
 
 /// Looks at the states of the script as `explore` does, of which so many jobs open some beside each other, up to 64, each on a thread of its
 /// own if that can be started. What it says is the same: what each state comes to follows from the state alone, and states are taken in
-/// the order in which they were found. It keeps what up to 1,024 states come to until these are taken.
+/// the order in which they were found. It keeps what up to 1,024 states come to until these are taken. If more than the words is told, there
+/// is one job: most states have replies of their own then, and to hand these over takes longer than to find them.
 pub fn explore_by_jobs<R: Threads + Sync, P: Progress>(
     rt: &R,
     jobs: usize,
@@ -737,6 +738,6 @@ pub fn explore_by_jobs<R: Threads + Sync, P: Progress>(
     ensures { IfOk result (IsExplored (plan_of script.now) detail most) }
 {
     let steps = script_calls_of_all(alloc, script)?;
-    let opener = ByJobs { rt, jobs };
+    let opener = ByJobs::of(rt, jobs, detail);
     search_steps(alloc, script, &steps, detail, most, &opener, progress)
 }

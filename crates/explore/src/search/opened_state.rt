@@ -2,6 +2,7 @@
 ghost use Rattle.std.specs.Prelude.{◌<◌, IfOk, length};
 ghost use Rattle.lrc_script.specs.Prelude.{Plan};
 ghost use Rattle.explore.specs.FoundStates.{AreFoundStates, found_states};
+ghost use Rattle.explore.specs.Followers.{IsMachineAmong};
 ghost use Rattle.explore.specs.FreeChoice.{AreFreeChoiceTextFacts};
 ghost use Rattle.explore.specs.Machines.{AreLawfulMachineSteps, IsMachineRunning};
 ghost use Rattle.explore.specs.Nexts.{NextsAreOver};
@@ -14,11 +15,11 @@ use crate::prefixes::ScriptCall;
 use crate::search::free_choice::free_choice;
 use crate::search::neighbours::{are_neighbours_over, neighbour_nexts_of, neighbours_in};
 use crate::state::flat_state::FlatState;
-use crate::state::follower::{Follower, followers_of};
+use crate::state::follower::{Follower, Looking, followers_of};
 use crate::state::found_states::FoundStates;
 use crate::text::facts::TextFacts;
 use journal::Event;
-use std::alloc::{AllocError, Global};
+use std::alloc::AllocError;
 
 /// What a state is found to be as it is opened.
 #[derive(Drop)]
@@ -49,15 +50,16 @@ fn opened_end(state: &FlatState, steps: &[Vec<ScriptCall>]) -> Result<OpenedStat
 
 /// Opens the state: what it is, if this is looked for. The only error is running out of memory.
 fn open_state(
-    alloc: Global,
+    found: &FoundStates,
+    looking: Looking,
     state: FlatState,
     steps: &[Vec<ScriptCall>],
     facts: &TextFacts,
     goal: Goal<'_>,
 ) -> Result<OpenedState, AllocError>
     requires facts { AreFreeChoiceTextFacts steps.now facts.now }
-    requires running { IsMachineRunning state steps.now }
-    ensures { IfOk result (λ o. (s : Plan) → AreLawfulMachineSteps s steps.now → IsOpenedState s steps.now (IsRunOfGoal s goal.entry) state o) }
+    requires running { IsMachineAmong found.now steps.now state }
+    ensures { IfOk result (λ o. (s : Plan) → AreLawfulMachineSteps s steps.now → IsOpenedState s found.now steps.now (IsRunOfGoal s goal.entry) state o) }
 {
     if goal.is_met_by(&state, steps) {
         return Ok(OpenedState::Ending);
@@ -70,13 +72,14 @@ fn open_state(
         return opened_end(&state, steps);
     }
     let followed = free_choice(steps, &state, &nexts, facts);
-    let followers = followers_of(alloc, state, steps, facts, &followed)?;
+    let followers = followers_of(found, looking, state, steps, facts, &followed)?;
     Ok(OpenedState::Followed(followers))
 }
 
 /// Opens the state at this place. The only error is running out of memory.
 pub fn open_state_at(
     found: &FoundStates,
+    looking: Looking,
     steps: &[Vec<ScriptCall>],
     facts: &TextFacts,
     goal: Goal<'_>,
@@ -89,5 +92,5 @@ pub fn open_state_at(
         → IsOpenedStateAt s steps.now (IsRunOfGoal s goal.entry) found.now place o) }
 {
     let state = found.at(place)?;
-    open_state(found.alloc, state, steps, facts, goal)
+    open_state(found, looking, state, steps, facts, goal)
 }

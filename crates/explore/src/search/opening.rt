@@ -9,8 +9,10 @@ ghost use Rattle.explore.specs.OpenedStates.{AreOpenedStates};
 ghost use Rattle.explore.specs.SearchGoals.{IsRunOfGoal};
 
 use crate::goal::Goal;
+use crate::outcomes::telling::Detail;
 use crate::prefixes::ScriptCall;
 use crate::search::opened_state::{OpenedState, open_state_at};
+use crate::state::follower::Looking;
 use crate::state::found_states::FoundStates;
 use crate::text::facts::TextFacts;
 use std::alloc::AllocError;
@@ -59,6 +61,7 @@ pub trait StateOpener {
 fn push_opened_state(
     opened: &mut Vec<OpenedState>,
     found: &FoundStates,
+    looking: Looking,
     steps: &[Vec<ScriptCall>],
     facts: &TextFacts,
     goal: Goal<'_>,
@@ -71,7 +74,7 @@ fn push_opened_state(
         → AreOpenedStates s steps.now (IsRunOfGoal s goal.entry) found.now from place opened.old.items
         → AreOpenedStates s steps.now (IsRunOfGoal s goal.entry) found.now from (place + 1) opened.new.items) }
 {
-    let state = open_state_at(found, steps, facts, goal, place)?;
+    let state = open_state_at(found, looking, steps, facts, goal, place)?;
     opened.push(state)?;
     Ok(())
 }
@@ -79,6 +82,7 @@ fn push_opened_state(
 /// Opens the states from one place on up to another, one after the other.
 fn open_in_turn(
     found: &FoundStates,
+    looking: Looking,
     steps: &[Vec<ScriptCall>],
     facts: &TextFacts,
     goal: Goal<'_>,
@@ -94,7 +98,7 @@ fn open_in_turn(
 {
     let mut opened = Vec::new(found.alloc);
     for place in from..to {
-        push_opened_state(&mut opened, found, steps, facts, goal, place)?;
+        push_opened_state(&mut opened, found, looking, steps, facts, goal, place)?;
     }
     Ok(opened)
 }
@@ -129,7 +133,7 @@ fn open_by_jobs<R: Threads + Sync>(
         → AreOpenedStates s steps.now (IsRunOfGoal s goal.entry) found.now from to v.items) }
 {
     if jobs < 2 {
-        return open_in_turn(found, steps, facts, goal, from, to);
+        return open_in_turn(found, Looking::Early, steps, facts, goal, from, to);
     }
     let first = jobs / 2;
     let second = jobs - first;
@@ -171,15 +175,25 @@ impl StateOpener for InTurn {
         from: usize,
         to: usize,
     ) -> Result<Vec<OpenedState>, AllocError> {
-        open_in_turn(found, steps, facts, goal, from, to)
+        open_in_turn(found, Looking::Late, steps, facts, goal, from, to)
     }
 }
 
 /// Opens states beside each other, by so many jobs.
 #[derive(Clone, Copy)]
 pub struct ByJobs<'a, R> {
-    pub rt: &'a R,
-    pub jobs: usize,
+    rt: &'a R,
+    jobs: usize,
+}
+
+impl<'a, R: Threads + Sync> ByJobs<'a, R> {
+    /// By so many jobs, or by one if states keep more replies than the words at the end.
+    pub fn of(rt: &'a R, jobs: usize, detail: Detail) -> ByJobs<'a, R> {
+        match detail {
+            Detail::Words => ByJobs { rt, jobs },
+            Detail::Loads | Detail::All => ByJobs { rt, jobs: 1 },
+        }
+    }
 }
 
 impl<R: Threads + Sync> StateOpener for ByJobs<'_, R> {
@@ -203,6 +217,9 @@ impl<R: Threads + Sync> StateOpener for ByJobs<'_, R> {
         to: usize,
     ) -> Result<Vec<OpenedState>, AllocError> {
         let jobs = self.jobs.min((to - from) / LEAST_BY_JOB).min(MOST_JOBS);
+        if jobs < 2 {
+            return open_in_turn(found, Looking::Late, steps, facts, goal, from, to);
+        }
         open_by_jobs(self.rt, jobs, found, steps, facts, goal, from, to)
     }
 }

@@ -184,7 +184,7 @@ pub fn explore_until_by_jobs<R: Threads + Sync, P: Progress>(
     ensures { IfOk result (IsExploredUntil (plan_of script.now) detail words.now most) }
 {
     let steps = script_calls_of_all(alloc, script)?;
-    let opener = ByJobs { rt, jobs };
+    let opener = ByJobs::of(rt, jobs, detail);
     until_by_steps(
         alloc, script, &steps, detail, words, most, &opener, progress,
     )

@@ -7,11 +7,11 @@ ghost use Rattle.explore.specs.declared.state.flat_state.FlatState.{FlatState as
 ghost use Rattle.explore.specs.declared.state.wait_code.ProcessorNumber.{ProcessorNumber as ANumber};
 ghost use Rattle.explore.specs.CallTables.{IsCallTableOf, IsStateOfCalls};
 ghost use Rattle.explore.specs.FoundStates.{AreEventsOfMakers, AreFoundStateMakers, AreFoundStates, AreFoundStatesKept, FoundStateAdded, HasRoomForStates, IsFoundStateAt, found_states};
-ghost use Rattle.explore.specs.KeptStates.{AreOfOneSearch};
+ghost use Rattle.explore.specs.KeptStates.{AreOfOneSearch, IsStateKeptBy};
 ghost use Rattle.explore.specs.NoFoundStates.{AreNoFoundStates};
 ghost use Rattle.explore.specs.Origins.{most_origin_makers, state_origins};
 ghost use Rattle.explore.specs.FollowedStates.{IsFollowedState, MayBeFollowedState};
-ghost use Rattle.explore.specs.Followers.{AreFollowersAdded, AreFollowersAt, IsFollowerAt};
+ghost use Rattle.explore.specs.Followers.{AreFollowersAdded, AreFollowersAt, IsFollowerAt, IsReachedState};
 ghost use Rattle.explore.specs.declared.prefixes.script_call.ScriptCall.{ScriptCall as AStep};
 ghost use Rattle.std.specs.Global.{Vec as AVec};
 ghost use Rattle.explore.specs.StatesOfScript.{HasStatesOfScript};
@@ -22,7 +22,7 @@ ghost use Rattle.explore.specs.OutcomeTelling.{outcome_telling_of_script};
 use crate::prefixes::ScriptCall;
 use crate::state::call_table::CallTable;
 use crate::state::flat_state::FlatState;
-use crate::state::follower::Follower;
+use crate::state::follower::{Follower, Looking, ReachedState};
 use crate::state::hasher::StateSet;
 use crate::state::kept_state::{KeptState, StateParts};
 use crate::state::origins::Origins;
@@ -177,6 +177,62 @@ impl FoundStates {
         Ok(())
     }
 
+    /// Adds a state as `add` does, whose parts are there.
+    fn add_kept(
+        &mut self,
+        kept: KeptState,
+        from: usize,
+        makers: &[ProcessorNumber],
+    ) -> Result<(), AllocError>
+        requires kept { AreFoundStatesKept self.old }
+        requires long { length (found_states self.old) ≡ length (state_origins self.old.origins) + 1 }
+        requires room { HasRoomForStates self.old 1 }
+        requires from { from < length (found_states self.old) }
+        requires makers { length makers.now ≤ most_origin_makers }
+        ensures { OnOk result ((m : AMachine) → IsStateKeptBy self.old.parts m kept → AreOfOneSearch self.old.first m
+            → FoundStateAdded self.old self.new m (record { from = from; makers = makers.now })) }
+    {
+        let (_, is_new) = self.states.insert_full(kept)?;
+        if is_new {
+            self.origins.push(from, makers)?;
+        }
+        Ok(())
+    }
+
+    /// The place of the state that is kept so, or how it is kept if it isn't there.
+    fn place_or_kept(&self, kept: KeptState) -> ReachedState
+        ensures { (m : AMachine) → IsStateKeptBy self.now.parts m kept → AreOfOneSearch self.now.first m → IsReachedState self.now m result }
+    {
+        match self.states.get_full(&kept) {
+            Some((place, there)) if kept == *there => ReachedState::Found(place),
+            _ => ReachedState::Kept(kept),
+        }
+    }
+
+    /// Looks for the state: its place, or how it is kept if its parts are there alone, or itself. The only error is running out of memory.
+    fn look_for_early(&self, state: FlatState) -> Result<ReachedState, AllocError>
+        requires known { IsStateOfCalls self.now.parts.calls state }
+        requires of_one { AreOfOneSearch self.now.first state }
+        ensures { IfOk result (IsReachedState self.now state) }
+    {
+        match self.parts.find(self.alloc, &state)? {
+            Some(kept) => Ok(self.place_or_kept(kept)),
+            None => Ok(ReachedState::New(Box::new(self.alloc, state)?)),
+        }
+    }
+
+    /// The state, which is looked for now or later. The only error is running out of memory.
+    pub fn look_for(&self, looking: Looking, state: FlatState) -> Result<ReachedState, AllocError>
+        requires known { IsStateOfCalls self.now.parts.calls state }
+        requires of_one { AreOfOneSearch self.now.first state }
+        ensures { IfOk result (IsReachedState self.now state) }
+    {
+        match looking {
+            Looking::Early => self.look_for_early(state),
+            Looking::Late => Ok(ReachedState::New(Box::new(self.alloc, state)?)),
+        }
+    }
+
     /// Adds what the state at this place comes to, if it is a new state. The only error is running out of memory, after which this may be
     /// of no use.
     fn add_follower(&mut self, follower: Follower, place: usize) -> Result<(), AllocError>
@@ -187,8 +243,16 @@ impl FoundStates {
             → MayBeFollowedState s rows self.old place follower.event.processor follower.event.kind → IsFollowerAt rows self.old place follower
             → IsFollowedState s rows self.old self.new place follower.event.processor follower.event.kind) }
     {
-        let Follower { state, makers, .. } = follower;
-        self.add(state, place, &makers)
+        let Follower {
+            reached,
+            makers,
+            ..
+        } = follower;
+        match reached {
+            ReachedState::New(state) => self.add(Box::into_inner(state), place, &makers),
+            ReachedState::Kept(kept) => self.add_kept(kept, place, &makers),
+            ReachedState::Found(_) => Ok(()),
+        }
     }
 
     /// Adds what the state at this place comes to by some events, in this order, as far as these are new states. The only error is running

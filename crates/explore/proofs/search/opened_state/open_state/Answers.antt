@@ -18,7 +18,7 @@ returns-in-Some c = λ s lawful.
 
 pub returns-then-are_neighbours_over : goal.returns-then-are_neighbours_over
 returns-then-are_neighbours_over c = IfOk-weaker c.opened_end.result _ _ (λ o end s lawful.
-    opened_state_ends s c.args.steps.now (IsRunOfGoal s c.args.goal) c.args.state o
+    opened_state_ends s c.args.found.now c.args.steps.now (IsRunOfGoal s c.args.goal) c.args.state o
     (λ g knows met. false≢true (sym c.if-is_met_by.false ∙ (c.is_met_by.ensures s g lawful knows).1 met))
     (end s lawful (λ g p k knows next.
     c.are_neighbours_over.ensures.0 c.if-are_neighbours_over.true p k
@@ -28,10 +28,7 @@ pub followers_of-requires-clause-may : goal.followers_of-requires-clause-may
 followers_of-requires-clause-may c = λ p k told.
     let running = c.requires.running in
     record {
-      plan = running.plan;
-      lawful = running.lawful;
-      events = running.events;
-      knows = running.knows;
+      among = running;
       next =
           (c.neighbour_nexts_of-nexts.ensures.nexts running.plan running.lawful running.events running.knows p k).0
           (c.free_choice-followed.ensures.among p k told);
