@@ -10,7 +10,7 @@ ghost use Rattle.lrc_commands.specs.Prelude.{IsCommandExitStatusOfInput};
 ghost use Rattle.lrc_exploring.specs.Prelude.{AreSchedulesExplored, IsExploreAnswerTo, IsRacyShowing, IsRacyVerdict, IsScheduleAnswerTo, explore_detail};
 
 use crate::answer::ExploreAnswer;
-use crate::stages::{explore_detail, explore_jobs, schedules_explored};
+use crate::stages::{explore_detail, schedules_explored};
 use crate::unshown::refuse_unshown;
 use conformance::ScriptRunner;
 use explore::{
@@ -184,7 +184,7 @@ fn answer_until<T: ScriptRunner, R: Threads + Wait + Sync, P: Progress>(
     let words = options.until.as_slice();
     refuse_unshown(script, words)?;
     let detail = explore_detail(options.outcomes);
-    let jobs = explore_jobs(study.rt, options.jobs);
+    let jobs = options.jobs.unwrap_or(1) as usize;
     let explored = explore_until_by_jobs(
         study.rt,
         jobs,

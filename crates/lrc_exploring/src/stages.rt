@@ -8,7 +8,7 @@ use explore::{Detail, Explored, Hanging, Progress, explore_by_jobs};
 use lrc_options::options::{ExploreOptions, OutcomeDetail};
 use lrc_script::script::Script;
 use std::alloc::{AllocError, Global};
-use std::thread::{Threads, available_parallelism};
+use std::thread::Threads;
 
 /// How many states the first stage looks at. A search that is given up after them has taken some half a second.
 const FIRST_STATES: u32 = 1 << 16;
@@ -34,17 +34,6 @@ fn is_hang_met(hanging: &Hanging) -> bool
     match hanging {
         Hanging::Hangs(_) => true,
         _ => false,
-    }
-}
-
-/// How many jobs look at states beside each other: so many, or as many as there are processors.
-pub fn explore_jobs<R: Threads>(rt: &R, jobs: Option<u64>) -> usize {
-    match jobs {
-        Some(jobs) => jobs as usize,
-        None => match available_parallelism(rt) {
-            Ok(processors) => processors.get(),
-            Err(_) => 1,
-        },
     }
 }
 
@@ -102,7 +91,7 @@ pub fn schedules_explored<R: Threads + Sync, P: Progress>(
     requires all { options.now.until.items ≡ [] }
     ensures { IfOk result (AreSchedulesExplored options.now (plan_of script.now)) }
 {
-    let jobs = explore_jobs(rt, options.jobs);
+    let jobs = options.jobs.unwrap_or(1) as usize;
     match explored_first(rt, jobs, alloc, script, options, progress)? {
         Some(explored) => Ok(explored),
         None => {

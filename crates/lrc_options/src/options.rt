@@ -165,7 +165,7 @@ pub struct ExploreOptions {
     pub until: Vec<(usize, u32)>,
     /// How much of a run its outcome tells.
     pub outcomes: OutcomeDetail,
-    /// How many jobs look at states beside each other at most, 1 to 64; as many as there are processors if None.
+    /// How many jobs look at states beside each other at most, 1 to 64; one if None.
     pub jobs: Option<u64>,
     /// Whether the answer is JSON, an object a line, and not text.
     pub json: bool,
