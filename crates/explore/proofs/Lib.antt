@@ -28,6 +28,7 @@ pub mod TakenStates
 pub mod Locksets
 pub mod TextWalks
 pub mod UnguardedWords
+pub mod KeptAccesses
 pub mod TextAskPaths
 pub mod RankedLocks
 pub mod Reduced

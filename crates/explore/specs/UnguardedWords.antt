@@ -1,5 +1,5 @@
 -- Accesses of a word that neither a barrier nor a lock keeps apart in the script's text.
-use Rattle.std.specs.Prelude.{ℕ, ◌≡◌, ◌≢◌, ◌<◌, ◌⊎◌, Bool, false, IsTrue, List, length, slice_index_or}
+use Rattle.std.specs.Prelude.{ℕ, ◌≡◌, ◌≢◌, ◌<◌, ◌⊎◌, Bool, false, IsTrue, List, [], Option, None, Some, length, slice_get, slice_index_or}
 use Rattle.std.specs.Global.{Vec}
 use Rattle.base.specs.InOrderOnce.{Has, InOrder}
 use Rattle.explore.specs.declared.prefixes.script_call.ScriptCall.{ScriptCall}
@@ -45,6 +45,15 @@ pub record HasTextAccessLike (accesses : List TextAccess) (p phase : ℕ) (store
   pub has : Has accesses access
   pub like : IsTextAccessLike access p phase store held
 
+-- the accesses in a row, none if there is no row
+abbrev pub text_accesses_in : Option (Vec TextAccess) → List TextAccess
+text_accesses_in None = []
+text_accesses_in (Some row) = row.items
+
+-- the accesses that are kept of word w
+abbrev pub text_accesses_kept : List (Vec TextAccess) → ℕ → List TextAccess
+text_accesses_kept kept w = text_accesses_in (slice_get kept w)
+
 -- each is the text's
 abbrev pub AreTextAccesses : List (Vec ScriptCall) → ℕ → List TextAccess → Type 0
 AreTextAccesses rows w accesses = (x : TextAccess) → Has accesses x → IsTextAccess rows w x
@@ -58,6 +67,12 @@ AreTextAccessesOfRow rows w accesses p n = (i : ℕ) (a : ScriptCall) (x : IsTex
 abbrev pub AreTextAccessesOfRows : List (Vec ScriptCall) → ℕ → List TextAccess → ℕ → Type 0
 AreTextAccessesOfRows rows w accesses n = (p i : ℕ) (a : ScriptCall) (x : IsTextGuardedAccessAt rows p i w a) → p < n
     → HasTextAccessLike accesses p (text_guard_departures_at x.row.items i) (text_guarded_step_stores a) (text_guard_held_at x.row.items i)
+
+-- of each word that isn't said to be guarded these are the text's accesses, with one like each
+pub record AreKeptTextAccesses (rows : List (Vec ScriptCall)) (guarded : List Bool) (kept : List (Vec TextAccess)) : Type 0 where
+  pub are : (w : ℕ) → AreTextAccesses rows w (text_accesses_kept kept w)
+  pub noted : (w : ℕ) → w < length guarded → slice_index_or guarded w false ≡ false
+      → AreTextAccessesOfRows rows w (text_accesses_kept kept w) (length rows)
 
 -- a word that isn't said to be guarded, and two accesses of it that neither a barrier nor a lock keeps apart
 pub record IsUnguardedWord (rows : List (Vec ScriptCall)) (guarded : List Bool) (x : UnguardedWord) : Type 0 where

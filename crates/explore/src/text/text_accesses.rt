@@ -1,5 +1,5 @@
 //! The accesses of a word that a script's text has, and which of them neither a barrier nor a lock keeps apart.
-ghost use Rattle.std.specs.Prelude.{◌≡◌, ℕ, ◌<◌, ◌≤◌, ◌⊎◌, IfOk, IfSome, IsTrue, MatchOption, OnOk, Some, false, length, slice_get, slice_index_or};
+ghost use Rattle.std.specs.Prelude.{◌≡◌, ℕ, [], ◌<◌, ◌≤◌, ◌⊎◌, IfOk, IfSome, IsTrue, MatchOption, OnOk, Some, false, length, slice_get, slice_index_or, vec_len};
 ghost use Rattle.std.specs.Global.{Vec as AVec};
 ghost use Rattle.base.specs.InOrderOnce.{Has};
 ghost use Rattle.explore.specs.declared.prefixes.script_call.ScriptCall.{ScriptCall as AStep};
@@ -7,7 +7,7 @@ ghost use Rattle.explore.specs.declared.text.text_accesses.TextAccess.{TextAcces
 ghost use Rattle.base.specs.Prelude.{most_processors};
 ghost use Rattle.explore.specs.TextGuards.{text_guarded_step_address, text_guarded_step_stores};
 ghost use Rattle.explore.specs.WalkedWords.{walked_row_holds};
-ghost use Rattle.explore.specs.UnguardedWords.{AreTextAccesses, AreTextAccessesApart, AreTextAccessesOfRow, AreTextAccessesOfRows, AreTextAccessesOpen, HasTextAccessLike, IsTextAccessLike};
+ghost use Rattle.explore.specs.UnguardedWords.{AreKeptTextAccesses, AreTextAccesses, AreTextAccessesApart, AreTextAccessesOfRow, AreTextAccessesOfRows, AreTextAccessesOpen, HasTextAccessLike, IsTextAccessLike, text_accesses_kept};
 ghost use Rattle.explore.specs.Users.{AreUserRowsFew, AreUserRowsWithin};
 
 use crate::prefixes::ScriptCall;
@@ -132,23 +132,30 @@ fn flags_met_after(met: usize, step: ScriptCall) -> usize {
     }
 }
 
-/// Adds the access that the step at the cursor's place makes of the word, if it makes one and there is none like it.
+/// Adds the access that the step at the cursor's place makes, if it makes one of a word that isn't known to be guarded, and if there
+/// is none like it. A row of accesses is kept for each word.
 fn note_step_text_access(
-    accesses: &mut Vec<TextAccess>,
-    word: usize,
+    kept: &mut Vec<Vec<TextAccess>>,
+    guarded: &[bool],
     processor: usize,
     at: &WalkedRow,
     flags_met: usize,
     step: ScriptCall,
 ) -> Result<(), AllocError>
-    ensures keeps { OnOk result ((x : AnAccess) → Has accesses.old.items x → Has accesses.new.items x) }
-    ensures only { OnOk result ((x : AnAccess) → Has accesses.new.items x → Has accesses.old.items x
-        ⊎ ((text_guarded_step_address step ≡ Some word) × (x.place ≡ at.now.place)
+    requires { vec_len kept.old ≡ length guarded.now }
+    ensures long { vec_len kept.new ≡ vec_len kept.old }
+    ensures keeps { OnOk result ((w : ℕ) (x : AnAccess) → Has (text_accesses_kept kept.old.items w) x → Has (text_accesses_kept kept.new.items w) x) }
+    ensures only { OnOk result ((w : ℕ) (x : AnAccess) → Has (text_accesses_kept kept.new.items w) x → Has (text_accesses_kept kept.old.items w) x
+        ⊎ ((text_guarded_step_address step ≡ Some w) × (x.place ≡ at.now.place)
         × IsTextAccessLike x processor at.now.phase (text_guarded_step_stores step) (walked_row_holds at.now))) }
-    ensures noted { OnOk result (text_guarded_step_address step ≡ Some word → HasTextAccessLike accesses.new.items processor at.now.phase
+    ensures noted { OnOk result ((w : ℕ) → w < length guarded.now → slice_index_or guarded.now w false ≡ false
+        → text_guarded_step_address step ≡ Some w → HasTextAccessLike (text_accesses_kept kept.new.items w) processor at.now.phase
         (text_guarded_step_stores step) (walked_row_holds at.now)) }
 {
-    if guarded_address_of(step) != Some(word) {
+    let Some(word) = guarded_address_of(step) else {
+        return Ok(());
+    };
+    if word >= guarded.len() || guarded[word] {
         return Ok(());
     }
     let access = TextAccess {
@@ -159,54 +166,71 @@ fn note_step_text_access(
         held: at.held,
         flags_met,
     };
-    note_text_access(accesses, access)
+    note_text_access(&mut kept[word], access)
 }
 
-/// Adds the processor's accesses of the word, but for those that are like others of them.
+/// Adds the processor's accesses of each word that isn't known to be guarded, but for those that are like others of them.
 fn note_row_text_accesses(
-    accesses: &mut Vec<TextAccess>,
-    word: usize,
+    kept: &mut Vec<Vec<TextAccess>>,
+    guarded: &[bool],
     steps: &[Vec<ScriptCall>],
     processor: usize,
 ) -> Result<(), AllocError>
+    requires long { vec_len kept.old ≡ length guarded.now }
     requires within { (size : ℕ) × AreUserRowsWithin size steps.now }
     requires few { AreUserRowsFew steps.now }
     requires processors { length steps.now ≤ most_processors }
     requires processor { processor < length steps.now }
-    ensures keeps { OnOk result ((x : AnAccess) → Has accesses.old.items x → Has accesses.new.items x) }
-    ensures are { OnOk result (AreTextAccesses steps.now word accesses.old.items → AreTextAccesses steps.now word accesses.new.items) }
-    ensures noted { OnOk result ((row : AVec AStep) → slice_get steps.now processor ≡ Some row
-        → AreTextAccessesOfRow steps.now word accesses.new.items processor (length row.items)) }
+    ensures long { vec_len kept.new ≡ vec_len kept.old }
+    ensures keeps { OnOk result ((w : ℕ) (x : AnAccess) → Has (text_accesses_kept kept.old.items w) x → Has (text_accesses_kept kept.new.items w) x) }
+    ensures are { OnOk result ((w : ℕ) → AreTextAccesses steps.now w (text_accesses_kept kept.old.items w)
+        → AreTextAccesses steps.now w (text_accesses_kept kept.new.items w)) }
+    ensures noted { OnOk result ((w : ℕ) → w < length guarded.now → slice_index_or guarded.now w false ≡ false
+        → (row : AVec AStep) → slice_get steps.now processor ≡ Some row
+        → AreTextAccessesOfRow steps.now w (text_accesses_kept kept.new.items w) processor (length row.items)) }
 {
     let mut at = WalkedRow::new();
     let mut flags_met: usize = 0;
     let row = &steps[processor];
     for place in 0..row.len() {
         let step = row[place];
-        note_step_text_access(accesses, word, processor, &at, flags_met, step)?;
+        note_step_text_access(kept, guarded, processor, &at, flags_met, step)?;
         at.pass(processor, step);
         flags_met = flags_met_after(flags_met, step);
     }
     Ok(())
 }
 
-/// The accesses of the word, but for those that are like others of them. The only error is running out of memory.
-pub fn text_accesses_of(
+/// So many rows without an access. The only error is running out of memory.
+fn no_text_accesses(alloc: Global, count: usize) -> Result<Vec<Vec<TextAccess>>, AllocError>
+    ensures long { IfOk result (λ v. vec_len v ≡ count) }
+    ensures none { IfOk result (λ v. (w : ℕ) → text_accesses_kept v.items w ≡ []) }
+{
+    let mut kept = Vec::with_capacity(alloc, count)?;
+    for _ in 0..count {
+        kept.push(Vec::new(alloc))?;
+    }
+    Ok(kept)
+}
+
+/// By words, the accesses of each that isn't known to be guarded, but for those that are like others of them. It walks through the
+/// text once. The only error is running out of memory.
+pub fn text_accesses_by_word(
     alloc: Global,
-    word: usize,
+    guarded: &[bool],
     steps: &[Vec<ScriptCall>],
-) -> Result<Vec<TextAccess>, AllocError>
+) -> Result<Vec<Vec<TextAccess>>, AllocError>
     requires within { (size : ℕ) × AreUserRowsWithin size steps.now }
     requires few { AreUserRowsFew steps.now }
     requires processors { length steps.now ≤ most_processors }
-    ensures are { IfOk result (λ v. AreTextAccesses steps.now word v.items) }
-    ensures noted { IfOk result (λ v. AreTextAccessesOfRows steps.now word v.items (length steps.now)) }
+    ensures long { IfOk result (λ v. vec_len v ≡ length guarded.now) }
+    ensures are { IfOk result (λ v. AreKeptTextAccesses steps.now guarded.now v.items) }
 {
-    let mut accesses = Vec::new(alloc);
+    let mut kept = no_text_accesses(alloc, guarded.len())?;
     for processor in 0..steps.len() {
-        note_row_text_accesses(&mut accesses, word, steps, processor)?;
+        note_row_text_accesses(&mut kept, guarded, steps, processor)?;
     }
-    Ok(accesses)
+    Ok(kept)
 }
 
 /// The first of these that isn't kept apart from this one.

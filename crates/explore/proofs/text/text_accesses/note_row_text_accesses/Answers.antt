@@ -2,6 +2,7 @@ use Rattle.std.proofs.Common.{◌<◌, length, inl, inr, sym, subst, ◌∙◌, 
 use Rattle.std.specs.Global.{Vec}
 use Rattle.std.proofs.lemmas.Option.{same_Some}
 use Rattle.explore.specs.declared.prefixes.script_call.ScriptCall.{ScriptCall}
+use Rattle.explore.specs.UnguardedWords.{text_accesses_kept}
 use Rattle.explore.specs.TextGuards.{text_guard_departures_at, text_guard_held_at, text_guarded_step_stores}
 use Rattle.explore.proofs.MachineSteps.{machine_step_read_at}
 use Rattle.explore.proofs.Locksets.Noted.{lockset_noted_holds_step, lockset_noted_phase_small, lockset_noted_phase_step}
@@ -13,9 +14,10 @@ loop-place-init c = record {
   place = c.new-at.ensures.place;
   phase = c.new-at.ensures.phase;
   held = λ q. c.new-at.ensures.held q;
-  keeps = λ x has. has;
-  are = λ are. are;
-  noted = λ i a x lt. absurd (omega arith);
+  long = c.requires.long;
+  keeps = λ w x has. has;
+  are = λ w are. are;
+  noted = λ w below unknown i a x lt. absurd (omega arith);
 }
 
 pub loop-place-preserved : goal.loop-place-preserved
@@ -34,18 +36,19 @@ loop-place-preserved c =
       place = c.pass.ensures.place ∙ (let is = old.place in omega arith);
       phase = lockset_noted_phase_step row.items n _ _ step c.pass.ensures.phase old.phase at;
       held = λ q. lockset_noted_holds_step row.items n q _ _ step (c.pass.ensures.held q) (old.held q) at;
-      keeps = λ x has. noted.keeps x (old.keeps x has);
-      are = λ are x has. elim (noted.only x has) [
-        | inl before ↦ old.are are x before
+      long = c.note_step_text_access.ensures.long ∙ old.long;
+      keeps = λ w x has. noted.keeps w x (old.keeps w x has);
+      are = λ w are x has. elim (noted.only w x has) [
+        | inl before ↦ old.are w are x before
         | inr now ↦
-            unguarded_words_are_next steps c.args.word p n row step x row_at at now.0 (now.1 ∙ old.place)
+            unguarded_words_are_next steps w p n row step x row_at at now.0 (now.1 ∙ old.place)
             (unguarded_words_like_there x p _ (text_guard_departures_at row.items n) (text_guarded_step_stores step) _ (text_guard_held_at row.items n) old.phase old.held now.2)
       ];
-      noted =
-          unguarded_words_row_next steps c.args.word p n row step c.loop-place.accesses.items c.note_step_text_access.new.accesses.items row_at at noted.keeps
-          old.noted
-          (λ address. unguarded_words_has_there c.note_step_text_access.new.accesses.items p _ (text_guard_departures_at row.items n)
-          (text_guarded_step_stores step) _ (text_guard_held_at row.items n) old.phase old.held (noted.noted address));
+      noted = λ w below unknown.
+          unguarded_words_row_next steps w p n row step (text_accesses_kept c.loop-place.kept.items w)
+          (text_accesses_kept c.note_step_text_access.new.kept.items w) row_at at (noted.keeps w) (old.noted w below unknown)
+          (λ address. unguarded_words_has_there (text_accesses_kept c.note_step_text_access.new.kept.items w) p _ (text_guard_departures_at row.items n)
+          (text_guarded_step_stores step) _ (text_guard_held_at row.items n) old.phase old.held (noted.noted w below unknown address));
     }
 
 pub pass-requires-clause-within : goal.pass-requires-clause-within
@@ -77,7 +80,7 @@ pass-requires-clause-phase c =
     omega (arith, few, is, small, lt)
 
 pub returns-clause-noted : goal.returns-clause-noted
-returns-clause-noted c = λ row at i a x lt.
+returns-clause-noted c = λ w known unknown row at i a x lt.
     let here = c.index-steps-processor.result in
     let here_at = machine_step_read_at c.args.steps.now c.args.processor here c.requires.processor c.index-steps-processor.is in
     let same = same_Some row here (sym at ∙ here_at) in
@@ -85,4 +88,4 @@ returns-clause-noted c = λ row at i a x lt.
     let size = here.ok.0 in
     let over = c.loop-place-test.false in
     let end = c.loop-place.auto.place-end in
-    c.loop-place.invariant.noted i a x (omega arith)
+    c.loop-place.invariant.noted w known unknown i a x (omega arith)

@@ -1,24 +1,12 @@
-use Rattle.std.proofs.Common.{subst}
-use Rattle.lrc_script.specs.Lawful.{plan_addresses}
-use Rattle.base.specs.InOrderOnce.{Has}
-use Rattle.explore.specs.declared.text.text_accesses.TextAccess.{TextAccess}
-use Rattle.explore.specs.UnguardedWords.{AreTextAccessesApart}
-use Rattle.explore.proofs.Locksets.Noted.{lockset_noted_each_few, lockset_noted_rows_within}
-use Rattle.explore.proofs.UnguardedWords.{unguarded_words_guarded}
+use Rattle.std.proofs.Common.{◌≡◌, ◌<◌, false, length, rules, arith}
+use Rattle.std.specs.Prelude.{slice_index_or}
+use Rattle.explore.proofs.KeptAccesses.{kept_guarded, kept_read}
 use Rattle.explore.proofs.text.unguarded_words.is_kept_apart.Goals as goal
 
-pub returns-then-guarded-word : goal.returns-then-guarded-word
-returns-then-guarded-word c = λ _. c.requires.guarded c.args.word c.if-guarded-word.true
-
-pub text_accesses_of-requires-clause-within : goal.text_accesses_of-requires-clause-within
-text_accesses_of-requires-clause-within c =
-    let s = c.requires.lawful.0 in
-    (plan_addresses s, lockset_noted_rows_within s c.args.steps.now c.requires.lawful.1)
-
-pub text_accesses_of-requires-clause-few : goal.text_accesses_of-requires-clause-few
-text_accesses_of-requires-clause-few c = lockset_noted_each_few c.requires.lawful.0 c.args.steps.now c.requires.lawful.1
-
-pub returns : goal.returns
-returns c = λ _.
-    unguarded_words_guarded c.args.steps.now c.args.word c.in_ok-accesses.accesses.items c.in_ok-accesses.ensures.noted
-    (subst (λ xs. (x y : TextAccess) → Has xs x → Has xs y → AreTextAccessesApart x y) c.deref.ensures.value c.in-None.ensures)
+pub returns-in-None : goal.returns-in-None
+returns-in-None c =
+    let kept = c.args.kept.now in
+    let lt : c.args.word < length kept = (let long = c.requires.long in let within = c.requires.within in omega arith) in
+    let unknown : slice_index_or c.args.guarded.now c.args.word false ≡ false = search rules in
+    let is = kept_read kept c.args.word c.index-kept-word.result c.deref.result.now lt c.index-kept-word.is c.deref.ensures.value in
+    λ _ steps known are. kept_guarded steps c.args.guarded.now kept c.args.word c.deref.result.now are c.requires.within unknown is c.in-None.ensures
