@@ -27,7 +27,7 @@
 /* What isn't PUBLIC has no name outside: the program may use the same names. */
 #pragma GCC visibility push(hidden)
 
-/* What a trace may have: the judge's limits. */
+/* What a trace has. The judge takes more processors; but what it costs goes with how many the first line names. */
 enum {
     MOST_PROCESSORS = 64,
     MOST_WORDS = 1 << 20,

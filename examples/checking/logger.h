@@ -43,7 +43,7 @@
 #include <time.h>
 
 /* What a trace may have. */
-enum { TRACE_MOST_PROCESSORS = 64, TRACE_MOST_WORDS = 1 << 20, TRACE_MOST_LOCKS = 1 << 16, TRACE_MOST_FLAGS = 1 << 16 };
+enum { TRACE_MOST_PROCESSORS = 256, TRACE_MOST_WORDS = 1 << 20, TRACE_MOST_LOCKS = 1 << 16, TRACE_MOST_FLAGS = 1 << 16 };
 
 struct trace_flag {
     pthread_mutex_t mutex;
@@ -102,7 +102,7 @@ static inline void trace_refuse_beyond(const char *what, int number, int least, 
 
 static inline void trace_begin(FILE *file, int processors, int words, int locks, int flags)
 {
-    trace_refuse_beyond("a trace has 1 to 64 processors, and not", processors, 1, TRACE_MOST_PROCESSORS);
+    trace_refuse_beyond("a trace has 1 to 256 processors, and not", processors, 1, TRACE_MOST_PROCESSORS);
     trace_refuse_beyond("a trace has 1 to 2^20 words, and not", words, 1, TRACE_MOST_WORDS);
     trace_refuse_beyond("a trace has 2^16 locks at most, and not", locks, 0, TRACE_MOST_LOCKS);
     trace_refuse_beyond("a trace has 2^16 flags at most, and not", flags, 0, TRACE_MOST_FLAGS);

@@ -10,6 +10,7 @@ use Rattle.journal.specs.Events.{EventAt, event_count, event_arrives, event_depa
 use Rattle.journal.specs.HappensBeforeEdges.{LetsThrough, Link, same, lets, meets}
 use Rattle.journal.proofs.Order.EventPlacesAndCounts.{event_place_same}
 use Rattle.journal.proofs.Passes.NextRaces.{next_race_count}
+use Rattle.judge.specs.JudgedSizes.{most_judged_processors}
 use Rattle.causes.specs.Edges.{EdgeFromOther, EdgeLetsOn}
 
 edge_leads_lets_through : (a b : Kind) (n m : ℕ) → LetsThrough a b → EdgeLetsOn a n b m
@@ -75,8 +76,8 @@ edge_leads_one_or_none false = omega arith
 
 -- these are the counts of each of sixteen processors' events of some kinds before place i
 pub record AreLeadingEdgeCountsBefore (is : Kind → Bool) (j : List Event) (i : ℕ) (counts : List ℕ) : Type 0 where
-  pub long : length counts ≡ 64
-  pub each : (q : ℕ) → q < 64 → slice_index counts q ≡ event_count is (take i j) q
+  pub long : length counts ≡ most_judged_processors
+  pub each : (q : ℕ) → q < most_judged_processors → slice_index counts q ≡ event_count is (take i j) q
 
 -- one place on
 pub edge_leads_counts_next : {is : Kind → Bool} {j : List Event} {i : ℕ} {counts : List ℕ} (e : Event) (now : ℕ) → EventAt j i e
@@ -85,7 +86,7 @@ pub edge_leads_counts_next : {is : Kind → Bool} {j : List Event} {i : ℕ} {co
 edge_leads_counts_next {is} {j} {i} {counts} e now at old set_now =
     record { long = length-set counts e.processor now ∙ old.long; each = each }
   where
-    each : (q : ℕ) → q < 64 → slice_index (slice_set counts e.processor now) q ≡ event_count is (take (i + 1) j) q
+    each : (q : ℕ) → q < most_judged_processors → slice_index (slice_set counts e.processor now) q ≡ event_count is (take (i + 1) j) q
     each q lt = elim (cases_eq q e.processor) [
       | inl mine ↦
           (let next = next_race_count is j i q e at in

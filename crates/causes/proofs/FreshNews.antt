@@ -81,7 +81,7 @@ fresh_news_of_step_is j x q i step new = record { leads = new.leads; first = fir
         let apart : from.processor ≢ step.event.processor =
         λ is. new.leads.apart (is ∙ sym (ap (λ (y : Event). y.processor) same)) in
         let known = (step.before.covers i from (slice_get-take j x.place i before ∙ new.leads.edge.from_at) apart).0 past in
-        let late = subst (λ r. slice_index x.before r ≤ i) (sym mine) new.late in
+        let late = subst (λ r. slice_index x.before.items r ≤ i) (sym mine) new.late in
         absurd (omega arith)
 
 -- what is news is what the step brings of its processor, of which there are n
@@ -148,14 +148,14 @@ fresh_news_is_of_step j x n i low step news = record {
         let same = event_place_same j k news.leads.edge.to step.event news.leads.edge.to_at step.at in
         news.leads.apart (is ∙ sym (ap (λ (y : Event). y.processor) same))
 
-    late : slice_index x.before from.processor ≤ i
-    late = elim (cases_lt i (slice_index x.before from.processor)) [
+    late : slice_index x.before.items from.processor ≤ i
+    late = elim (cases_lt i (slice_index x.before.items from.processor)) [
       | inl lt ↦
           absurd (unheard ((step.before.covers i from (slice_get-take j k i before ∙ news.leads.edge.from_at) other).1 lt))
       | inr ge ↦ ge
     ]
 
-    known : i < slice_index x.after from.processor
+    known : i < slice_index x.after.items from.processor
     known =
         let lt_i = before in
         let inside = within in
@@ -172,8 +172,8 @@ fresh_news_is_of_step j x n i low step news = record {
 -- at place p, q closes its interval n, which is known after the step's event and wasn't before it
 pub record IsFreshNewsClosing (j : List Event) (x : Step) (q n p : ℕ) : Type 0 where
   pub closing : IsIndexedClosing j q n p
-  pub late : slice_index x.before q ≤ p
-  pub known : p < slice_index x.after q
+  pub late : slice_index x.before.items q ≤ p
+  pub known : p < slice_index x.after.items q
 
 -- the places so far: those that were there, and q's news of intervals below n
 abbrev pub HasFreshNewsBelow : List Event → Step → ℕ → ℕ → List ℕ → List ℕ → Type 0

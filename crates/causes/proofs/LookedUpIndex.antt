@@ -2,9 +2,9 @@
 use Rattle.std.proofs.Common.{◌≡◌, ◌≢◌, ℕ, ◌+◌, ◌<◌, ◌≤◌, ◌==◌, ◌&&◌, Bool, true, false, cond, inl, inr, List, [], ◌∷◌, ◌++◌, Some, length, replicate, take, slice_get, slice_index_or, slice_set, subst, sym, refl, ap, ◌∙◌, arith}
 use Rattle.std.specs.Global.{Vec}
 use Rattle.std.proofs.lemmas.Bool.{cases_eq, cases_lt, eq-eqb, ne_eqb, eqb-true, and_parts}
-use Rattle.std.proofs.lemmas.List.{length-append, length-take-le, take_all}
+use Rattle.std.proofs.lemmas.List.{length-append, length-set, length-take-le, take_all}
 use Rattle.std.proofs.lemmas.List.Sums.{count_by-le-length}
-use Rattle.std.proofs.lemmas.Option.{slice_get-get_or, slice_get_read}
+use Rattle.std.proofs.lemmas.Option.{none-some, slice_get-get_or, slice_get_read}
 use Rattle.base.specs.InOrderOnce.{InOrder}
 use Rattle.journal.specs.DidEvent.{event}
 use Rattle.journal.specs.Times.{ClosesAt}
@@ -15,6 +15,7 @@ use Rattle.journal.specs.Events.{EventAt, event_count, event_interval_at, event_
 use Rattle.journal.specs.declared.event.Kind.{Kind}
 use Rattle.journal.proofs.Order.EventPlacesAndCounts.{event_place_same, event_place_inside, event_count-mono, event_count-past, event_place_does}
 use Rattle.journal.proofs.Passes.NextRaces.{next_race_count}
+use Rattle.judge.specs.JudgedSizes.{most_judged_processors}
 use Rattle.causes.specs.declared.index.Turn.{Turn}
 use Rattle.causes.specs.Index.{AreIndexedClosings, AreIndexedClosingsOf, IsIndexedClosing, IsIndexedTurn}
 
@@ -76,6 +77,70 @@ looked_up_closings_all j q n places is old = record {
   each = old.each;
 }
 
+-- each processor closes its first intervals, below place n, at the places of its row
+pub record AreLookedUpRowsBelow (j : List Event) (n : ℕ) (rows : List (Vec ℕ)) : Type 0 where
+  pub long : length rows ≡ most_judged_processors
+  pub each : (q : ℕ) (row : Vec ℕ) → slice_get rows q ≡ Some row → AreLookedUpClosingsBelow j q n row.items
+
+-- none before the first event
+pub looked_up_rows_start : (j : List Event) (rows : List (Vec ℕ)) → length rows ≡ most_judged_processors
+    → ((q : ℕ) (row : Vec ℕ) → slice_get rows q ≡ Some row → row.items ≡ []) → AreLookedUpRowsBelow j 0 rows
+looked_up_rows_start j rows long empty = record {
+  long = long;
+  each = λ q row at. subst (AreLookedUpClosingsBelow j q 0) (sym (empty q row at))
+      (record { long = refl; each = λ m i to. absurd (none-some i to) });
+}
+
+-- an event that closes nothing
+pub looked_up_rows_others : (j : List Event) (n : ℕ) (e : Event) (rows : List (Vec ℕ)) → EventAt j n e
+    → ((e.processor == e.processor) && event_closes e.kind) ≡ false → AreLookedUpRowsBelow j n rows → AreLookedUpRowsBelow j (n + 1) rows
+looked_up_rows_others j n e rows at quiet old = record {
+  long = old.long;
+  each = λ q row to. looked_up_closings_others j q n e row.items at (none q) (old.each q row to);
+}
+  where
+    closes : event_closes e.kind ≡ false
+    closes = subst (λ b. (b && event_closes e.kind) ≡ false) (eq-eqb e.processor e.processor refl) quiet
+
+    none : (q : ℕ) → ((e.processor == q) && event_closes e.kind) ≡ false
+    none q = go (e.processor == q)
+      where
+        go : (b : Bool) → (b && event_closes e.kind) ≡ false
+        go true = closes
+        go false = refl
+
+-- an event that closes an interval is the next one of its processor's row
+pub looked_up_rows_next : (j : List Event) (n : ℕ) (e : Event) (rows : List (Vec ℕ)) (row new : Vec ℕ) → EventAt j n e
+    → ((e.processor == e.processor) && event_closes e.kind) ≡ true → slice_get rows e.processor ≡ Some row → new.items ≡ row.items ++ n ∷ []
+    → AreLookedUpRowsBelow j n rows → AreLookedUpRowsBelow j (n + 1) (slice_set rows e.processor new)
+looked_up_rows_next j n e rows row new at closes there is old = record { long = length-set rows e.processor new ∙ old.long; each = each }
+  where
+    p : ℕ
+    p = e.processor
+
+    each : (q : ℕ) (other : Vec ℕ) → slice_get (slice_set rows e.processor new) q ≡ Some other
+        → AreLookedUpClosingsBelow j q (n + 1) other.items
+    each q other to = elim (cases_eq q p) [
+      | inl mine ↦
+          (let same : new ≡ other =
+          slice_get-set_found rows p new other (subst (λ m. slice_get (slice_set rows p new) m ≡ Some other) mine to) in
+          let now : AreLookedUpClosingsBelow j p (n + 1) new.items =
+          subst (AreLookedUpClosingsBelow j p (n + 1)) (sym is)
+          (looked_up_closings_next j p n e row.items at closes (old.each p row there)) in
+          subst (λ (v : Vec ℕ). AreLookedUpClosingsBelow j q (n + 1) v.items) same
+          (subst (λ m. AreLookedUpClosingsBelow j m (n + 1) new.items) (sym mine) now))
+      | inr isnt ↦
+          looked_up_closings_others j q n e other.items at
+          (subst (λ b. (b && event_closes e.kind) ≡ false) (sym (ne_eqb p q (λ one. isnt (sym one)))) refl)
+          (old.each q other (sym (slice_get-set_other rows p q new isnt) ∙ to))
+    ]
+
+-- at the end they are all
+pub looked_up_rows_all : (j : List Event) (n : ℕ) (rows : List (Vec ℕ)) → n ≡ length j → AreLookedUpRowsBelow j n rows
+    → AreIndexedClosings j rows
+looked_up_rows_all j n rows is old =
+    record { long = old.long; each = λ q row at. looked_up_closings_all j q n row.items is (old.each q row at) }
+
 -- a place that was read from the rows: from row q, at number n
 pub record IsLookedUpClosing (rows : List (Vec ℕ)) (q n p : ℕ) : Type 0 where
   pub row : Vec ℕ
@@ -83,7 +148,7 @@ pub record IsLookedUpClosing (rows : List (Vec ℕ)) (q n p : ℕ) : Type 0 wher
   pub place_is : p ≡ slice_index_or row.items n p
 
 -- q's interval of this number is closed there, if it closes so many
-pub looked_up_closing_read : {j : List Event} {rows : List (Vec ℕ)} {q n p : ℕ} → AreIndexedClosings j rows → q < 64
+pub looked_up_closing_read : {j : List Event} {rows : List (Vec ℕ)} {q n p : ℕ} → AreIndexedClosings j rows → q < most_judged_processors
     → n < event_count event_closes j q → IsLookedUpClosing rows q n p → IsIndexedClosing j q n p
 looked_up_closing_read {j} {rows} {q} {n} {p} are low lt read =
     let long = are.long in
@@ -143,9 +208,9 @@ abbrev pub AreLookedUpNextTurns : List Event → ℕ → List Turn → Type 0
 AreLookedUpNextTurns j n next = (q : ℕ) (t : Turn) → slice_get next q ≡ Some t → IsIndexedTurn j n q t
 
 pub looked_up_turns_start : (j : List Event) (zero : Turn) → zero.arrived ≡ 0 → zero.departed ≡ 0
-    → AreLookedUpNextTurns j 0 (replicate 64 zero)
+    → AreLookedUpNextTurns j 0 (replicate most_judged_processors zero)
 looked_up_turns_start j zero arrived departed q t at =
-    let is = slice_get-replicate_found 64 zero t q at in
+    let is = slice_get-replicate_found most_judged_processors zero t q at in
     record {
       arrived = sym (ap (λ (x : Turn). x.arrived) is) ∙ arrived;
       departed = sym (ap (λ (x : Turn). x.departed) is) ∙ departed;

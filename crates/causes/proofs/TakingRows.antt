@@ -1,11 +1,10 @@
 -- Events that take, row by row, as the history goes on: the rows below place n, with the event at place n, are those below
 -- n + 1. An event that takes stands last in its processor's row, for all before it stand at lower places; any other
 -- event, and every other row, changes nothing. The numbers of intervals are counts that go on the same way.
-use Rattle.std.proofs.Common.{◌≡◌, ℕ, ◌+◌, ◌<◌, ◌≤◌, inl, inr, IsTrue, false, List, [], ◌∷◌, ◌++◌, Some, length, slice_get, slice_index, slice_set, take, subst, sym, ap, ◌∙◌, true≢false, arith}
+use Rattle.std.proofs.Common.{◌≡◌, ℕ, ◌+◌, ◌<◌, inl, inr, IsTrue, false, List, [], ◌∷◌, ◌++◌, Some, length, slice_get, slice_index, slice_set, take, subst, sym, ap, ◌∙◌, true≢false, arith}
 use Rattle.std.specs.Global.{Vec}
-use Rattle.std.proofs.lemmas.Bool.{cases_eq, cases_lt}
-use Rattle.std.proofs.lemmas.List.{get_or_append_left, get_or-take, get_or_past, length-set, length-take-le}
-use Rattle.journal.specs.EventsInRange.{EventProcessorsInRange}
+use Rattle.std.proofs.lemmas.Bool.{cases_eq}
+use Rattle.std.proofs.lemmas.List.{get_or_append_left, length-set}
 use Rattle.std.proofs.lemmas.Option.{none-some, slice_get_within}
 use Rattle.base.proofs.SlicesAndCounts.{slice_push_cases, slice_get-append_left, slice_get-last}
 use Rattle.base.proofs.SliceSets.{slice_get-set_found, slice_get-set_other}
@@ -28,19 +27,6 @@ taking_row_below j q n x is = record {
   kind = is.kind;
   does = is.does;
   after = is.after;
-}
-
--- the entries of the processors that there are make the same cut
-pub taking_row_cut : {j : List Event} {n p : ℕ} (t : List ℕ) → n ≤ length t → EventProcessorsInRange n j → IsCutOf j p (slice_index t)
-    → IsCutOf j p (slice_index (take n t))
-taking_row_cut {j} {n} {p} t le range cut = record {
-  covers =
-      λ i e at apart. (let is = get_or-take n t e.processor 0 (range i e at) in
-      ((λ h. (let lt = (cut.covers i e at apart).0 h in omega arith)), λ lt. (cut.covers i e at apart).1 (omega arith)));
-  within = λ q. elim (cases_lt q n) [
-    | inl lt ↦ (let is = get_or-take n t q 0 lt in let top = cut.within q in omega arith)
-    | inr ge ↦ (let long = length-take-le n t le in let none = get_or_past (take n t) q 0 (omega arith) in omega arith)
-  ];
 }
 
 -- none below the first place

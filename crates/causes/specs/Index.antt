@@ -1,5 +1,5 @@
 -- What is looked up of a history.
-use Rattle.std.specs.Prelude.{ℕ, ◌≡◌, List, Some, length, slice_get, take}
+use Rattle.std.specs.Prelude.{[], ℕ, ◌≡◌, List, Some, length, slice_get, take}
 use Rattle.std.specs.Global.{Vec}
 use Rattle.journal.specs.declared.event.Event.{Event}
 use Rattle.journal.specs.Events.{EventAt, event_count, event_interval_at, event_arrives, event_closes, event_departs}
@@ -36,3 +36,7 @@ pub record AreIndexedClosings (j : List Event) (rows : List (Vec ℕ)) : Type 0 
 pub record IsIndex (j : List Event) (x : Index) : Type 0 where
   pub turns : AreIndexedTurns j x.turns.items
   pub closings : AreIndexedClosings j x.closings.items
+
+-- nothing stands in these rows
+abbrev pub AreIndexRowsEmpty : List (Vec ℕ) → Type 0
+AreIndexRowsEmpty rows = (q : ℕ) (row : Vec ℕ) → slice_get rows q ≡ Some row → row.items ≡ []

@@ -28,12 +28,12 @@ AreIncomingNews j rows = (k : ℕ) (row : Vec ℕ) → slice_get rows k ≡ Some
 pub record NewsCutsAround (j : List Event) (x : Step) : Type 0 where
   pub event : Event
   pub at : EventAt j x.place event
-  pub before : IsCutOf (take x.place j) event.processor (slice_index x.before)
-  pub after : IsCutOf (take (x.place + 1) j) event.processor (slice_index x.after)
+  pub before : IsCutOf (take x.place j) event.processor (slice_index x.before.items)
+  pub after : IsCutOf (take (x.place + 1) j) event.processor (slice_index x.after.items)
 
 -- q closes an interval at place i, which has an edge to the step's event; it is known after that, and was not before
 pub record IsNewsOfStep (j : List Event) (x : Step) (q i : ℕ) : Type 0 where
   pub closes : ClosesAt j q i
   pub leads : EdgeFromOther j i x.place
-  pub late : slice_index x.before q ≤ i
-  pub known : i < slice_index x.after q
+  pub late : slice_index x.before.items q ≤ i
+  pub known : i < slice_index x.after.items q

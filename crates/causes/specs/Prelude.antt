@@ -3,7 +3,7 @@ pub use Rattle.causes.specs.Source.{AreSources, IsSource, IsSourceAt}
 pub use Rattle.causes.specs.Heard.{IsHeard}
 pub use Rattle.causes.specs.Part.{IsInPart}
 pub use Rattle.causes.specs.Edges.{EdgeFromOther, EdgeLetsOn}
-pub use Rattle.causes.specs.Index.{AreIndexedClosings, AreIndexedClosingsOf, AreIndexedTurns, IsIndex}
+pub use Rattle.causes.specs.Index.{AreIndexRowsEmpty, AreIndexedClosings, AreIndexedClosingsOf, AreIndexedTurns, IsIndex}
 pub use Rattle.causes.specs.News.{AreIncomingNews, AreNewsRising, IsNewsOfStep, IsNews, NewsCutsAround}
 pub use Rattle.causes.specs.HandOvers.{AreAllHandOvers, AreHandOvers, AreHandOversFrom}
 pub use Rattle.causes.specs.TakingEvents.{AreAllTakingEvents, AreTakingEventNumbers, IsFirstTakingEventAbove, NoTakingEventAbove}

@@ -8,7 +8,7 @@ ghost use Rattle.journal.specs.Prelude.{HappensBefore, EventProcessorsInRange, e
 ghost use Rattle.judge.specs.Prelude.{most_in_sized_history, most_judged_processors};
 ghost use Rattle.causes.specs.Prelude.{IsHeard};
 
-use crate::step::note_step;
+use crate::step::{known_in_cut, note_step};
 use journal::Event;
 use judge::Cuts;
 use std::alloc::{AllocError, Global};
@@ -51,5 +51,5 @@ pub(crate) fn heard(
         note_step(&mut cuts, events, place)?;
     }
     let cut = cuts.of(events[second].processor);
-    Ok(last_heard(events, by, second, cut[by] as usize))
+    Ok(last_heard(events, by, second, known_in_cut(cut, by)))
 }

@@ -1,10 +1,10 @@
 //! What is looked up of a history again and again: how often each event's processor had arrived and departed, and where
 //! each processor closed its intervals.
-ghost use Rattle.std.specs.Prelude.{◌≡◌, ◌==◌, ◌&&◌, ◌↔◌, ℕ, ◌+◌, ◌<◌, ◌≤◌, ◌^◌, IfOk, Some, cond, length, slice_get};
+ghost use Rattle.std.specs.Prelude.{◌≡◌, ◌==◌, ◌&&◌, ◌↔◌, ℕ, ◌+◌, ◌<◌, ◌≤◌, ◌^◌, IfOk, Some, cond, length, slice_get, vec_len};
 ghost use Rattle.base.specs.InOrderOnce.{InOrder};
 ghost use Rattle.journal.specs.Prelude.{EventProcessorsInRange, event_arrives, event_closes, event_departs};
 ghost use Rattle.judge.specs.Prelude.{most_in_sized_history, most_judged_processors};
-ghost use Rattle.causes.specs.Prelude.{AreIndexedClosings, AreIndexedClosingsOf, AreIndexedTurns, IsIndex};
+ghost use Rattle.causes.specs.Prelude.{AreIndexedClosings, AreIndexedTurns, AreIndexRowsEmpty, IsIndex};
 
 use journal::{Event, Kind};
 use judge::MOST_JUDGED_PROCESSORS;
@@ -78,26 +78,29 @@ fn index_turns(alloc: Global, events: &[Event]) -> Result<Vec<Turn>, AllocError>
     Ok(turns)
 }
 
-/// The places of the events that close the processor's intervals.
-fn index_closings_of(alloc: Global, events: &[Event], by: usize) -> Result<Vec<usize>, AllocError>
-    ensures { IfOk result (λ v. AreIndexedClosingsOf events.now by v.items) }
-{
-    let mut places = Vec::new(alloc);
-    for place in 0..events.len() {
-        if is_index_closing(events[place], by) {
-            places.push(place)?;
-        }
-    }
-    Ok(places)
-}
-
-/// Those of each of `MOST_JUDGED_PROCESSORS` processors.
-fn index_closings(alloc: Global, events: &[Event]) -> Result<Vec<Vec<usize>>, AllocError>
-    ensures { IfOk result (λ v. AreIndexedClosings events.now v.items) }
+/// A row for each of `MOST_JUDGED_PROCESSORS` processors, with nothing in it.
+fn no_index_closings(alloc: Global) -> Result<Vec<Vec<usize>>, AllocError>
+    ensures long { IfOk result (λ v. vec_len v ≡ most_judged_processors) }
+    ensures empty { IfOk result (λ v. AreIndexRowsEmpty v.items) }
 {
     let mut closings = Vec::with_capacity(alloc, MOST_JUDGED_PROCESSORS)?;
-    for by in 0..MOST_JUDGED_PROCESSORS {
-        closings.push(index_closings_of(alloc, events, by)?)?;
+    for _ in 0..MOST_JUDGED_PROCESSORS {
+        closings.push(Vec::new(alloc))?;
+    }
+    Ok(closings)
+}
+
+/// Of each of `MOST_JUDGED_PROCESSORS` processors, the places of the events that close its intervals.
+fn index_closings(alloc: Global, events: &[Event]) -> Result<Vec<Vec<usize>>, AllocError>
+    requires { EventProcessorsInRange most_judged_processors events.now }
+    ensures { IfOk result (λ v. AreIndexedClosings events.now v.items) }
+{
+    let mut closings = no_index_closings(alloc)?;
+    for place in 0..events.len() {
+        let event = events[place];
+        if is_index_closing(event, event.processor) {
+            closings[event.processor].push(place)?;
+        }
     }
     Ok(closings)
 }

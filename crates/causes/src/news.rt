@@ -9,7 +9,7 @@ ghost use Rattle.causes.specs.Prelude.{AreIncomingNews, AreNewsRising, AreIndexe
 
 use crate::edge::edge_lets_on;
 use crate::index::{Index, Turn, index_of, index_places_before};
-use crate::step::{Step, next_step};
+use crate::step::{Step, known_in_cut, next_step};
 use journal::Event;
 use judge::{Cuts, History};
 use std::alloc::{AllocError, Global};
@@ -51,12 +51,14 @@ fn add_news(
     ensures once { OnOk result (IsOnce places.old.items
         → ((i : ℕ) → Has places.old.items i → ¬ ClosesAt events.now by i) → IsOnce places.new.items) }
 {
-    if step.before[by] == step.after[by] {
+    let known = known_in_cut(&step.before, by);
+    let now = known_in_cut(&step.after, by);
+    if known == now {
         return Ok(());
     }
     let closings = &index.closings[by];
-    let first = index_places_before(closings, step.before[by] as usize);
-    let end = index_places_before(closings, step.after[by] as usize);
+    let first = index_places_before(closings, known);
+    let end = index_places_before(closings, now);
     for number in first..end {
         let place = closings[number];
         if is_news_edge(events, &index.turns, place, step.place) {
@@ -106,7 +108,7 @@ fn all_news(
 {
     let mut rows = Vec::with_capacity(alloc, events.len())?;
     for place in 0..events.len() {
-        let step = next_step(cuts, events, place)?;
+        let step = next_step(alloc, cuts, events, place)?;
         rows.push(news(alloc, events, index, &step, processors)?)?;
     }
     Ok(rows)

@@ -7,9 +7,9 @@ ghost use Rattle.judge.specs.Prelude.{most_in_sized_history, most_judged_process
 ghost use Rattle.causes.specs.Prelude.{AreAllTakingEvents, AreTakingEventNumbers, IsFirstTakingEventAbove, NewsCutsAround, NoTakingEventAbove};
 
 use crate::index::is_index_closing;
-use crate::step::{Step, next_step};
+use crate::step::{Step, known_in_cut, next_step};
 use journal::{Event, Kind};
-use judge::{Cut, Cuts, MOST_JUDGED_PROCESSORS};
+use judge::{Cuts, MOST_JUDGED_PROCESSORS};
 use std::alloc::{AllocError, Global};
 
 /// An event that takes: where it stands, and its processor's cut after it, with as many entries as there are processors.
@@ -64,39 +64,22 @@ fn no_taking_events(alloc: Global) -> Result<Vec<Vec<Taking>>, AllocError>
     Ok(takings)
 }
 
-/// The first entries of the cut, so many.
-fn taking_cut(alloc: Global, cut: &Cut, count: usize) -> Result<Vec<u32>, AllocError>
-    requires { count ≤ most_judged_processors }
-    ensures { IfOk result (λ v. v.items ≡ take count cut.now) }
-{
-    let mut entries = Vec::with_capacity(alloc, count)?;
-    entries.extend_from_slice(&cut[..count])?;
-    Ok(entries)
-}
-
-/// Adds the step's event, where it takes, of a history of so many processors.
+/// Adds the step's event, where it takes.
 fn add_taking_event(
-    alloc: Global,
     takings: &mut Vec<Vec<Taking>>,
     events: &[Event],
-    processors: usize,
-    step: &Step,
+    step: Step,
 ) -> Result<(), AllocError>
-    requires step { NewsCutsAround events.now step.now }
-    requires few_processors { processors ≤ most_judged_processors }
-    requires processors { EventProcessorsInRange processors events.now }
-    requires so_far { AreAllTakingEvents events.now step.now.place takings.old.items }
-    ensures { OnOk result (AreAllTakingEvents events.now (step.now.place + 1) takings.new.items) }
+    requires step { NewsCutsAround events.now step }
+    requires processors { EventProcessorsInRange most_judged_processors events.now }
+    requires so_far { AreAllTakingEvents events.now step.place takings.old.items }
+    ensures { OnOk result (AreAllTakingEvents events.now (step.place + 1) takings.new.items) }
 {
-    let event = events[step.place];
-    if !is_taking_event(event.kind) {
-        return Ok(());
+    let Step { place, after, .. } = step;
+    let event = events[place];
+    if is_taking_event(event.kind) {
+        takings[event.processor].push(Taking { place, after })?;
     }
-    let taking = Taking {
-        place: step.place,
-        after: taking_cut(alloc, &step.after, processors)?,
-    };
-    takings[event.processor].push(taking)?;
     Ok(())
 }
 
@@ -114,17 +97,10 @@ pub(crate) fn taking_events_of(
     let mut cuts = Cuts::new(alloc, processors)?;
     let mut takings = no_taking_events(alloc)?;
     for place in 0..events.len() {
-        let step = next_step(&mut cuts, events, place)?;
-        add_taking_event(alloc, &mut takings, events, processors, &step)?;
+        let step = next_step(alloc, &mut cuts, events, place)?;
+        add_taking_event(&mut takings, events, step)?;
     }
     Ok(takings)
-}
-
-/// The processor's entry of the cut after the event; 0 where it has none.
-fn known_after_taking(taking: &Taking, processor: usize) -> usize
-    ensures { result ≡ slice_index taking.now.after.items processor }
-{
-    taking.after.get(processor).copied().unwrap_or(0) as usize
 }
 
 /// The place of the first of these events after which the processor's event at this place is known. It is found by halving.
@@ -137,7 +113,7 @@ pub(crate) fn first_taking_event_above(
         (λ x y. slice_index y.after.items processor ≤ place → slice_index x.after.items processor ≤ place) takings.now }
     ensures { MatchOption result (NoTakingEventAbove takings.now processor place) (IsFirstTakingEventAbove takings.now processor place) }
 {
-    let index = takings.partition_point(|taking| known_after_taking(taking, processor) <= place);
+    let index = takings.partition_point(|taking| known_in_cut(&taking.after, processor) <= place);
     if index < takings.len() {
         Some(takings[index].place)
     } else {

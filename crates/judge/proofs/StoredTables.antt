@@ -50,11 +50,12 @@ stored_tables_inner j e q inner =
 
 -- ---- an event that is no store
 
-pub stored_tables_others : (j : List Event) (e : Event) (c : StoredCounts) (closed : List ℕ) → ((q a v : ℕ) → e ≢ event q (Store a v))
-    → ((q : ℕ) → q < c.sizes.processors → slice_index closed q ≡ event_count event_closes (j ++ e ∷ []) q) → AreStoredCountsOf j c
+pub stored_tables_others : (j : List Event) (e : Event) (c : StoredCounts) (closed : Vec ℕ) → vec_len closed ≡ c.sizes.processors
+    → ((q a v : ℕ) → e ≢ event q (Store a v)) → ((q : ℕ) → q < c.sizes.processors → slice_index closed.items q ≡ event_count event_closes (j ++ e ∷ []) q) → AreStoredCountsOf j c
     → AreStoredCountsOf (j ++ e ∷ []) (record c { closed = closed })
-stored_tables_others j e c closed none counted is = record {
+stored_tables_others j e c closed long none counted is = record {
   sizes = is.sizes;
+  long = long;
   closed = counted;
   pages = λ n q lt. stored_next_same e (stored_next_no_store (judged_sizes_of c.sizes) j e n q (λ a v same _. none q a v same))
       (is.pages n q lt);
@@ -82,6 +83,7 @@ pub stored_tables_stored : (j : List Event) (c : StoredCounts) (q a w : ℕ) →
     → AreStoredCountsOf j c → AreStoredCountsOf (did j q (Store a w)) c
 stored_tables_stored j c q a w was is = record {
   sizes = is.sizes;
+  long = is.long;
   closed = λ r lt. is.closed r lt ∙ sym (stored_tables_inner j e r refl);
   pages = λ n r lt. stored_next_same e (same n r) (is.pages n r lt);
   words = λ b r lt. stored_next_mark_same (FetchGapStoreAt j b r) (FetchGapStoreAt (j ++ e ∷ []) b r)
@@ -154,6 +156,7 @@ pub stored_tables_store : {j : List Event} {c : StoredCounts} {q a place : ℕ} 
     → AreStoredCountsOf j c → AreStoredCountsOf (did j q (Store a w)) (record c { steps = steps; totals = totals; words = words })
 stored_tables_store {j = j} {c = c} {q = q} {a = a} {place = place} {steps = steps} {totals = totals} {words = words} w lt fresh long kept total word is = record {
   sizes = is.sizes;
+  long = is.long;
   closed = λ r less. is.closed r less ∙ sym (stored_tables_inner j e r refl);
   pages = pages;
   words = marks;

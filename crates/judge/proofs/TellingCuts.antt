@@ -11,7 +11,7 @@ use Rattle.journal.specs.Events.{EventAt, event_address, event_takes}
 use Rattle.journal.specs.HappensBeforeEdges.{HappensBefore}
 use Rattle.journal.specs.Races.{Conflict, Race}
 use Rattle.journal.specs.WellFormed.{Does}
-use Rattle.journal.specs.ClockEntry.{entry}
+use Rattle.judge.specs.CutRows.{cut_entry}
 use Rattle.journal.proofs.Order.EventPlacesAndCounts.{event_place_inside, event_place_longer, event_place_at_end}
 use Rattle.journal.proofs.Order.HappensBefore.{happens_before_longer, happens_before_shorter}
 use Rattle.journal.proofs.Order.IntoPast.{into_past_reaches_new}
@@ -30,7 +30,7 @@ cut_of_equal j p t u is a = record {
 
 -- a processor that is there has its cut
 pub cut_of_present : {j : List Event} {c : Cuts} → AreCuts j c → (p : ℕ) → p < c.present
-    → IsCutOf j p (entry c.processors.items p)
+    → IsCutOf j p (cut_entry c.processors p)
 cut_of_present a p lt = a.cuts p lt
 
 -- another processor's event happens before one that comes next and takes nothing, exactly if it is in the cut

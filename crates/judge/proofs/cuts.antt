@@ -1,4 +1,3 @@
-pub mod ZeroCuts
 pub mod CutsOfPlaces
 pub mod PushedCuts
 pub mod KeptCuts

@@ -3,3 +3,4 @@ pub mod LastKept
 pub mod ChoosingKept
 pub mod AnsweringKept
 pub mod LettingGo
+pub mod FoundLatest

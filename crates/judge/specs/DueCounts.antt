@@ -1,5 +1,6 @@
 -- What is kept of a history to tell what its fetches have to count.
-use Rattle.std.specs.Prelude.{ℕ, ◌≡◌, ◌≢◌, ◌↔◌, ◌*◌, ◌/◌, ◌<◌, ◌≤◌, ◌^◌, cond, nat_lt, Option, Some, None, List, length, replicate, slice_index}
+use Rattle.std.specs.Prelude.{ℕ, ◌≡◌, ◌≢◌, ◌↔◌, ◌*◌, ◌/◌, ◌<◌, ◌≤◌, ◌^◌, cond, nat_lt, List, length, slice_index}
+use Rattle.std.specs.Global.{Vec}
 use Rattle.journal.specs.declared.event.Event.{Event}
 use Rattle.journal.specs.declared.event.Kind.TheVariants.{Store}
 use Rattle.journal.specs.BroughtCopy.{BroughtToCopy}
@@ -13,8 +14,8 @@ use Rattle.judge.specs.declared.due_counts.DueCounts.{DueCounts}
 use Rattle.judge.specs.declared.sparse_table.SparseTable.{SparseTable}
 use Rattle.judge.specs.Cuts.{AreCuts}
 use Rattle.judge.specs.FetchGaps.{FetchGapStoreInPage, FetchGapStoreOfWord}
-use Rattle.judge.specs.JudgedSizes.{judged_sizes_of, most_judged_processors}
-use Rattle.judge.specs.SparseTables.{IsSparseFor, sparse_at}
+use Rattle.judge.specs.JudgedSizes.{judged_sizes_of}
+use Rattle.judge.specs.SparseTables.{IsSparseFor, sparse_row}
 use Rattle.judge.specs.StoredCounts.{AreStoredCountsOf, stored_row}
 use Rattle.judge.specs.StoredSteps.{IsStoredLimit}
 
@@ -23,15 +24,10 @@ pub record IsDueFetchedCut (s : Sizes) (j : List Event) (p n : ℕ) (t : ℕ →
   pub brought : (q i a v : ℕ) → q ≢ p → Does j i q (Store a v) → a / s.words ≡ n → BroughtToCopy j p n i ↔ (i < t q)
   pub limits : (q : ℕ) → q ≢ p → IsStoredLimit j q (t q)
 
--- a cut that is kept, zeros where none is
-abbrev pub due_cut : Option (List ℕ) → List ℕ
-due_cut None = replicate most_judged_processors 0
-due_cut (Some cut) = cut
-
 -- the cut of each processor at its last fetch of each page is kept
-pub record AreDueFetchedCuts (s : Sizes) (j : List Event) (fetched : SparseTable (List ℕ)) : Type 0 where
+pub record AreDueFetchedCuts (s : Sizes) (j : List Event) (fetched : SparseTable (Vec ℕ)) : Type 0 where
   pub cuts : (n p : ℕ) → p < s.processors
-      → IsDueFetchedCut s j p n (slice_index (due_cut (sparse_at fetched (stored_row s.processors n p))))
+      → IsDueFetchedCut s j p n (slice_index (sparse_row fetched (stored_row s.processors n p)))
   pub sparse : IsSparseFor (s.pages * s.processors) (length j) fetched
 
 -- what is kept tells this history so far

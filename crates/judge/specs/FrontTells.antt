@@ -8,7 +8,7 @@ use Rattle.journal.specs.Events.{EventAt, event_count, event_arrives, event_depa
 use Rattle.journal.specs.WellFormed.{Does, Holds, LastIs}
 use Rattle.judge.specs.declared.frontier.LastEvent.{LastEvent}
 use Rattle.judge.specs.declared.frontier.Frontier.{Frontier}
-use Rattle.judge.specs.JudgedSizes.{AreStreamedSizes, judged_sizes_of, most_judged_processors}
+use Rattle.judge.specs.JudgedSizes.{AreStreamedSizes, judged_sizes_of}
 
 -- p has done nothing
 abbrev pub FrontTellsNothingDone : List Event → ℕ → Type 0
@@ -27,10 +27,12 @@ pub record FrontTellsHistory (j : List Event) (x : Frontier) : Type 0 where
   pub sizes : AreStreamedSizes (judged_sizes_of x.sizes)
   pub processors : EventProcessorsInRange x.sizes.processors j
   pub place : x.place ≡ length j
-  pub long : length x.last ≡ most_judged_processors
-  pub lasts : (p : ℕ) → FrontTellsLastOf j p (slice_index_or x.last p None)
-  pub arrivals : (p : ℕ) → slice_index x.arrivals p ≡ event_count event_arrives j p
-  pub departures : (p : ℕ) → slice_index x.departures p ≡ event_count event_departs j p
+  pub long_last : vec_len x.last ≡ x.sizes.processors
+  pub lasts : (p : ℕ) → FrontTellsLastOf j p (slice_index_or x.last.items p None)
+  pub long_arrivals : vec_len x.arrivals ≡ x.sizes.processors
+  pub arrivals : (p : ℕ) → slice_index x.arrivals.items p ≡ event_count event_arrives j p
+  pub long_departures : vec_len x.departures ≡ x.sizes.processors
+  pub departures : (p : ℕ) → slice_index x.departures.items p ≡ event_count event_departs j p
   pub long_holders : vec_len x.holders ≡ x.sizes.locks
   pub holders : (l q : ℕ) → (slice_index_or x.holders.items l None ≡ Some q) ↔ Holds j q l
   pub long_flags : vec_len x.flags ≡ x.sizes.flags

@@ -30,13 +30,13 @@ judged_sizes_most_flags = 2 ^ 16
 
 -- processors of a history that is judged
 abbrev pub most_judged_processors : ℕ
-most_judged_processors = 64
+most_judged_processors = 256
 
 -- events of a history that is judged as it comes
 abbrev pub most_judged_events : ℕ
 most_judged_events = 2 ^ 31 - 1
 
--- sizes of a history that is judged: up to 64 processors, 2^20 addresses, 2^16 locks and 2^16 flags
+-- sizes of a history that is judged: up to 256 processors, 2^20 addresses, 2^16 locks and 2^16 flags
 pub record AreStreamedSizes (s : Sizes) : Type 0 where
   pub processors : s.processors ≤ most_judged_processors
   pub pages : s.pages ≤ judged_sizes_most_addresses

@@ -1,13 +1,14 @@
 -- Which of the kept stores a past has, and which of these no other follows.
-use Rattle.std.specs.Prelude.{ℕ, ◌≡◌, ◌<◌, ◌≤◌, List, Option, Some, None, MatchOption, length, slice_get}
+use Rattle.std.specs.Prelude.{ℕ, ◌≡◌, ◌<◌, ◌≤◌, List, Option, Some, MatchOption, length, slice_get}
 use Rattle.base.specs.InOrderOnce.{Has}
 use Rattle.journal.specs.declared.event.Event.{Event}
 use Rattle.journal.specs.declared.event.Kind.TheVariants.{Store}
-use Rattle.journal.specs.ClockEntry.{entry}
 use Rattle.journal.specs.Pasts.{InPast}
 use Rattle.journal.specs.WellFormed.{Does}
 use Rattle.judge.specs.declared.flat_memory.FlatStore.{FlatStore}
+use Rattle.judge.specs.declared.cut_rows.CutRows.{CutRows}
 use Rattle.judge.specs.declared.kept_store.KeptStore.{KeptStore}
+use Rattle.judge.specs.CutRows.{cut_entry}
 
 -- the stores from the limit on begin at this index
 pub record IsKeptStoreIndex (stores : List KeptStore) (limit from : ℕ) : Type 0 where
@@ -37,22 +38,13 @@ abbrev pub IsLastKeptInPastOf : List Event → ℕ → List KeptStore → Option
 IsLastKeptInPastOf j p stores o =
     MatchOption o ((y : KeptStore) → Has stores y → ¬ InPast j p y.place) (IsLastKeptInPast j p stores)
 
--- by processor, of which there are n, these are the last ones in p's past of what is kept of each
-pub record AreLastKeptInPast (j : List Event) (n p : ℕ) (of : ℕ → List KeptStore) (last : List (Option KeptStore)) : Type 0 where
-  pub each : (q : ℕ) (o : Option KeptStore) → q < n → slice_get last q ≡ Some o → IsLastKeptInPastOf j p (of q) o
-  pub rest : (q : ℕ) (o : Option KeptStore) → n ≤ q → slice_get last q ≡ Some o → o ≡ None
-
--- the cut of one of these stores has q's store x
-pub record IsKeptStoreFollowed (cuts : List (List ℕ)) (last : List (Option KeptStore)) (q : ℕ) (x : KeptStore) : Type 0 where
+-- of n processors, one whose last store in p's past, of what is kept of each, has q's store x in its cut
+pub record IsKeptStoreFollowed (n : ℕ) (j : List Event) (cuts : CutRows) (p : ℕ) (of : ℕ → List KeptStore) (q : ℕ) (x : KeptStore) : Type 0 where
   pub by : ℕ
   pub store : KeptStore
-  pub at : slice_get last by ≡ Some (Some store)
-  pub counts : x.place < entry cuts store.cut q
-
--- x is q's among these stores, and none of the others follows it
-pub record IsKeptStoreUnfollowed (cuts : List (List ℕ)) (last : List (Option KeptStore)) (q : ℕ) (x : KeptStore) : Type 0 where
-  pub at : slice_get last q ≡ Some (Some x)
-  pub free : ¬ IsKeptStoreFollowed cuts last q x
+  pub below : by < n
+  pub last : IsLastKeptInPast j p (of by) store
+  pub counts : x.place < cut_entry cuts store.cut q
 
 -- one of the stores from this index on is of this value
 pub record HasUnknownOfValue (stores : List KeptStore) (from value : ℕ) : Type 0 where

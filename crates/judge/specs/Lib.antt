@@ -11,6 +11,7 @@ pub mod Prelude
 pub mod Sources
 pub mod Models
 pub mod CutEntries
+pub mod CutRows
 pub mod NumberedCuts
 pub mod Cuts
 pub mod NearestRaces

@@ -10,16 +10,17 @@ pub use Rattle.judge.specs.FetchGaps.{AreFetchGapsOf, AreFetchGapsLong, FetchGap
 pub use Rattle.judge.specs.Miscounted.{IsNotMiscounted, IsEventInSizes, Miscounts}
 pub use Rattle.judge.specs.Models.{ExplainedUnderModel, IsFlatModelWord, IsModelAnswer, ModelAnswersStayLaw, ModelConcurrentStore, ModelsAgreeLaw}
 pub use Rattle.judge.specs.CutEntries.{CutEntriesJoinedAt, CutEntriesMarkedAt}
-pub use Rattle.judge.specs.NumberedCuts.{numbered_cut_at}
-pub use Rattle.judge.specs.Cuts.{AreCuts, CutsAfterArrival, IsCutOf}
+pub use Rattle.judge.specs.CutRows.{cut_entry}
+pub use Rattle.judge.specs.NumberedCuts.{numbered_cut_at, numbered_cut_kept}
+pub use Rattle.judge.specs.Cuts.{AreCuts, AreCutsLong, CutsAfterArrival, IsCutOf}
 pub use Rattle.judge.specs.NearestRaces.{NearestRaceAccessesAreKept, AreNearestRacesOf, IsFirstRaceTo, IsNearestRaceLastUnknown, IsNearestRace, IsNearestRaceTo, IsNearestRaceUnknown, nearest_race_row}
 pub use Rattle.judge.specs.LastFlatStores.{HasLastFlatStores, KeepsLastFlatStore}
 pub use Rattle.judge.specs.Owed.{AreOwedBy, IsOwedRacy, PermitsOwed}
 pub use Rattle.judge.specs.SizedHistory.{IsHistoryInSizes, IsSizedHistoryOfJournal, IsHistoryOfSizes, IsSizedHistory, most_in_sized_history, whole_sized_history}
 pub use Rattle.judge.specs.KeptStores.{AreKeptStoresOf, KeptStoresAreOf, kept_store_row, kept_stores_of}
-pub use Rattle.judge.specs.KeptInPasts.{AreLastKeptInPast, AreUnknownFrom, HasUnknownOfValue, IsKeptStoreFollowed, IsKeptStoreIndex, IsKeptStoreUnfollowed, IsLastKeptInPastOf, IsLastKeptStoreBelow, IsUnknownWithin, NoKeptStoreBelow}
+pub use Rattle.judge.specs.KeptInPasts.{AreUnknownFrom, HasUnknownOfValue, IsKeptStoreFollowed, IsKeptStoreIndex, IsLastKeptInPastOf, IsLastKeptStoreBelow, IsUnknownWithin, NoKeptStoreBelow}
 pub use Rattle.judge.specs.PermittedStores.{AreLatestStores, IsUnorderedStore}
-pub use Rattle.judge.specs.StoresInPasts.{IsHiddenInPast}
+pub use Rattle.judge.specs.StoresInPasts.{IsHiddenInPast, IsLatestInPast}
 pub use Rattle.judge.specs.MovedCuts.{AreMovedCuts, AreMovedRows, AreMovedStores, IsMovedCut, KeepsCuts}
 pub use Rattle.judge.specs.StoredSteps.{AreStoredAmounts, IsStoredAsked, stored_before, stored_total, stored_total_next}
 pub use Rattle.judge.specs.StoredCounts.{AreStoredCountsOf, StoredStepAdds, stored_row}

@@ -1,5 +1,5 @@
 -- What is kept of a history to tell what its processors have stored in its pages.
-use Rattle.std.specs.Prelude.{ℕ, ◌≡◌, ◌*◌, ◌+◌, ◌<◌, ◌≤◌, ◌⊎◌, List, length, slice_index}
+use Rattle.std.specs.Prelude.{ℕ, ◌≡◌, ◌*◌, ◌+◌, ◌<◌, ◌≤◌, ◌⊎◌, List, length, slice_index, vec_len}
 use Rattle.std.specs.Global.{Vec}
 use Rattle.journal.specs.declared.event.Event.{Event}
 use Rattle.journal.specs.Events.{event_count, event_closes}
@@ -26,7 +26,8 @@ StoredStepAdds old new row place total interval =
 -- what is kept is the history's
 pub record AreStoredCountsOf (j : List Event) (c : StoredCounts) : Type 0 where
   pub sizes : AreStreamedSizes (judged_sizes_of c.sizes)
-  pub closed : (q : ℕ) → q < c.sizes.processors → slice_index c.closed q ≡ event_count event_closes j q
+  pub long : vec_len c.closed ≡ c.sizes.processors
+  pub closed : (q : ℕ) → q < c.sizes.processors → slice_index c.closed.items q ≡ event_count event_closes j q
   pub pages : (n q : ℕ) → q < c.sizes.processors → AreStoredSteps (judged_sizes_of c.sizes) j n q
       (sparse_row c.steps (stored_row c.sizes.processors n q)) (stored_total (sparse_at c.totals (stored_row c.sizes.processors n q)))
   pub words : (a q : ℕ) → q < c.sizes.processors

@@ -50,7 +50,7 @@ impl AskedPlaces {
         Ok(())
     }
 
-    /// Whether one of them is from `from` on and at most `to`. It looks at each: at most 64.
+    /// Whether one of them is from `from` on and at most `to`. It looks at each: at most one a processor.
     pub(crate) fn has_between(&self, from: usize, to: usize) -> bool
         ensures { result ≡ is_asked_between self.now from to }
     {

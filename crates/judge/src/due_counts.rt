@@ -8,10 +8,10 @@ ghost use Rattle.judge.specs.Prelude.{AreAskedPlaces, AreDueAmountsBetween, AreD
 ghost use Rattle.judge.specs.Prelude.{judged_sizes_of, most_judged_events, most_judged_processors};
 
 use crate::asked_places::AskedPlaces;
-use crate::cut::Cut;
+use crate::cut_rows::known_in;
 use crate::cuts::Cuts;
-use crate::sizes::{MOST_JUDGED_PROCESSORS, Sizes};
-use crate::sparse_table::SparseTable;
+use crate::sizes::Sizes;
+use crate::sparse_table::{SparseTable, items_of_row, set_sparse_table_row};
 use crate::stored_counts::StoredCounts;
 use journal::{Event, Kind};
 use std::alloc::{AllocError, Global};
@@ -28,14 +28,14 @@ pub(crate) struct DueAmounts {
 ///
 /// Of a page and a processor, the intervals that store in the page are kept that some other processor doesn't know of yet, and
 /// one for each processor's last fetch of the page: so the memory goes with how far the processors are apart, not with how long
-/// the history is. It takes 12 bytes for each of these, up to twice that, and 256 for each page and processor that fetches it. It takes 12
+/// the history is. It takes 12 bytes for each of these, up to twice that, and 4 a processor and 40 more for each page and processor that fetches it. It takes 12
 /// for each page and processor that stores in it, 4 for each word and processor that stores there, and what cuts take.
 #[derive(Drop)]
 pub struct DueCounts {
     /// What each processor knows of the others.
     cuts: Cuts,
     /// Of each page and processor, what the processor knew of the others at its last fetch of the page; zeros before.
-    fetched: SparseTable<Cut>,
+    fetched: SparseTable<Vec<u32>>,
     stored: StoredCounts,
 }
 
@@ -93,16 +93,14 @@ impl DueCounts {
     }
 
     /// What the processor knew of the others at its last fetch of the page; zeros before it.
-    fn last_fetch(&self, processor: usize, page: usize) -> Cut
+    fn last_fetch(&self, processor: usize, page: usize) -> &[u32]
         requires tells { (j : List Event) × TellsDueCounts j self.now }
         requires processor { processor < self.now.stored.sizes.processors }
         requires page { page < self.now.stored.sizes.pages }
         ensures { (j : List Event) → TellsDueCounts j self.now
-            → IsDueFetchedCut (judged_sizes_of self.now.stored.sizes) j processor page (slice_index result) }
+            → IsDueFetchedCut (judged_sizes_of self.now.stored.sizes) j processor page (slice_index result.now) }
     {
-        self.fetched
-            .get(self.stored.page_row(page, processor))
-            .unwrap_or([0; MOST_JUDGED_PROCESSORS])
+        items_of_row(&self.fetched, self.stored.page_row(page, processor))
     }
 
     /// What `by` has stored in the page between these places, of which it may still be asked: where intervals of it end.
@@ -133,7 +131,7 @@ impl DueCounts {
 
     /// What a fetch of the page by this processor has to count of the stores of `by`. `had` is what the processor knew at its
     /// last fetch of the page.
-    fn part(&self, processor: usize, page: usize, by: usize, had: &Cut) -> DueAmounts
+    fn part(&self, processor: usize, page: usize, by: usize, had: &[u32]) -> DueAmounts
         requires tells { (j : List Event) × TellsDueCounts j self.now
             × IsDueFetchedCut (judged_sizes_of self.now.stored.sizes) j processor page (slice_index had.now) }
         requires processor { processor < self.now.stored.sizes.processors }
@@ -148,7 +146,12 @@ impl DueCounts {
         if by == processor {
             return DueAmounts::none();
         }
-        self.between(page, by, had[by], self.cuts.of(processor)[by])
+        self.between(
+            page,
+            by,
+            known_in(had, by),
+            known_in(self.cuts.of(processor), by),
+        )
     }
 
     /// What a fetch of the page by this processor has to count, if it comes next.
@@ -163,7 +166,7 @@ impl DueCounts {
         let had = self.last_fetch(processor, page);
         let mut due = DueAmounts::none();
         for by in 0..self.stored.sizes.processors {
-            due = due.and(self.part(processor, page, by, &had), by);
+            due = due.and(self.part(processor, page, by, had), by);
         }
         due
     }
@@ -178,9 +181,8 @@ impl DueCounts {
         ensures fetched { OnOk result ((j : List Event) → TellsDueCounts j self.old → (writers records words : ℕ)
             → AreDueFetchedCuts (judged_sizes_of self.old.stored.sizes) (did j processor (Fetch writers page records words)) self.new.fetched) }
     {
-        let cut = *self.cuts.of(processor);
         let row = self.stored.page_row(page, processor);
-        self.fetched.set(row, cut)
+        set_sparse_table_row(&mut self.fetched, row, self.cuts.of(processor))
     }
 
     /// Keeps what its processor knows, if the event, which comes next, is a fetch.
@@ -210,8 +212,8 @@ impl DueCounts {
         let mut asked = AskedPlaces::from_place(*self.fetched.kept.allocator(), self.cuts.place);
         for processor in 0..self.stored.sizes.processors {
             if processor != by {
-                let known = self.cuts.of(processor)[by];
-                let fetched = self.last_fetch(processor, page)[by];
+                let known = known_in(self.cuts.of(processor), by);
+                let fetched = known_in(self.last_fetch(processor, page), by);
                 asked.add(known, fetched)?;
             }
         }

@@ -8,10 +8,10 @@ ghost use Rattle.journal.specs.Sizes.{Sizes as TheSizes};
 ghost use Rattle.journal.specs.WellFormed.{WellFormedKindInRange};
 ghost use Rattle.journal.specs.Prelude.{Holds, event, event_arrives, event_departs};
 ghost use Rattle.judge.specs.Prelude.{AreStreamedSizes, FrontTellsFirstAsk, WhyIsInTurn, IsWhyVerdict, LaxMayFollow, FrontTellsNobodyAsks, FrontTellsHistory};
-ghost use Rattle.judge.specs.Prelude.{WhyMayTake, WhyWaitsFor, front_tells_holder_after, front_tells_flag_set_after, judged_sizes_of, most_judged_events, most_judged_processors};
+ghost use Rattle.judge.specs.Prelude.{WhyMayTake, WhyWaitsFor, front_tells_holder_after, front_tells_flag_set_after, judged_sizes_of, most_judged_events};
 
 use crate::kinds::{is_lax_without_ask, is_same_kind, kind_awaited_after};
-use crate::sizes::{MOST_JUDGED_PROCESSORS, Sizes};
+use crate::sizes::Sizes;
 use crate::why::Why;
 use journal::{Event, Kind};
 use std::alloc::{AllocError, Global};
@@ -30,11 +30,11 @@ pub struct Frontier {
     /// How many events there are.
     pub(crate) place: usize,
     /// The last event of each processor.
-    pub(crate) last: [Option<LastEvent>; MOST_JUDGED_PROCESSORS],
+    pub(crate) last: Vec<Option<LastEvent>>,
     /// How often each processor has arrived.
-    pub(crate) arrivals: [u32; MOST_JUDGED_PROCESSORS],
+    pub(crate) arrivals: Vec<u32>,
     /// How often it has departed.
-    pub(crate) departures: [u32; MOST_JUDGED_PROCESSORS],
+    pub(crate) departures: Vec<u32>,
     /// Who holds each lock.
     pub(crate) holders: Vec<Option<usize>>,
     /// Which flags are set.
@@ -54,18 +54,17 @@ fn frontier_ask_at(last: Option<LastEvent>, lock: usize) -> Option<usize>
 }
 
 /// Counts the event where it is an arrival or a departure.
-fn update_frontier_episodes(
-    arrivals: &mut [u32; MOST_JUDGED_PROCESSORS],
-    departures: &mut [u32; MOST_JUDGED_PROCESSORS],
-    event: Event,
-)
-    requires processor { event.processor < most_judged_processors }
-    requires arrivals_room { slice_index arrivals.old event.processor < 2 ^ 32 - 1 }
-    requires departures_room { slice_index departures.old event.processor < 2 ^ 32 - 1 }
-    ensures arrivals { (q : ℕ) → slice_index arrivals.new q
-        ≡ slice_index arrivals.old q + cond ((event.processor == q) && event_arrives event.kind) 1 0 }
-    ensures departures { (q : ℕ) → slice_index departures.new q
-        ≡ slice_index departures.old q + cond ((event.processor == q) && event_departs event.kind) 1 0 }
+fn update_frontier_episodes(arrivals: &mut Vec<u32>, departures: &mut Vec<u32>, event: Event)
+    requires arrived { event.processor < vec_len arrivals.old }
+    requires departed { event.processor < vec_len departures.old }
+    requires arrivals_room { slice_index arrivals.old.items event.processor < 2 ^ 32 - 1 }
+    requires departures_room { slice_index departures.old.items event.processor < 2 ^ 32 - 1 }
+    ensures long_arrivals { vec_len arrivals.new ≡ vec_len arrivals.old }
+    ensures long_departures { vec_len departures.new ≡ vec_len departures.old }
+    ensures arrivals { (q : ℕ) → slice_index arrivals.new.items q
+        ≡ slice_index arrivals.old.items q + cond ((event.processor == q) && event_arrives event.kind) 1 0 }
+    ensures departures { (q : ℕ) → slice_index departures.new.items q
+        ≡ slice_index departures.old.items q + cond ((event.processor == q) && event_departs event.kind) 1 0 }
 {
     match event.kind {
         Kind::Arrive => arrivals[event.processor] += 1,
@@ -111,9 +110,9 @@ impl Frontier {
         Ok(Frontier {
             sizes,
             place: 0,
-            last: [None; MOST_JUDGED_PROCESSORS],
-            arrivals: [0; MOST_JUDGED_PROCESSORS],
-            departures: [0; MOST_JUDGED_PROCESSORS],
+            last: vec![in alloc; None; sizes.processors]?,
+            arrivals: vec![in alloc; 0; sizes.processors]?,
+            departures: vec![in alloc; 0; sizes.processors]?,
             holders: vec![in alloc; None; sizes.locks]?,
             flags: vec![in alloc; false; sizes.flags]?,
         })
@@ -128,7 +127,7 @@ impl Frontier {
 
     /// What the processor waits for.
     fn awaited(&self, processor: usize) -> Option<Kind>
-        requires { processor < most_judged_processors }
+        requires { processor < vec_len self.now.last }
         ensures { (j : List Event) → FrontTellsHistory j self.now → (k : AKind)
             → (result ≡ Some k) ↔ WhyWaitsFor j processor k }
     {
@@ -180,8 +179,8 @@ impl Frontier {
 
     /// Why the processor, which has arrived, does not depart.
     fn not_departed(&self, processor: usize) -> Option<Why>
-        requires processor { processor < most_judged_processors }
-        requires processors { self.now.sizes.processors ≤ most_judged_processors }
+        requires processor { processor < self.now.sizes.processors }
+        requires tells { (j : List Event) × FrontTellsHistory j self.now }
         ensures { (j : List Event) → FrontTellsHistory j self.now
             → WhyIsInTurn (judged_sizes_of self.now.sizes) j (event processor Depart)
             → WhyWaitsFor j processor Depart → (lax : Bool)

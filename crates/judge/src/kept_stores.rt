@@ -1,6 +1,6 @@
 //! Stores of a history, and what a load that comes next may answer by them.
 ghost use Rattle.std.specs.Prelude.{◌≡◌, ◌≢◌, ◌↔◌, ◌⊎◌, ℕ, ◌+◌, ◌-◌, ◌*◌, ◌<◌, ◌≤◌, ◌^◌, [], ◌∷◌, ◌++◌, IsTrue, IfOk, OnOk, List};
-ghost use Rattle.std.specs.Prelude.{◌==◌, Some, cond, length, slice_get, slice_index, vec_len};
+ghost use Rattle.std.specs.Prelude.{◌==◌, MatchOption, cond, length};
 ghost use Rattle.base.specs.InOrderOnce.{Has};
 ghost use Rattle.journal.specs.declared.event.Event.{Event};
 ghost use Rattle.journal.specs.declared.event.Kind.TheVariants.{Load, Store};
@@ -8,13 +8,13 @@ ghost use Rattle.journal.specs.ExplainedAnswers.{IsAnswer};
 ghost use Rattle.journal.specs.Events.{EventAt};
 ghost use Rattle.journal.specs.Pasts.{InPast};
 ghost use Rattle.journal.specs.WellFormed.{Does};
-ghost use Rattle.journal.specs.Prelude.{EventAddressInRange, did, entry};
+ghost use Rattle.journal.specs.Prelude.{EventAddressInRange, did};
 ghost use Rattle.judge.specs.declared.flat_memory.FlatStore.{FlatStore};
 ghost use Rattle.judge.specs.declared.kept_store.KeptStore.{KeptStore};
-ghost use Rattle.judge.specs.Prelude.{AreKeptStoresOf, AreLastKeptInPast, AreLatestStores, HasUnknownOfValue, IsHiddenInPast, IsKeptStoreFollowed, IsKeptStoreUnfollowed, IsLastKeptInPastOf, IsUnknownWithin, IsUnorderedStore, KeptStoresAreOf, ModelConcurrentStore};
-ghost use Rattle.judge.specs.Prelude.{AreUnknownFrom, kept_store_row, kept_stores_of, most_judged_events, most_judged_processors};
+ghost use Rattle.judge.specs.Prelude.{AreKeptStoresOf, AreLatestStores, HasUnknownOfValue, IsHiddenInPast, IsLatestInPast, IsKeptStoreFollowed, IsLastKeptInPastOf, IsUnknownWithin, IsUnorderedStore, KeptStoresAreOf, ModelConcurrentStore};
+ghost use Rattle.judge.specs.Prelude.{AreUnknownFrom, cut_entry, kept_store_row, kept_stores_of, most_judged_events, most_judged_processors};
 
-use crate::cut::{Cut, join_cut};
+use crate::cut_rows::known_in;
 use crate::cuts::Cuts;
 use crate::flat_memory::FlatStore;
 use crate::kept_store::{KeptStore, first_kept_store_from, last_kept_store_below};
@@ -31,15 +31,12 @@ use std::alloc::{AllocError, Global};
 /// How many rows of stores are looked at for each cut that is let go of, at most.
 const ROWS_A_CUT: usize = 256;
 
-/// The last store of each processor to an address that a past has, of those that are kept.
-type LastKept = [Option<KeptStore>; MOST_JUDGED_PROCESSORS];
-
 /// A history, taken an event at a time, of which it tells what a load that comes next may answer: which stores are the latest
 /// ones of its past, and which ones its past doesn't have.
 ///
 /// A store follows another one if its cut has it. It is let go of once each processor knows one that follows it. It takes 16 bytes
-/// for each store that is kept, up to twice that, and 256 for each cut that one of these has; and what the cuts of locks, flags
-/// and open episodes take.
+/// for each store that is kept, up to twice that. It takes 4 a processor for each cut that one of these has, and what the cuts of
+/// locks, flags and open episodes take.
 #[derive(Drop)]
 pub struct KeptStores {
     pub(crate) processors: usize,
@@ -49,21 +46,6 @@ pub struct KeptStores {
     known: KnownCuts,
     /// The stores in order: of each address a row for each processor.
     stores: SparseTable<Vec<KeptStore>>,
-}
-
-/// This processor's last store, if none of the others follows it. Joined, their cuts are this.
-fn unfollowed(last: &LastKept, joined: &Cut, by: usize) -> Option<KeptStore>
-    requires by { by < most_judged_processors }
-    ensures { (cuts : List (List ℕ)) → ((x : KeptStore)
-        → (x.place < slice_index joined.now by) ↔ IsKeptStoreFollowed cuts last.now by x)
-        → (x : KeptStore) → (result ≡ Some x) ↔ IsKeptStoreUnfollowed cuts last.now by x }
-{
-    let store = last[by]?;
-    if store.place < joined[by] {
-        None
-    } else {
-        Some(store)
-    }
 }
 
 /// Whether one of the stores from this one on is of the value.
@@ -110,7 +92,7 @@ impl KeptStores {
             processors,
             addresses,
             cuts: Cuts::new(alloc, processors)?,
-            known: KnownCuts::new(alloc),
+            known: KnownCuts::new(alloc, processors)?,
             stores: SparseTable::new(alloc, rows)?,
         })
     }
@@ -147,7 +129,7 @@ impl KeptStores {
         if by == processor {
             self.cuts.place
         } else {
-            self.cuts.of(processor)[by] as usize
+            known_in(self.cuts.of(processor), by) as usize
         }
     }
 
@@ -163,43 +145,82 @@ impl KeptStores {
         last_kept_store_below(self.stores_of(address, by), self.known_up_to(processor, by))
     }
 
-    /// Each processor's last store to the address in the past of this processor.
-    fn last_stores(&self, processor: usize, address: usize) -> LastKept
+    /// Whether the last store of some processor to the address in the past of this one has this store of `by` in its cut.
+    fn is_followed(&self, processor: usize, address: usize, by: usize, store: KeptStore) -> bool
         requires tells { (j : List Event) × AreKeptStoresOf j self.now }
         requires processor { processor < self.now.processors }
         requires address { address < self.now.addresses }
-        ensures { (j : List Event) → AreKeptStoresOf j self.now
-            → AreLastKeptInPast j self.now.processors processor (kept_stores_of self.now address) result }
+        ensures { (j : List Event) → AreKeptStoresOf j self.now → IsTrue result
+            ↔ IsKeptStoreFollowed self.now.processors j self.now.known.cuts processor (kept_stores_of self.now address) by store }
     {
-        let mut last = [None; MOST_JUDGED_PROCESSORS];
-        for by in 0..self.processors {
-            last[by] = self.last_store(processor, address, by);
-        }
-        last
-    }
-
-    /// The cuts of these stores, joined: it has a store exactly where one of them follows that.
-    fn joined(&self, last: &LastKept) -> Cut
-        requires few { self.now.processors ≤ most_judged_processors }
-        requires cuts { (r : ℕ) (x : KeptStore) → slice_get last.now r ≡ Some (Some x) → x.cut < vec_len self.now.known.cuts }
-        ensures { (q : ℕ) (x : KeptStore) → q < self.now.processors → (x.place < slice_index result q)
-            ↔ IsKeptStoreFollowed self.now.known.cuts.items last.now q x }
-    {
-        let mut joined = [0; MOST_JUDGED_PROCESSORS];
-        for store in last {
-            if let Some(store) = store {
-                let cut = &self.known.cuts[store.cut];
-                join_cut(&mut joined, cut, self.processors);
+        for other in 0..self.processors {
+            if let Some(last) = self.last_store(processor, address, other) {
+                if store.place < known_in(self.known.cuts.row(last.cut), by) {
+                    return true;
+                }
             }
         }
-        joined
+        false
+    }
+
+    /// The store of `by` to the address that is a latest one of the past of the processor, if there is one.
+    fn latest_by(&self, processor: usize, address: usize, by: usize) -> Option<KeptStore>
+        requires tells { (j : List Event) × AreKeptStoresOf j self.now }
+        requires processor { processor < self.now.processors }
+        requires address { address < self.now.addresses }
+        requires by { by < self.now.processors }
+        ensures { (j : List Event) → AreKeptStoresOf j self.now → MatchOption result
+            ((i : ℕ) → ¬ IsLatestInPast j processor address by i)
+            (λ x. IsLatestInPast j processor address by x.place × Does j x.place by (Store address x.value)) }
+    {
+        let store = self.last_store(processor, address, by)?;
+        if self.is_followed(processor, address, by, store) {
+            None
+        } else {
+            Some(store)
+        }
+    }
+
+    /// Whether one of the latest stores of the past of the processor to the address is of this value. Those of other values are
+    /// passed over at once.
+    fn has_latest_of(&self, processor: usize, address: usize, value: u32) -> bool
+        requires tells { (j : List Event) × AreKeptStoresOf j self.now }
+        requires processor { processor < self.now.processors }
+        requires address { address < self.now.addresses }
+        ensures { (j : List Event) → AreKeptStoresOf j self.now → IsTrue result
+            ↔ ((q : ℕ) × (i : ℕ) × IsLatestInPast j processor address q i × Does j i q (Store address value)) }
+    {
+        for by in 0..self.processors {
+            if let Some(store) = self.last_store(processor, address, by) {
+                if store.value == value && !self.is_followed(processor, address, by, store) {
+                    return true;
+                }
+            }
+        }
+        false
+    }
+
+    /// Whether the past of the processor has a store to the address.
+    fn has_latest(&self, processor: usize, address: usize) -> bool
+        requires tells { (j : List Event) × AreKeptStoresOf j self.now }
+        requires processor { processor < self.now.processors }
+        requires address { address < self.now.addresses }
+        ensures { (j : List Event) → AreKeptStoresOf j self.now → IsTrue result
+            ↔ ((q : ℕ) × (i : ℕ) × IsLatestInPast j processor address q i) }
+    {
+        for by in 0..self.processors {
+            if self.latest_by(processor, address, by).is_some() {
+                return true;
+            }
+        }
+        false
     }
 
     /// Whether a load of the address by this processor that comes next may answer the value of one of its latest stores, or 0
     /// where it has none: whether this is such a value. It takes no memory.
     ///
-    /// It looks at one store of each processor, mostly its last one to the address, else one found by halving, and joins
-    /// their cuts: of n stores it takes time in the order of the processors times (the processors and the logarithm of n).
+    /// It looks at one store of each processor, mostly its last one to the address, else one found by halving. For each of the
+    /// value it looks at them again, for one that follows it.
     pub fn may_answer(&self, processor: usize, address: usize, value: u32) -> bool
         requires tells { (j : List Event) × AreKeptStoresOf j self.now }
         requires processor { processor < self.now.processors }
@@ -207,18 +228,10 @@ impl KeptStores {
         ensures { (j : List Event) → AreKeptStoresOf j self.now
             → IsTrue result ↔ IsAnswer (did j processor (Load address value)) (length j) address value }
     {
-        let last = self.last_stores(processor, address);
-        let joined = self.joined(&last);
-        let mut is_free = true;
-        for by in 0..self.processors {
-            if let Some(store) = unfollowed(&last, &joined, by) {
-                if store.value == value {
-                    return true;
-                }
-                is_free = false;
-            }
+        if self.has_latest_of(processor, address, value) {
+            return true;
         }
-        is_free && value == 0
+        value == 0 && !self.has_latest(processor, address)
     }
 
     /// The latest stores of a load of the address by this processor that comes next, by rising processor. The only error is
@@ -235,11 +248,9 @@ impl KeptStores {
         ensures { IfOk result (λ v. (j : List Event) → AreKeptStoresOf j self.now → (w : ℕ)
             → AreLatestStores (did j processor (Load address w)) (length j) address v.items) }
     {
-        let last = self.last_stores(processor, address);
-        let joined = self.joined(&last);
         let mut latest = Vec::new(alloc);
         for by in 0..self.processors {
-            if let Some(KeptStore { place, value, .. }) = unfollowed(&last, &joined, by) {
+            if let Some(KeptStore { place, value, .. }) = self.latest_by(processor, address, by) {
                 latest.push(FlatStore { by, place, value })?;
             }
         }
@@ -306,14 +317,12 @@ impl KeptStores {
 
     /// Up to which place the store, the last one of `other` to an address in some past, follows the stores of `by`.
     fn followed_up_to(&self, store: KeptStore, other: usize, by: usize) -> usize
-        requires cut { store.cut < vec_len self.now.known.cuts }
-        requires by { by < most_judged_processors }
-        ensures { result ≡ cond (other == by) store.place (entry self.now.known.cuts.items store.cut by) }
+        ensures { result ≡ cond (other == by) store.place (cut_entry self.now.known.cuts store.cut by) }
     {
         if other == by {
             store.place as usize
         } else {
-            self.known.cuts[store.cut][by] as usize
+            known_in(self.known.cuts.row(store.cut), by) as usize
         }
     }
 
@@ -436,13 +445,15 @@ impl KeptStores {
 
     /// Lets go of the cuts that no kept store has. The only error is running out of memory, after which it may tell no history.
     fn let_go_of_cuts(&mut self) -> Result<(), AllocError>
-        requires { (j : List Event) × AreKeptStoresOf j self.old }
+        requires some { 0 < self.old.processors }
+        requires tells { (j : List Event) × AreKeptStoresOf j self.old }
         ensures rest { self.new ≡ record self.old { known = self.new.known; stores = self.new.stores } }
         ensures tells { OnOk result ((j : List Event) → AreKeptStoresOf j self.old → AreKeptStoresOf j self.new) }
     {
         let alloc = *self.stores.kept.allocator();
-        let mut moved = MovedCuts::new(alloc, &self.known.cuts)?;
-        moved.move_rows(&self.known.cuts, &mut self.stores.kept)?;
+        let known = &self.known;
+        let mut moved = MovedCuts::new(alloc, &known.cuts)?;
+        moved.move_rows(&known.cuts, &mut self.stores.kept)?;
         self.known = KnownCuts::of_moved(moved.cuts)?;
         Ok(())
     }
@@ -451,7 +462,8 @@ impl KeptStores {
     /// kept store has. There are as many as pay for a look at each row. The only error is running out of memory, after which it may
     /// tell no history.
     fn make_room_for_cuts(&mut self) -> Result<(), AllocError>
-        requires { (j : List Event) × AreKeptStoresOf j self.old }
+        requires some { 0 < self.old.processors }
+        requires tells { (j : List Event) × AreKeptStoresOf j self.old }
         ensures rest { self.new ≡ record self.old { known = self.new.known; stores = self.new.stores } }
         ensures tells { OnOk result ((j : List Event) → AreKeptStoresOf j self.old → AreKeptStoresOf j self.new) }
     {

@@ -1,11 +1,9 @@
 //! Cuts that stores have before them.
-ghost use Rattle.std.specs.Prelude.{◌≡◌, ℕ, ◌<◌, ◌≤◌, IfOk, IsTrue, List, Some, slice_index, vec_len};
+ghost use Rattle.std.specs.Prelude.{◌≡◌, ℕ, ◌<◌, ◌≤◌, IfOk, IsTrue, List, Some, length, slice_index, slice_set, vec_len};
 ghost use Rattle.journal.specs.declared.event.Event.{Event};
-ghost use Rattle.journal.specs.Prelude.{entry};
-ghost use Rattle.judge.specs.Prelude.{IsCutOf, most_judged_processors};
+ghost use Rattle.judge.specs.JudgedSizes.{most_judged_processors};
 
-use crate::cut::Cut;
-use crate::sizes::MOST_JUDGED_PROCESSORS;
+use crate::cut_rows::CutRows;
 use std::alloc::{AllocError, Global};
 
 /// Fewer cuts than this are all kept.
@@ -15,17 +13,20 @@ const FEW: usize = 4096;
 /// a store isn't kept.
 #[derive(Drop)]
 pub(crate) struct KnownCuts {
-    pub(crate) cuts: Vec<Cut>,
+    pub(crate) cuts: CutRows,
     /// Of each processor, where its cut was kept last, if it was.
-    recent: [Option<usize>; MOST_JUDGED_PROCESSORS],
+    recent: Vec<Option<usize>>,
+    ghost long: { vec_len recent ≡ cuts.width },
 }
 
-/// Whether the two cuts have the same entries.
-fn are_cuts_same(one: &Cut, other: &Cut) -> bool
-    ensures { IsTrue result → (q : ℕ) → slice_index one.now q ≡ slice_index other.now q }
+/// Whether the kept cut is the other one without the processor's entry.
+fn is_cut_without(kept: &[u32], cut: &[u32], processor: usize) -> bool
+    requires { length kept.now ≡ length cut.now }
+    ensures { IsTrue result → (q : ℕ) → slice_index kept.now q ≡ slice_index (slice_set cut.now processor 0) q }
 {
-    for q in 0..MOST_JUDGED_PROCESSORS {
-        if one[q] != other[q] {
+    for q in 0..cut.len() {
+        let known = if q == processor { 0 } else { cut[q] };
+        if kept[q] != known {
             return false;
         }
     }
@@ -33,22 +34,28 @@ fn are_cuts_same(one: &Cut, other: &Cut) -> bool
 }
 
 impl KnownCuts {
-    /// None at all.
-    pub(crate) fn new(alloc: Global) -> KnownCuts {
-        KnownCuts {
-            cuts: Vec::new(alloc),
-            recent: [None; MOST_JUDGED_PROCESSORS],
-        }
+    ghost use Rattle.judge.specs.Prelude.{IsCutOf, KeepsCuts, cut_entry};
+
+    /// None at all, of so many processors. The only error is running out of memory.
+    pub(crate) fn new(alloc: Global, processors: usize) -> Result<KnownCuts, AllocError>
+        requires { processors ≤ most_judged_processors }
+        ensures { IfOk result (λ known. known.cuts.width ≡ processors) }
+    {
+        Ok(KnownCuts {
+            cuts: CutRows::new(alloc, processors),
+            recent: vec![in alloc; None; processors]?,
+        })
     }
 
-    /// Where these entries stand, if they are those of the processor's cut that was kept last.
-    fn recent_place(&self, processor: usize, cut: &Cut) -> Option<usize>
-        requires { processor < most_judged_processors }
-        ensures { (n : ℕ) → result ≡ Some n → (n < vec_len self.now.cuts)
-            × ((q : ℕ) → entry self.now.cuts.items n q ≡ slice_index cut.now q) }
+    /// Where these entries stand, but for the processor's own, if they are those of its cut that was kept last.
+    fn recent_place(&self, processor: usize, cut: &[u32]) -> Option<usize>
+        requires processor { processor < self.now.cuts.width }
+        requires cut { length cut.now ≡ self.now.cuts.width }
+        ensures { (n : ℕ) → result ≡ Some n → (n < self.now.cuts.count)
+            × ((q : ℕ) → cut_entry self.now.cuts n q ≡ slice_index (slice_set cut.now processor 0) q) }
     {
         let place = self.recent[processor]?;
-        if place < self.cuts.len() && are_cuts_same(&self.cuts[place], cut) {
+        if place < self.cuts.len() && is_cut_without(self.cuts.row(place), cut, processor) {
             Some(place)
         } else {
             None
@@ -57,41 +64,38 @@ impl KnownCuts {
 
     /// Where the processor's cut stands, which is this. It is kept where it wasn't yet. The only error is running out of
     /// memory.
-    pub(crate) fn place_of(&mut self, processor: usize, cut: &Cut) -> Result<usize, AllocError>
-        requires { processor < most_judged_processors }
-        ensures more { vec_len self.old.cuts ≤ vec_len self.new.cuts }
-        ensures same { (n q : ℕ) → n < vec_len self.old.cuts
-            → entry self.new.cuts.items n q ≡ entry self.old.cuts.items n q }
-        ensures placed { IfOk result (λ n. (n < vec_len self.new.cuts)
+    pub(crate) fn place_of(&mut self, processor: usize, cut: &[u32]) -> Result<usize, AllocError>
+        requires processor { processor < self.old.cuts.width }
+        requires cut { length cut.now ≡ self.old.cuts.width }
+        ensures width { self.new.cuts.width ≡ self.old.cuts.width }
+        ensures kept { KeepsCuts self.old.cuts self.new.cuts }
+        ensures placed { IfOk result (λ n. (n < self.new.cuts.count)
             × ((j : List Event) → IsCutOf j processor (slice_index cut.now)
-            → IsCutOf j processor (entry self.new.cuts.items n))) }
+            → IsCutOf j processor (cut_entry self.new.cuts n))) }
     {
-        let mut cut = *cut;
-        cut[processor] = 0;
-        if let Some(place) = self.recent_place(processor, &cut) {
+        if let Some(place) = self.recent_place(processor, cut) {
             return Ok(place);
         }
         let place = self.cuts.len();
         self.cuts.push(cut)?;
+        self.cuts.mark(place, processor, 0);
         self.recent[processor] = Some(place);
         Ok(place)
     }
 
     /// Whether there are so many cuts, and no room for one more.
     pub(crate) fn is_full_with(&self, count: usize) -> bool {
-        let len = self.cuts.len();
-        len == self.cuts.capacity() && len >= count.max(FEW)
+        self.cuts.is_full() && self.cuts.len() >= count.max(FEW)
     }
 
     /// These cuts, and room for as many again. The only error is running out of memory.
-    pub(crate) fn of_moved(cuts: Vec<Cut>) -> Result<KnownCuts, AllocError>
-        ensures { IfOk result (λ known. known.cuts.items ≡ cuts.items) }
+    pub(crate) fn of_moved(cuts: CutRows) -> Result<KnownCuts, AllocError>
+        ensures width { IfOk result (λ known. known.cuts.width ≡ cuts.width) }
+        ensures kept { IfOk result (λ known. KeepsCuts cuts known.cuts) }
     {
         let mut cuts = cuts;
         cuts.reserve(cuts.len().max(FEW))?;
-        Ok(KnownCuts {
-            cuts,
-            recent: [None; MOST_JUDGED_PROCESSORS],
-        })
+        let recent = vec![in cuts.allocator(); None; cuts.width]?;
+        Ok(KnownCuts { cuts, recent })
     }
 }

@@ -19,7 +19,7 @@
 #![tactic(auto)]
 
 mod asked_places;
-mod cut;
+mod cut_rows;
 mod cuts;
 mod due_counts;
 mod flat_memory;
@@ -48,7 +48,6 @@ mod stored_counts;
 mod stored_steps;
 mod why;
 
-pub use cut::Cut;
 pub use cuts::Cuts;
 pub use due_counts::DueCounts;
 pub use flat_memory::{FlatMemory, FlatStore};

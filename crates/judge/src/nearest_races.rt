@@ -2,11 +2,11 @@
 ghost use Rattle.std.specs.Prelude.{◌≡◌, ◌≢◌, ◌↔◌, ◌⊎◌, IsTrue, ℕ, ◌+◌, ◌-◌, ◌*◌, ◌<◌, ◌≤◌, ◌^◌, [], ◌∷◌, ◌++◌, IfOk, IfSome, OnOk, List};
 ghost use Rattle.std.specs.Prelude.{Some, slice_index};
 ghost use Rattle.journal.specs.declared.event.Event.{Event};
-ghost use Rattle.journal.specs.Prelude.{Conflict, EventAddressInRange, EventProcessorsInRange};
+ghost use Rattle.journal.specs.Prelude.{Conflict, EventAddressInRange};
 ghost use Rattle.judge.specs.Prelude.{NearestRaceAccessesAreKept, AreNearestRacesOf, IsCutOf, IsFirstRaceTo, IsNearestRaceLastUnknown, IsNearestRaceTo, IsSparse, IsNearestRaceUnknown};
 ghost use Rattle.judge.specs.Prelude.{most_judged_events, most_judged_processors, nearest_race_row, sparse_at};
 
-use crate::cut::Cut;
+use crate::cut_rows::known_in;
 use crate::cuts::Cuts;
 use crate::sparse_table::SparseTable;
 use journal::{Event, Kind};
@@ -33,18 +33,17 @@ pub struct NearestRaces {
 fn nearest_race_candidate(
     rows: &SparseTable<u32>,
     row: usize,
-    cut: &Cut,
+    cut: &[u32],
     processor: usize,
     by: usize,
 ) -> Option<usize>
     requires sparse { IsSparse rows.now }
     requires within { row + by < 2 ^ 64 }
-    requires by { by < most_judged_processors }
     ensures { (i : ℕ) → (result ≡ Some i)
         ↔ IsNearestRaceUnknown (sparse_at rows.now) row (slice_index cut.now) processor by i }
 {
     let place = rows.get(row + by)?;
-    if by == processor || place < cut[by] {
+    if by == processor || place < known_in(cut, by) {
         None
     } else {
         Some(place as usize)
@@ -69,12 +68,11 @@ fn nearest_race_in_row(
     rows: &SparseTable<u32>,
     row: usize,
     count: usize,
-    cut: &Cut,
+    cut: &[u32],
     processor: usize,
 ) -> Option<usize>
     requires sparse { IsSparse rows.now }
     requires within { row + count < 2 ^ 64 }
-    requires count { count ≤ most_judged_processors }
     ensures { IsNearestRaceLastUnknown (sparse_at rows.now) row (slice_index cut.now) processor count result }
 {
     let mut nearest = None;
@@ -99,14 +97,15 @@ fn is_nearest_race_conflict(first: Event, second: Event) -> bool
 }
 
 /// The first of the events that races with this one, which comes next and whose processor has this cut.
-fn first_race_to(events: &[Event], event: Event, cut: &Cut) -> Option<usize>
-    requires few { EventProcessorsInRange most_judged_processors events.now }
-    requires cut { IsCutOf events.now event.processor (slice_index cut.now) }
+fn first_race_to(events: &[Event], event: Event, cut: &[u32]) -> Option<usize>
+    requires { IsCutOf events.now event.processor (slice_index cut.now) }
     ensures { IsFirstRaceTo events.now event result }
 {
     for place in 0..events.len() {
         let earlier = events[place];
-        if is_nearest_race_conflict(earlier, event) && place >= cut[earlier.processor] as usize {
+        if is_nearest_race_conflict(earlier, event)
+            && place >= known_in(cut, earlier.processor) as usize
+        {
             return Some(place);
         }
     }

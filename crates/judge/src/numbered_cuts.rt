@@ -1,12 +1,14 @@
 //! The cuts of locks or flags, by their numbers.
-ghost use Rattle.std.specs.Prelude.{◌≡◌, ℕ, ◌<◌, ◌≤◌, OnOk, max, slice_index};
-ghost use Rattle.judge.specs.Prelude.{CutEntriesJoinedAt, most_judged_processors, numbered_cut_at};
+ghost use Rattle.std.specs.Prelude.{◌≡◌, ℕ, ◌<◌, ◌≤◌, OnOk, length, slice_index, take};
+ghost use Rattle.std.specs.BTreeMap.{get};
+ghost use Rattle.std.specs.Ordering.{nat_cmp};
+ghost use Rattle.judge.specs.Prelude.{CutEntriesJoinedAt, most_judged_processors, numbered_cut_at, numbered_cut_kept};
 
-use crate::cut::{Cut, cut_at, join_cut, join_cut_at, join_cut_from, join_cut_in};
+use crate::cut_rows::{CutRows, join_cut};
 use std::alloc::{AllocError, Global};
-use std::collections::{BTreeMap, VecDeque};
+use std::collections::BTreeMap;
 
-/// Numbers below this have a place each in a table, which takes 256 KiB at most.
+/// Numbers below this have a row each in a table, which takes 4 KiB a processor at most.
 const FIRST_HIGH: usize = 1024;
 
 /// A cut for each number; zeros at first. A low number is found at once, a high one by a search in those that occur,
@@ -15,47 +17,72 @@ const FIRST_HIGH: usize = 1024;
 /// What joins cuts is inlined up to `Cuts::note`, since the calls would cost half as much as the joining.
 #[derive(Drop)]
 pub(crate) struct NumberedCuts {
-    low: VecDeque<Cut>,
-    high: BTreeMap<usize, Cut>,
+    low: CutRows,
+    high: BTreeMap<usize, Vec<u32>>,
 }
 
 impl NumberedCuts {
-    /// Zeros for each number.
-    pub(crate) fn new(alloc: Global) -> NumberedCuts
-        ensures { (n q : ℕ) → numbered_cut_at result n q ≡ 0 }
+    /// Zeros for each number, of so many processors.
+    pub(crate) fn new(alloc: Global, processors: usize) -> NumberedCuts
+        requires { processors ≤ most_judged_processors }
+        ensures width { result.low.width ≡ processors }
+        ensures zeros { (n q : ℕ) → numbered_cut_at result n q ≡ 0 }
     {
         NumberedCuts {
-            low: VecDeque::new(alloc),
+            low: CutRows::new(alloc, processors),
             high: BTreeMap::new(alloc),
         }
     }
 
-    /// Joins the first `count` entries of the cut of this number into another one.
-    #[inline(always)]
-    pub(crate) fn join_into(&self, number: usize, cut: &mut Cut, count: usize)
-        requires { count ≤ most_judged_processors }
-        ensures joined { (q : ℕ) → q < count → slice_index cut.new q
-            ≡ max (slice_index cut.old q) (numbered_cut_at self.now number q) }
-        ensures rest { (q : ℕ) → count ≤ q → slice_index cut.new q ≡ slice_index cut.old q }
+    /// The cut of a high number; nothing if none is kept.
+    fn high_cut(&self, number: usize) -> &[u32]
+        ensures { result.now ≡ take self.now.low.width (numbered_cut_kept (get nat_cmp self.now.high number)) }
     {
-        if number < FIRST_HIGH {
-            join_cut_from(cut, &self.low, number, count);
-        } else {
-            join_cut(cut, &cut_at(&self.high, number), count);
+        match self.high.get(&number) {
+            Some(cut) => &cut[..cut.len().min(self.low.width)],
+            None => &[],
         }
     }
 
-    /// Joins the first `count` entries of the cut into that of this number. The only error is running out of memory.
+    /// The cut of this number; nothing where it is all zeros.
     #[inline(always)]
-    pub(crate) fn join(&mut self, number: usize, cut: &Cut, count: usize) -> Result<(), AllocError>
-        requires { count ≤ most_judged_processors }
-        ensures { OnOk result (CutEntriesJoinedAt (numbered_cut_at self.old) (numbered_cut_at self.new) number count
-            (slice_index cut.now)) }
+    pub(crate) fn cut(&self, number: usize) -> &[u32]
+        ensures within { length result.now ≤ self.now.low.width }
+        ensures entries { (q : ℕ) → slice_index result.now q ≡ numbered_cut_at self.now number q }
     {
         if number < FIRST_HIGH {
-            join_cut_in(&mut self.low, number, cut, count)
+            self.low.row(number)
         } else {
-            join_cut_at(&mut self.high, number, cut, count)
+            self.high_cut(number)
+        }
+    }
+
+    /// Joins the cut into that of a high number. The only error is running out of memory.
+    fn join_high(&mut self, number: usize, cut: &[u32]) -> Result<(), AllocError>
+        requires number { 1024 ≤ number }
+        requires cut { length cut.now ≡ self.old.low.width }
+        ensures low { self.new.low ≡ self.old.low }
+        ensures joined { OnOk result
+            (CutEntriesJoinedAt (numbered_cut_at self.old) (numbered_cut_at self.new) number (slice_index cut.now)) }
+    {
+        let mut joined = Vec::from_slice(self.low.allocator(), cut)?;
+        join_cut(&mut joined, 0, self.high_cut(number));
+        self.high.insert(number, joined)?;
+        Ok(())
+    }
+
+    /// Joins the cut, which has an entry for each processor, into that of this number. The only error is running out of memory.
+    #[inline(always)]
+    pub(crate) fn join(&mut self, number: usize, cut: &[u32]) -> Result<(), AllocError>
+        requires { length cut.now ≡ self.old.low.width }
+        ensures width { self.new.low.width ≡ self.old.low.width }
+        ensures joined { OnOk result
+            (CutEntriesJoinedAt (numbered_cut_at self.old) (numbered_cut_at self.new) number (slice_index cut.now)) }
+    {
+        if number < FIRST_HIGH {
+            self.low.join_in(number, cut)
+        } else {
+            self.join_high(number, cut)
         }
     }
 }

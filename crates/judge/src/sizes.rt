@@ -16,7 +16,7 @@ pub const MOST_JUDGED_LOCKS: usize = 1 << 16;
 pub const MOST_JUDGED_FLAGS: usize = 1 << 16;
 
 /// The most processors of a history that is judged.
-pub const MOST_JUDGED_PROCESSORS: usize = 64;
+pub const MOST_JUDGED_PROCESSORS: usize = 256;
 
 /// The most events of a history that is judged as it comes.
 pub const MOST_JUDGED_EVENTS: usize = (1 << 31) - 1;

@@ -182,6 +182,33 @@ pub(crate) fn push_in_sparse_table_row<T: Drop>(
     }
 }
 
+/// Gives the row these items, in the place of what it had. The only error is running out of memory, after which nothing is said of
+/// the rows.
+pub(crate) fn set_sparse_table_row<T: Copy + Drop>(
+    table: &mut SparseTable<Vec<T>>,
+    row: usize,
+    items: &[T],
+) -> Result<(), AllocError>
+    requires sparse { IsSparse table.old }
+    requires room { row < sparse_room table.old }
+    requires few { vec_len table.old.kept < most_sparse_values }
+    ensures room { sparse_room table.new ≡ sparse_room table.old }
+    ensures few { vec_len table.new.kept ≤ vec_len table.old.kept + 1 }
+    ensures set { OnOk result (IsSparseRowOf table.old table.new row items.now) }
+{
+    match table.place(row) {
+        Some(place) => {
+            table.kept[place].clear();
+            table.kept[place].extend_from_slice(items)?;
+            Ok(())
+        }
+        None => {
+            let items = Vec::from_slice(*table.kept.allocator(), items)?;
+            table.add(row, items)
+        }
+    }
+}
+
 /// Whether the row has no room for one item more.
 pub(crate) fn is_sparse_table_row_full<T>(table: &SparseTable<Vec<T>>, row: usize) -> bool
     requires { IsSparse table.now }

@@ -7,7 +7,7 @@ ghost use Rattle.judge.specs.Prelude.{AreAskedPlaces, AreStoredAmounts, AreStore
 ghost use Rattle.judge.specs.Prelude.{StoredStepAdds, asked_steps_from, judged_sizes_of, most_judged_events, most_judged_processors, most_sparse_values, sparse_at, sparse_room, sparse_row, stored_row, stored_total};
 
 use crate::asked_places::AskedPlaces;
-use crate::sizes::{MOST_JUDGED_PROCESSORS, Sizes};
+use crate::sizes::Sizes;
 use crate::sparse_table::{
     SparseTable, is_sparse_table_row_full, items_of_row, push_in_sparse_table_row,
     replace_sparse_table_row,
@@ -26,7 +26,7 @@ use std::alloc::{AllocError, Global};
 pub(crate) struct StoredCounts {
     pub(crate) sizes: Sizes,
     /// How many intervals each processor has closed.
-    closed: [u32; MOST_JUDGED_PROCESSORS],
+    closed: Vec<u32>,
     /// Of each page and processor, where its intervals first store in the page, in order.
     steps: SparseTable<Vec<StoredStep>>,
     /// Of each page and processor, what is stored in all.
@@ -56,7 +56,7 @@ impl StoredCounts {
         let words = sizes.pages * sizes.words * sizes.processors;
         Ok(StoredCounts {
             sizes,
-            closed: [0; MOST_JUDGED_PROCESSORS],
+            closed: vec![in alloc; 0; sizes.processors]?,
             steps: SparseTable::new(alloc, rows)?,
             totals: SparseTable::new(alloc, rows)?,
             words: SparseTable::new(alloc, words)?,
@@ -167,11 +167,12 @@ impl StoredCounts {
 
     /// Counts one more interval that the processor has closed.
     fn close(&mut self, processor: usize)
-        requires processor { processor < most_judged_processors }
-        requires room { slice_index self.old.closed processor < most_judged_events }
+        requires processor { processor < vec_len self.old.closed }
+        requires room { slice_index self.old.closed.items processor < most_judged_events }
+        ensures long { vec_len self.new.closed ≡ vec_len self.old.closed }
         ensures rest { self.new ≡ record self.old { closed = self.new.closed } }
-        ensures counted { (q : ℕ) → slice_index self.new.closed q
-            ≡ slice_index self.old.closed q + cond (processor == q) 1 0 }
+        ensures counted { (q : ℕ) → slice_index self.new.closed.items q
+            ≡ slice_index self.old.closed.items q + cond (processor == q) 1 0 }
     {
         self.closed[processor] += 1;
     }

@@ -61,7 +61,7 @@ pub(crate) fn amounts_before(steps: &[StoredStep], all: StoredAmounts, limit: u3
 }
 
 /// The steps that tell what had been stored before the asked places: of each the first one from it on. For each step it looks at
-/// each of these places, at most 64 and one. The only error is running out of memory.
+/// each of these places, at most one a processor and one. The only error is running out of memory.
 pub(crate) fn asked_steps(
     alloc: Global,
     steps: &[StoredStep],

@@ -25,7 +25,6 @@ use Rattle.lrc_check.specs.Traces.Labels.{without_trace_labels}
 use Rattle.lrc_check.specs.Traces.LawfulTraces.{IsLawfulTrace}
 use Rattle.lrc_check.specs.Traces.TraceText.{trace_text}
 use Rattle.lrc_commands.specs.declared.checking.Judgement.{Judgement}
-use Rattle.lrc_commands.specs.declared.checking.Judgement.TheVariants as judgement
 use Rattle.lrc_commands.specs.declared.fault.CommandFault.{CommandFault}
 use Rattle.lrc_commands.specs.ExitStatus.{IsCommandExitStatusOfInput}
 use Rattle.lrc_commands.specs.TraceCommand.{BeginsWithTraceCommandText, HasNoTraceCommandFront, HasTraceCommandText, IsTraceCommandEnding, IsTraceCommandFound, IsTraceCommandOnRacy, IsTraceCommandText, IsTraceCommandJudgedAs, IsTraceCommandNoText, IsTraceCommandOnNone, IsTraceCommandToldAs, IsTraceCommandReadSoFar, trace_command_judgement}

@@ -13,6 +13,7 @@ use Rattle.lrc_sample.specs.declared.detail.SampleDetail.TheVariants as detail
 use Rattle.lrc_sample.specs.declared.sampling.Sampled.{Sampled}
 use Rattle.lrc_sample.specs.SampleRuns.{IsSampleOfRuns}
 use Rattle.lrc_sample.specs.SampleText.{sample_text}
+use Rattle.lrc_json.specs.SampledJson.{json_of_sample}
 
 -- the lock that is asked for
 abbrev pub sample_command_lock : Bool → LockChoice
@@ -24,9 +25,9 @@ sample_command_detail outcomes.Words = detail.Words
 sample_command_detail outcomes.Loads = detail.Loads
 sample_command_detail outcomes.All = detail.All
 
--- the text of what runs came to was written; or JSON, of which no more is said
+-- the text of what runs came to was written, or that as JSON
 abbrev pub IsSampleCommandAnswer : Bool → Option (List ℕ) → Option (List ℕ) → Sampled → Type 0
-IsSampleCommandAnswer true old new sampled = (json : List ℕ) × Appends old new json
+IsSampleCommandAnswer true old new sampled = Appends old new (json_of_sample sampled)
 IsSampleCommandAnswer false old new sampled = Appends old new (sample_text sampled)
 
 -- the script was run so many times, where `came` is what comes by a seed or without one, and what that came to was written in this

@@ -13,6 +13,7 @@ use conformance::ScriptRunner;
 use lrc_json::write_sampled_json;
 use lrc_options::options::{OutcomeDetail, SampleOptions};
 use lrc_program::program::program_reads_script;
+use lrc_sample::SampledScript;
 use lrc_sample::detail::SampleDetail;
 use lrc_sample::sampling::{SampleProgress, Sampled, sample};
 use lrc_sample::text::render;
@@ -74,18 +75,14 @@ fn sample_command_prints<
     let lock = command_lock_of(options.ticket);
     let detail = sample_command_detail(options.outcomes);
     let Study { runs, rt, alloc } = *study;
-    let jobs = options.jobs.unwrap_or(1);
-    let sampled = sample(
-        runs,
-        rt,
+    let asked = SampledScript {
         alloc,
-        detail,
         script,
         lock,
-        jobs,
-        options.seeds,
-        progress,
-    )?;
+        detail,
+    };
+    let jobs = options.jobs.unwrap_or(1);
+    let sampled = sample(runs, rt, asked, jobs, options.seeds, progress)?;
     sample_command_writes(alloc, options.json, &sampled, out)
 }
 

@@ -194,7 +194,7 @@ fn trace_advice(
         ),
         (TraceFault::BadSize, _) => String::from_str(
             alloc,
-            "a trace has 1 to 64 processors, 1 to 1048576 addresses (pages times words), 65536 locks and flags at most;\n  without flags their number is left out",
+            "a trace has 1 to 256 processors, 1 to 1048576 addresses (pages times words), 65536 locks and flags at most;\n  without flags their number is left out",
         ),
         (TraceFault::BadPlace, _) => {
             let place = told.saturating_sub(2);

@@ -1,1 +1,2 @@
 pub mod ToldAnswers
+pub mod JsonFronts

@@ -1,5 +1,5 @@
 -- What was found of the script that the source had, and was written.
-use Rattle.std.proofs.Common.{◌≡◌, ◌≢◌, ◌<◌, ◌≤◌, ◌⊎◌, inl, inr, ap, arith, Bool, false, List, [], ℕ, Option, Result, Ok, Err, subst, sym}
+use Rattle.std.proofs.Common.{◌≡◌, ◌≢◌, ◌<◌, ◌≤◌, ◌⊎◌, arith, Bool, false, List, [], ℕ, Option, Result, Ok, Err, subst, sym}
 use Rattle.std.specs.Prelude.{IfOk, min}
 use Rattle.std.specs.Io.KnownBytes.{Keeps}
 use Rattle.std.proofs.KnownBytes.{Keeps-refl}

@@ -12,7 +12,7 @@ use Rattle.explore.specs.declared.outcomes.answer.Explored.{Explored}
 use Rattle.explore.specs.declared.outcomes.answer.Hanging.{Hanging}
 use Rattle.explore.specs.declared.outcomes.answer.Hanging.TheVariants.{Hangs}
 use Rattle.explore.specs.declared.outcomes.answer.Verdict.{Verdict}
-use Rattle.explore.specs.declared.outcomes.answer.Verdict.TheVariants.{Racy, RaceFree}
+use Rattle.explore.specs.declared.outcomes.answer.Verdict.TheVariants.{Racy}
 use Rattle.explore.specs.declared.outcomes.telling.Detail.{Detail}
 use Rattle.explore.specs.declared.outcomes.telling.Detail.TheVariants as detail
 use Rattle.explore.specs.declared.outcomes.showing.ExploredUntil.{ExploredUntil}
@@ -34,6 +34,7 @@ use Rattle.lrc_options.specs.declared.options.OutcomeDetail.TheVariants as outco
 use Rattle.lrc_program.specs.Served.{IsServedScriptRead}
 use Rattle.lrc_exploring.specs.declared.answer.ExploreAnswer.{ExploreAnswer}
 use Rattle.lrc_exploring.specs.declared.answer.ExploreAnswer.TheVariants.{Schedules, Open, Rules, Until, RulesUntil}
+use Rattle.lrc_exploring.specs.ExploreJson.{IsAllowedJson, IsAllowedShowingJson, IsExploredJson, IsOpenJson, IsShowingJson}
 
 -- what outcomes tell, by the options
 abbrev pub explore_detail : OutcomeDetail → Detail
@@ -130,9 +131,17 @@ ExploreAnswerTextWritten (Rules explored allowed shown) old new = AllowedTextWri
 ExploreAnswerTextWritten (Until explored) old new = ShowingWritten old new explored
 ExploreAnswerTextWritten (RulesUntil explored allowed shown) old new = RulesUntilTextWritten explored allowed shown old new
 
--- or JSON, of which no more is said
+-- the JSON of what was found
+abbrev pub IsExploreAnswerJson : ExploreAnswer → List ℕ → Type 0
+IsExploreAnswerJson (Schedules explored) json = IsExploredJson explored json
+IsExploreAnswerJson (Open explored gaps) json = IsOpenJson explored json
+IsExploreAnswerJson (Rules explored allowed shown) json = IsAllowedJson explored allowed json
+IsExploreAnswerJson (Until explored) json = IsShowingJson explored json
+IsExploreAnswerJson (RulesUntil explored allowed shown) json = IsAllowedShowingJson explored allowed json
+
+-- the text of it was written, or its JSON
 abbrev pub ExploreAnswerWritten : Bool → ExploreAnswer → Option (List ℕ) → Option (List ℕ) → Type 0
-ExploreAnswerWritten true answer old new = (json : List ℕ) × Appends old new json
+ExploreAnswerWritten true answer old new = (json : List ℕ) × IsExploreAnswerJson answer json × Appends old new json
 ExploreAnswerWritten false answer old new = ExploreAnswerTextWritten answer old new
 
 -- what the options ask for was looked for in the script, and what was found was written

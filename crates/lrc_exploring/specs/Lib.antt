@@ -1,2 +1,3 @@
+pub mod ExploreJson
 pub mod ExploreAnswers
 pub mod Prelude

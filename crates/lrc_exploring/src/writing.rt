@@ -5,7 +5,7 @@ ghost use Rattle.lrc_explore.specs.Prelude.{ExploreTextUnwritten};
 ghost use Rattle.lrc_explore.specs.declared.fault.ExploreFault.TheVariants as text;
 ghost use Rattle.lrc_json.specs.declared.fault.JsonFault.TheVariants.{NoMemory};
 ghost use Rattle.lrc_commands.specs.Prelude.{IsCommandExitStatusBeforeAnswer, IsCommandExitStatusOfInput};
-ghost use Rattle.lrc_exploring.specs.Prelude.{ExploreAnswerTextWritten, ExploreAnswerWritten, is_explore_answer_settled};
+ghost use Rattle.lrc_exploring.specs.Prelude.{ExploreAnswerTextWritten, ExploreAnswerWritten, IsExploreAnswerJson, is_explore_answer_settled};
 
 use crate::answer::ExploreAnswer;
 use crate::json::allowed::write_allowed_json;
@@ -60,7 +60,7 @@ fn write_json<W: Write>(
     answer: &ExploreAnswer,
     out: &mut W,
 ) -> Result<(), JsonFault>
-    ensures written { OnOk result ((text : List ℕ) × Appends (W.contents out.old) (W.contents out.new) text) }
+    ensures written { OnOk result ((json : List ℕ) × IsExploreAnswerJson answer.now json × Appends (W.contents out.old) (W.contents out.new) json) }
     ensures unwritten { result ≡ Err NoMemory → W.contents out.new ≡ W.contents out.old }
 {
     match answer {

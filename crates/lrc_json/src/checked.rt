@@ -1,7 +1,10 @@
 //! What was found of a trace: its race, its lie, and at the end what was judged.
-ghost use Rattle.std.specs.Prelude.{◌≡◌, ℕ, List, OnOk, Err};
+ghost use Rattle.std.specs.Prelude.{◌≡◌, [], ◌∷◌, ℕ, Err, IfOk, IfSome, List, None, OnOk, Some, codes, length, map};
 ghost use Rattle.std.specs.Io.KnownBytes.{Appends};
+ghost use Rattle.serde_json.specs.Data as tree;
+ghost use Rattle.lrc_check.specs.declared.checked.Lie.TheVariants as lie;
 ghost use Rattle.lrc_json.specs.declared.fault.JsonFault.TheVariants.{NoMemory};
+ghost use Rattle.lrc_json.specs.Prelude.{AddedItems, AreLinesPut, BecameMembers, HasItems, HasLieMembers, HasMembers, IsCheckedJson, IsLieLine, json_access, json_checked_end, json_circles, json_first_race, json_lie_at, json_model, json_number, json_race, json_races, json_stores, json_told_event, json_told_race, json_traffic, json_unprotected, json_unprotected_lines, json_wait, json_waits, with_apart, with_guarded, with_known_event, with_number_if, with_racing, with_racing_access, with_verdict, with_waits};
 
 use crate::events::event_json;
 use crate::fault::JsonFault;
@@ -25,7 +28,9 @@ fn put_checked_place_json(
     key: &str,
     told: ToldEvents<'_>,
     place: usize,
-) {
+)
+    ensures { BecameMembers members.old members.new (tree.put key.now (json_told_event told.entry place)) }
+{
     match told.event(place) {
         Some(event) => members.put_object(key, event_json(alloc, place, event, told.label(place))),
         None => members.put_null(key),
@@ -39,14 +44,18 @@ fn put_checked_known_json(
     key: &str,
     told: ToldEvents<'_>,
     place: usize,
-) {
+)
+    ensures { BecameMembers members.old members.new (with_known_event told.entry key.now place) }
+{
     if told.event(place).is_some() {
         put_checked_place_json(members, alloc, key, told, place);
     }
 }
 
 /// Adds the event of this store.
-fn put_checked_store_json(list: &mut Values, alloc: Global, told: ToldEvents<'_>, place: usize) {
+fn put_checked_store_json(list: &mut Values, alloc: Global, told: ToldEvents<'_>, place: usize)
+    ensures { AddedItems list.old list.new (json_told_event told.entry place ∷ []) }
+{
     match told.event(place) {
         Some(event) => list.put_object(event_json(alloc, place, event, told.label(place))),
         None => list.put_null(),
@@ -54,7 +63,9 @@ fn put_checked_store_json(list: &mut Values, alloc: Global, told: ToldEvents<'_>
 }
 
 /// The events of these stores.
-fn checked_stores_json(alloc: Global, told: ToldEvents<'_>, stores: &[FlatStore]) -> Values {
+fn checked_stores_json(alloc: Global, told: ToldEvents<'_>, stores: &[FlatStore]) -> Values
+    ensures { HasItems result (json_stores told.entry stores.now) }
+{
     let mut list = Values::new(alloc);
     for store in stores {
         put_checked_store_json(&mut list, alloc, told, store.place as usize);
@@ -63,7 +74,9 @@ fn checked_stores_json(alloc: Global, told: ToldEvents<'_>, stores: &[FlatStore]
 }
 
 /// Adds what keeps the accesses of a race apart.
-fn put_checked_apart_json(members: &mut Members, alloc: Global, apart: &RaceApart) {
+fn put_checked_apart_json(members: &mut Members, alloc: Global, apart: &RaceApart)
+    ensures { BecameMembers members.old members.new (with_apart apart.now) }
+{
     if let Some(heard) = apart.heard {
         members.put_number("heard", heard);
     }
@@ -80,7 +93,9 @@ fn checked_race_json(
     told: ToldEvents<'_>,
     race: (usize, usize),
     apart: &Option<RaceApart>,
-) -> Members {
+) -> Members
+    ensures { HasMembers result (json_race told.entry race apart.now) }
+{
     let mut members = Members::telling(alloc, "race");
     put_checked_known_json(&mut members, alloc, "first", told, race.0);
     put_checked_known_json(&mut members, alloc, "second", told, race.1);
@@ -91,7 +106,9 @@ fn checked_race_json(
 }
 
 /// A lie at this place, for a reason of this name.
-fn checked_lie_at_json(alloc: Global, told: ToldEvents<'_>, place: usize, reason: &str) -> Members {
+fn checked_lie_at_json(alloc: Global, told: ToldEvents<'_>, place: usize, reason: &str) -> Members
+    ensures { HasMembers result (json_lie_at told.entry place reason.now) }
+{
     let mut members = Members::telling(alloc, "lie");
     put_checked_place_json(&mut members, alloc, "event", told, place);
     members.put_text("reason", reason);
@@ -99,7 +116,9 @@ fn checked_lie_at_json(alloc: Global, told: ToldEvents<'_>, place: usize, reason
 }
 
 /// An event that may not follow.
-fn checked_ill_formed_json(alloc: Global, told: ToldEvents<'_>, fault: IllFormed) -> Members {
+fn checked_ill_formed_json(alloc: Global, told: ToldEvents<'_>, fault: IllFormed) -> Members
+    ensures { HasLieMembers told.entry (lie.IllFormed fault) result }
+{
     let mut members = checked_lie_at_json(alloc, told, fault.place, "form");
     members.put_string("because", verdict_reason_text(alloc, fault.why));
     members
@@ -110,7 +129,9 @@ fn checked_unexplained_json(
     alloc: Global,
     told: ToldEvents<'_>,
     load: &Unexplained,
-) -> Result<Members, AllocError> {
+) -> Result<Members, AllocError>
+    ensures { IfOk result (HasLieMembers told.entry (lie.Unexplained load.now)) }
+{
     let AnswersTold { zero, stores } = verdict_text_answers(alloc, &load.permitted)?;
     let mut members = checked_lie_at_json(alloc, told, load.place, "answer");
     members.put_flag("zero", zero);
@@ -119,7 +140,9 @@ fn checked_unexplained_json(
 }
 
 /// A fetch that counts what it should not.
-fn checked_miscount_json(alloc: Global, told: ToldEvents<'_>, fetch: Miscounted) -> Members {
+fn checked_miscount_json(alloc: Global, told: ToldEvents<'_>, fetch: Miscounted) -> Members
+    ensures { HasLieMembers told.entry (lie.Miscounted fetch) result }
+{
     let mut members = checked_lie_at_json(alloc, told, fetch.place, "count");
     members.put_number("writers", fetch.writers);
     members.put_number("records", fetch.records);
@@ -128,8 +151,10 @@ fn checked_miscount_json(alloc: Global, told: ToldEvents<'_>, fetch: Miscounted)
 }
 
 /// The lie, and why it is one.
-fn checked_lie_json(alloc: Global, told: ToldEvents<'_>, lie: &Lie) -> Result<Members, AllocError> {
-    match lie {
+fn checked_lie_json(alloc: Global, told: ToldEvents<'_>, found: &Lie) -> Result<Members, AllocError>
+    ensures { IfOk result (HasLieMembers told.entry found.now) }
+{
+    match found {
         Lie::IllFormed(fault) => Ok(checked_ill_formed_json(alloc, told, *fault)),
         Lie::Unexplained(load) => checked_unexplained_json(alloc, told, load),
         Lie::Miscounted(fetch) => Ok(checked_miscount_json(alloc, told, *fetch)),
@@ -137,7 +162,9 @@ fn checked_lie_json(alloc: Global, told: ToldEvents<'_>, lie: &Lie) -> Result<Me
 }
 
 /// The name of a model.
-fn checked_model_json(model: MemoryModel) -> &'static str {
+fn checked_model_json(model: MemoryModel) -> &'static str
+    ensures { result.now ≡ json_model model }
+{
     match model {
         MemoryModel::RaceFree => "race-free",
         MemoryModel::HappensBefore => "happens-before",
@@ -147,7 +174,9 @@ fn checked_model_json(model: MemoryModel) -> &'static str {
 }
 
 /// Adds the traffic.
-fn put_checked_traffic_json(members: &mut Members, alloc: Global, traffic: Traffic) {
+fn put_checked_traffic_json(members: &mut Members, alloc: Global, traffic: Traffic)
+    ensures { BecameMembers members.old members.new (tree.put (codes "traffic") (tree.object (json_traffic traffic))) }
+{
     let Traffic {
         messages,
         records,
@@ -161,7 +190,9 @@ fn put_checked_traffic_json(members: &mut Members, alloc: Global, traffic: Traff
 }
 
 /// Adds how the judging ended: of a faithful trace what wasn't judged of it, and its traffic.
-fn put_checked_verdict_json(members: &mut Members, alloc: Global, verdict: &TraceVerdict) {
+fn put_checked_verdict_json(members: &mut Members, alloc: Global, verdict: &TraceVerdict)
+    ensures { BecameMembers members.old members.new (with_verdict verdict.now) }
+{
     match verdict {
         TraceVerdict::Faithful { traffic, unjudged } => {
             members.put_flag("faithful", true);
@@ -174,7 +205,9 @@ fn put_checked_verdict_json(members: &mut Members, alloc: Global, verdict: &Trac
 }
 
 /// Adds a lock that is waited for, and who holds it, if somebody does.
-fn put_checked_lock_json(members: &mut Members, lock: usize, holder: Option<usize>) {
+fn put_checked_lock_json(members: &mut Members, lock: usize, holder: Option<usize>)
+    ensures { BecameMembers members.old members.new (λ ms. with_number_if (codes "holder") holder (tree.put (codes "lock") (json_number lock) ms)) }
+{
     members.put_number("lock", lock);
     if let Some(holder) = holder {
         members.put_number("holder", holder);
@@ -182,7 +215,9 @@ fn put_checked_lock_json(members: &mut Members, lock: usize, holder: Option<usiz
 }
 
 /// For what the processor waits.
-fn checked_wait_json(alloc: Global, processor: usize, wait: &Wait) -> Members {
+fn checked_wait_json(alloc: Global, processor: usize, wait: &Wait) -> Members
+    ensures { HasMembers result (json_wait processor wait.now) }
+{
     let mut members = Members::new(alloc);
     members.put_number("processor", processor);
     match wait {
@@ -198,7 +233,9 @@ fn checked_wait_json(alloc: Global, processor: usize, wait: &Wait) -> Members {
 }
 
 /// For what each processor waits that does.
-fn checked_each_wait_json(alloc: Global, waits: &[Wait]) -> Values {
+fn checked_each_wait_json(alloc: Global, waits: &[Wait]) -> Values
+    ensures { HasItems result (json_waits 0 waits.now) }
+{
     let mut list = Values::new(alloc);
     for (processor, wait) in waits.iter().enumerate() {
         if !matches!(wait, Wait::Nothing) {
@@ -209,7 +246,9 @@ fn checked_each_wait_json(alloc: Global, waits: &[Wait]) -> Values {
 }
 
 /// The circles of processors that wait for each other.
-fn checked_circles_json(alloc: Global, circles: &[Vec<usize>]) -> Values {
+fn checked_circles_json(alloc: Global, circles: &[Vec<usize>]) -> Values
+    ensures { HasItems result (json_circles circles.now) }
+{
     let mut list = Values::new(alloc);
     for circle in circles {
         list.put_list(Values::of_numbers(alloc, circle));
@@ -223,7 +262,9 @@ fn put_checked_waits_json(
     alloc: Global,
     waits: &[Wait],
     circles: &[Vec<usize>],
-) {
+)
+    ensures { BecameMembers members.old members.new (with_waits (json_waits 0 waits.now) circles.now) }
+{
     let list = checked_each_wait_json(alloc, waits);
     if !list.is_empty() {
         members.put_list("waits", list);
@@ -234,7 +275,9 @@ fn put_checked_waits_json(
 }
 
 /// Adds how many words of a faithful trace race, if all are told, and how many of them are left out.
-fn put_checked_racing_json(members: &mut Members, rules: Rules, judged: &JudgedTrace) {
+fn put_checked_racing_json(members: &mut Members, rules: Rules, judged: &JudgedTrace)
+    ensures { BecameMembers members.old members.new (with_racing rules judged.now) }
+{
     if rules.all_races && matches!(judged.found.verdict, TraceVerdict::Faithful { .. }) {
         members.put_number("racing", judged.racing.len());
         members.put_number("left_out", judged.races.left_out);
@@ -242,7 +285,9 @@ fn put_checked_racing_json(members: &mut Members, rules: Rules, judged: &JudgedT
 }
 
 /// What was judged, and how that ended.
-fn checked_summary_json(alloc: Global, rules: Rules, judged: &JudgedTrace) -> Members {
+fn checked_summary_json(alloc: Global, rules: Rules, judged: &JudgedTrace) -> Members
+    ensures { HasMembers result (json_checked_end rules judged.now) }
+{
     let mut members = Members::telling(alloc, "end");
     members.put_number("events", judged.found.count);
     members.put_text("model", checked_model_json(rules.model));
@@ -258,7 +303,9 @@ fn checked_summary_json(alloc: Global, rules: Rules, judged: &JudgedTrace) -> Me
 }
 
 /// The access of the trace: as its event, or if that isn't at hand any more by its place and its processor alone.
-fn checked_access_json(alloc: Global, told: ToldEvents<'_>, access: PairedAccess) -> Members {
+fn checked_access_json(alloc: Global, told: ToldEvents<'_>, access: PairedAccess) -> Members
+    ensures { HasMembers result (json_access told.entry access) }
+{
     let PairedAccess { place, processor } = access;
     if let Some(event) = told.event(place) {
         return event_json(alloc, place, event, told.label(place));
@@ -275,7 +322,9 @@ fn put_checked_guarded_json(
     alloc: Global,
     told: ToldEvents<'_>,
     guarded: Guarded,
-) {
+)
+    ensures { BecameMembers members.old members.new (with_guarded told.entry guarded) }
+{
     let Guarded { accesses, lock } = guarded;
     let mut list = Values::new(alloc);
     list.put_object(checked_access_json(alloc, told, accesses.0));
@@ -286,7 +335,9 @@ fn put_checked_guarded_json(
 
 /// The word that needs a lock and has none: at times, or never, and then it is handed over. With two accesses of it that hold no
 /// lock in common, and which hold one, if any do.
-fn checked_unprotected_json(alloc: Global, told: ToldEvents<'_>, word: Unprotected) -> Members {
+fn checked_unprotected_json(alloc: Global, told: ToldEvents<'_>, word: Unprotected) -> Members
+    ensures { HasMembers result (json_unprotected told.entry word) }
+{
     let name = match word.guarded {
         Some(_) => "unprotected",
         None => "handed",
@@ -307,7 +358,9 @@ fn put_checked_racing_access_json(
     alloc: Global,
     key: &str,
     access: &Option<KnownEvent>,
-) {
+)
+    ensures { BecameMembers members.old members.new (with_racing_access key.now access.now) }
+{
     if let Some(known) = access {
         members.put_object(
             key,
@@ -317,7 +370,9 @@ fn put_checked_racing_access_json(
 }
 
 /// A race that is told with others; of the first one of the trace what keeps its accesses apart, too, if that is known.
-fn checked_told_race_json(alloc: Global, judged: &JudgedTrace, race: &ToldRace) -> Members {
+fn checked_told_race_json(alloc: Global, judged: &JudgedTrace, race: &ToldRace) -> Members
+    ensures { HasMembers result (json_told_race judged.now race.now) }
+{
     let mut members = Members::telling(alloc, "race");
     members.put_number("address", race.word.address);
     members.put_number("words", race.words);
@@ -331,20 +386,56 @@ fn checked_told_race_json(alloc: Global, judged: &JudgedTrace, race: &ToldRace) 
     members
 }
 
-/// Adds the lines of the races: of the first one, or of all that are told.
-fn put_checked_races_json(
+/// Adds the lines of all races that are told.
+fn put_checked_told_races_json(lines: &mut JsonLines, alloc: Global, judged: &JudgedTrace)
+    ensures { AreLinesPut lines.old lines.new (json_races judged.now judged.now.races.races.items) }
+{
+    for race in &judged.races.races {
+        lines.put(checked_told_race_json(alloc, judged, race));
+    }
+}
+
+/// Adds the line of the first race, if not all words that race were asked for.
+fn put_checked_first_race_json(
     lines: &mut JsonLines,
     alloc: Global,
     told: ToldEvents<'_>,
     judged: &JudgedTrace,
-) {
-    for race in &judged.races.races {
-        lines.put(checked_told_race_json(alloc, judged, race));
-    }
-    if judged.racing.is_empty()
-        && let Some(race) = judged.found.race
+)
+    ensures { AreLinesPut lines.old lines.new (json_first_race told.entry judged.now.found.race judged.now.race (length judged.now.racing.items)) }
+{
+    if let Some(race) = judged.found.race
+        && judged.racing.is_empty()
     {
         lines.put(checked_race_json(alloc, told, race, &judged.race));
+    }
+}
+
+/// Adds the line of the lie, if it is one.
+fn put_checked_lie_json(
+    lines: &mut JsonLines,
+    alloc: Global,
+    told: ToldEvents<'_>,
+    verdict: &TraceVerdict,
+)
+    ensures { lines.new.fault ≡ None → (bytes : List ℕ) × IsLieLine told.entry verdict.now bytes × AreLinesPut lines.old lines.new bytes }
+{
+    if let TraceVerdict::Lie(lie) = verdict {
+        lines.put_made(checked_lie_json(alloc, told, lie));
+    }
+}
+
+/// Adds the lines of words that need a lock and have none.
+fn put_checked_unprotected_json(
+    lines: &mut JsonLines,
+    alloc: Global,
+    told: ToldEvents<'_>,
+    words: &[Unprotected],
+)
+    ensures { AreLinesPut lines.old lines.new (json_unprotected_lines told.entry words.now) }
+{
+    for word in words {
+        lines.put(checked_unprotected_json(alloc, told, *word));
     }
 }
 
@@ -355,14 +446,13 @@ fn put_checked_lines_json(
     told: ToldEvents<'_>,
     rules: Rules,
     judged: &JudgedTrace,
-) {
-    put_checked_races_json(lines, alloc, told, judged);
-    if let TraceVerdict::Lie(lie) = &judged.found.verdict {
-        lines.put_made(checked_lie_json(alloc, told, lie));
-    }
-    for word in &judged.unprotected {
-        lines.put(checked_unprotected_json(alloc, told, *word));
-    }
+)
+    ensures { lines.new.fault ≡ None → (bytes : List ℕ) × IsCheckedJson told.entry rules judged.now bytes × AreLinesPut lines.old lines.new bytes }
+{
+    put_checked_told_races_json(lines, alloc, judged);
+    put_checked_first_race_json(lines, alloc, told, judged);
+    put_checked_lie_json(lines, alloc, told, &judged.found.verdict);
+    put_checked_unprotected_json(lines, alloc, told, &judged.unprotected);
     lines.put(checked_summary_json(alloc, rules, judged));
 }
 
@@ -381,7 +471,7 @@ pub fn write_checked_json<W: Write>(
     judged: &JudgedTrace,
     out: &mut W,
 ) -> Result<(), JsonFault>
-    ensures written { OnOk result ((text : List ℕ) × Appends (W.contents out.old) (W.contents out.new) text) }
+    ensures written { OnOk result ((text : List ℕ) × IsCheckedJson told.entry rules judged.now text × Appends (W.contents out.old) (W.contents out.new) text) }
     ensures unwritten { result ≡ Err NoMemory → W.contents out.new ≡ W.contents out.old }
 {
     let mut lines = JsonLines::new(alloc);

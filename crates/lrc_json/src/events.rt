@@ -1,24 +1,23 @@
 //! An event as an object: its `place`, `processor` and `kind`, and what the kind names.
+ghost use Rattle.lrc_json.specs.Prelude.{BecameMembers, HasItems, HasMembers, json_event, json_events, with_access_event, with_event, with_fetch_event, with_numbered_event};
 
 use crate::members::{Members, Values};
 use journal::{Event, Kind};
 use std::alloc::Global;
 
 /// Adds an access's address and word.
-fn put_access_event_json(members: &mut Members, kind: &str, address: usize, word: u32) {
+fn put_access_event_json(members: &mut Members, kind: &str, address: usize, word: u32)
+    ensures { BecameMembers members.old members.new (with_access_event kind.now address word) }
+{
     members.put_text("kind", kind);
     members.put_number("address", address);
     members.put_word("value", word);
 }
 
 /// Adds what a fetch brought.
-fn put_fetch_event_json(
-    members: &mut Members,
-    page: usize,
-    writers: u32,
-    records: u32,
-    words: u32,
-) {
+fn put_fetch_event_json(members: &mut Members, page: usize, writers: u32, records: u32, words: u32)
+    ensures { BecameMembers members.old members.new (with_fetch_event page writers records words) }
+{
     members.put_text("kind", "fetch");
     members.put_number("page", page);
     members.put_word("writers", writers);
@@ -27,13 +26,17 @@ fn put_fetch_event_json(
 }
 
 /// Adds a kind that names a lock or a flag, by this key.
-fn put_numbered_event_json(members: &mut Members, kind: &str, key: &str, number: usize) {
+fn put_numbered_event_json(members: &mut Members, kind: &str, key: &str, number: usize)
+    ensures { BecameMembers members.old members.new (with_numbered_event kind.now key.now number) }
+{
     members.put_text("kind", kind);
     members.put_number(key, number);
 }
 
 /// Adds what an event did.
-fn put_event_kind_json(members: &mut Members, kind: Kind) {
+fn put_event_kind_json(members: &mut Members, kind: Kind)
+    ensures { BecameMembers members.old members.new (with_event kind) }
+{
     match kind {
         Kind::Load(address, word) => put_access_event_json(members, "load", address, word),
         Kind::Store(address, word) => put_access_event_json(members, "store", address, word),
@@ -55,7 +58,9 @@ fn put_event_kind_json(members: &mut Members, kind: Kind) {
 }
 
 /// The event at this place, with its label, if it has one. Bytes of the label that are no UTF-8 become U+FFFD.
-pub fn event_json(alloc: Global, place: usize, event: Event, label: &[u8]) -> Members {
+pub fn event_json(alloc: Global, place: usize, event: Event, label: &[u8]) -> Members
+    ensures { HasMembers result (json_event place event label.now) }
+{
     let mut members = Members::new(alloc);
     members.put_number("place", place);
     members.put_number("processor", event.processor);
@@ -67,7 +72,9 @@ pub fn event_json(alloc: Global, place: usize, event: Event, label: &[u8]) -> Me
 }
 
 /// These events, without labels.
-pub fn events_json(alloc: Global, events: &[Event]) -> Values {
+pub fn events_json(alloc: Global, events: &[Event]) -> Values
+    ensures { HasItems result (json_events 0 events.now) }
+{
     let mut list = Values::new(alloc);
     for (place, event) in events.iter().enumerate() {
         list.put_object(event_json(alloc, place, *event, b""));

@@ -23,7 +23,7 @@ pub record IsOptionRangeWritten (text : List ℕ) (x : EventRange) : Type 0 wher
 
 -- processors of a trace that is told
 abbrev pub most_trace_processors : ℕ
-most_trace_processors = 64
+most_trace_processors = 256
 
 -- each of these words is a number below n, and the processors of these numbers are marked
 pub record AreProcessorsWritten (n : ℕ) (words : List (List ℕ)) (marks : List Bool) : Type 0 where

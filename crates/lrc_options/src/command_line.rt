@@ -175,7 +175,7 @@ fn command_line_processors(matches: &ArgMatches<'_>) -> Option<[bool; MOST_TRACE
 /// What is wanted of `--processors`, in words.
 fn command_line_processors_wanted(matches: &ArgMatches<'_>) -> &'static str {
     if is_in_words(matches, "trace") {
-        "numbers from 0 to 63, as 2 or 0,2"
+        "numbers from 0 to 255, as 2 or 0,2"
     } else {
         "numbers from 0 to 15, as 2 or 0,2"
     }
@@ -433,6 +433,7 @@ fn command_line_explore_options(
         most: command_line_most(matches),
         until,
         outcomes: command_line_detail(matches),
+        jobs: command_line_size(matches, "jobs", MOST_JOBS),
         json: command_line_wants_json(matches),
     })
 }
@@ -671,7 +672,7 @@ fn command_line_study_answer(
 /// `lrc explain [FILE] [--seed N | --schedule S] [--lock KIND] [--svg | --html] [--state] [--events A..B] [--processors P,..]`,
 /// `lrc explain [FILE] --trace [--model NAME] [--strict] [--lax] [--unfinished]` with the same to say what is shown,
 /// `lrc sample [FILE] [--seeds N] [--lock KIND] [--outcomes WHAT] [--jobs N] [--json]`,
-/// `lrc explore [FILE] [--most N] [--until A=V,..] [--outcomes WHAT] [--json]`,
+/// `lrc explore [FILE] [--most N] [--until A=V,..] [--outcomes WHAT] [--jobs N] [--json]`,
 /// `lrc check [FILE] [--model NAME] [--strict] [--lax] [--unfinished] [--race-is-error] [--locksets WHICH] [--json]` with
 /// `[--program [--most N] [--suppress FILE]]` for all races,
 /// `lrc draw [PATTERN] [--seed N] [--processors N] [--pages N] [--words N] [--locks N] [--flags N] [--length N]`,

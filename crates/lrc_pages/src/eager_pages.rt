@@ -2,6 +2,7 @@
 
 use crate::heard_stores::lengthen_row;
 use crate::page_uses::page_of_word;
+use crate::processor_set::ProcessorSet;
 use journal::{Event, Kind};
 use std::alloc::{AllocError, Global};
 
@@ -24,18 +25,18 @@ pub struct EagerTraffic {
     pub words: u64,
 }
 
-/// What is kept of a page: processors, one bit each.
+/// What is kept of a page.
 #[derive(Clone, Copy, Default, Drop)]
 struct HeldPage {
     /// Who has a copy.
-    holders: u64,
+    holders: ProcessorSet,
     /// Who has stored in it since its last release.
-    dirty: u64,
+    dirty: ProcessorSet,
     /// Whether some release told of it.
     is_released: bool,
 }
 
-/// A trace under eager release consistency, on pages of one size. It takes 24 bytes for each page, and 8 for each page and
+/// A trace under eager release consistency, on pages of one size. It takes 72 bytes for each page, and 8 for each page and
 /// processor that stores in it from one release to the next.
 #[derive(Drop)]
 pub(crate) struct EagerPages {
@@ -44,16 +45,6 @@ pub(crate) struct EagerPages {
     /// By processors: the pages in which it has stored since its last release.
     stored: Vec<Vec<usize>>,
     traffic: EagerTraffic,
-}
-
-/// The bit of the processor.
-fn mark_of(processor: usize) -> u64 {
-    1u64 << (processor % 64)
-}
-
-/// How many processors these are.
-fn count_of(marks: u64) -> u64 {
-    u64::from(marks.count_ones())
 }
 
 impl EagerTraffic {
@@ -103,11 +94,10 @@ impl EagerPages {
         let page = page_of_word(address, self.words);
         lengthen_row(&mut self.pages, page, HeldPage::default())?;
         if let Some(held) = self.pages.get_mut(page) {
-            let mark = mark_of(processor);
-            if held.holders & mark == 0 && held.is_released {
+            if !held.holders.has(processor) && held.is_released {
                 self.traffic.fetch(self.words);
             }
-            held.holders |= mark;
+            held.holders.add(processor);
         }
         Ok(())
     }
@@ -119,12 +109,11 @@ impl EagerPages {
             self.stored.push(Vec::new(alloc))?;
         }
         let page = page_of_word(address, self.words);
-        let mark = mark_of(processor);
         if let Some(held) = self.pages.get_mut(page)
             && let Some(stored) = self.stored.get_mut(processor)
-            && held.dirty & mark == 0
+            && !held.dirty.has(processor)
         {
-            held.dirty |= mark;
+            held.dirty.add(processor);
             stored.push(page)?;
         }
         Ok(())
@@ -135,21 +124,21 @@ impl EagerPages {
         let Some(stored) = self.stored.get_mut(processor) else {
             return;
         };
-        let mark = mark_of(processor);
-        let mut told = 0;
+        let mut told = ProcessorSet::default();
         for page in stored.iter() {
             if let Some(held) = self.pages.get_mut(*page) {
-                if held.holders & mark == 0 {
+                if !held.holders.has(processor) {
                     self.traffic.fetch(self.words);
                 }
-                told |= held.holders & !mark;
-                held.holders = mark;
-                held.dirty &= !mark;
+                told.join(&held.holders);
+                held.holders = ProcessorSet::of(processor);
+                held.dirty.remove(processor);
                 held.is_released = true;
             }
         }
         stored.clear();
-        let notices = count_of(told).saturating_mul(2);
+        told.remove(processor);
+        let notices = told.count().saturating_mul(2);
         self.traffic.notices = self.traffic.notices.saturating_add(notices);
     }
 

@@ -4,14 +4,16 @@ use journal::{Event, Kind};
 use std::alloc::{AllocError, Global};
 use std::collections::VecDeque;
 
-/// The most processors of a trace.
-const MOST: usize = 64;
-
 /// How many stores are kept at least before some are let go of.
 const FEW_STORES: usize = 4096;
 
-/// Of each processor how many of its stores are known.
-type StoreCut = [usize; MOST];
+/// In rows, of each processor how many of its stores are known.
+#[derive(Drop)]
+struct StoreCuts {
+    /// How many processors there are.
+    processors: usize,
+    entries: Vec<usize>,
+}
 
 /// What one processor has stored.
 #[derive(Drop)]
@@ -29,9 +31,9 @@ struct StoreLog {
 }
 
 /// A barrier episode: what those know that arrived, and how many have departed.
-#[derive(Clone, Copy, Drop)]
+#[derive(Drop)]
 struct Episode {
-    known: StoreCut,
+    known: Vec<usize>,
     departures: usize,
 }
 
@@ -48,18 +50,20 @@ pub(crate) struct Heard {
 /// it is kept that it was made until all processors have heard of it.
 ///
 /// It takes 8 bytes for each store that some processor has still to hear of, and 8 for each word and processor up to the last word
-/// stored to. Each processor, lock, flag and open episode takes 512.
+/// stored to. Each processor, lock, flag and open episode takes 8 for each processor.
 #[derive(Drop)]
 pub(crate) struct HeardStores {
     logs: Vec<StoreLog>,
     /// What each processor knows of the others.
-    known: Vec<StoreCut>,
+    known: StoreCuts,
     /// How often each has taken.
     takes: Vec<u32>,
     /// By processors, and then by words: the take by which it last heard of another's store there; 0 if it never did.
     heard: Vec<Vec<u32>>,
-    locks: Vec<StoreCut>,
-    flags: Vec<StoreCut>,
+    locks: StoreCuts,
+    flags: StoreCuts,
+    /// What the processor at hand is told.
+    told: Vec<usize>,
     episodes: VecDeque<Episode>,
     /// How many episodes were let go of.
     past_episodes: usize,
@@ -80,10 +84,87 @@ pub(crate) fn lengthen_row<T: Clone + Drop>(
 }
 
 /// The greater of each number.
-fn join_cut(cut: &mut StoreCut, other: &StoreCut) {
+fn join_cut(cut: &mut [usize], other: &[usize]) {
     for (mine, theirs) in cut.iter_mut().zip(other.iter()) {
         *mine = (*mine).max(*theirs);
     }
+}
+
+/// The number at this place of a cut; 0 past the end.
+fn stores_at(cut: &[usize], place: usize) -> usize {
+    match cut.get(place) {
+        Some(number) => *number,
+        None => 0,
+    }
+}
+
+/// Puts the cut in the place of what stood here. The only error is running out of memory.
+fn copy_cut(to: &mut Vec<usize>, cut: &[usize]) -> Result<(), AllocError> {
+    to.clear();
+    to.extend_from_slice(cut)?;
+    Ok(())
+}
+
+impl StoreCuts {
+    /// No row yet.
+    fn new(alloc: Global) -> StoreCuts {
+        StoreCuts {
+            processors: 0,
+            entries: Vec::new(alloc),
+        }
+    }
+
+    /// Where the row begins and ends.
+    fn ends(&self, row: usize) -> (usize, usize) {
+        let from = row.saturating_mul(self.processors);
+        (from, from.saturating_add(self.processors))
+    }
+
+    /// Makes the row if there is none, with zeros. The only error is running out of memory.
+    fn make(&mut self, row: usize) -> Result<(), AllocError> {
+        let (_, to) = self.ends(row);
+        if self.entries.len() < to {
+            self.entries.resize(to, 0)?;
+        }
+        Ok(())
+    }
+
+    /// The row; without an entry if there is none.
+    fn row(&self, row: usize) -> &[usize] {
+        let (from, to) = self.ends(row);
+        self.entries.get(from..to).unwrap_or(&[])
+    }
+
+    /// The row, to be changed, if there is one.
+    fn row_mut(&mut self, row: usize) -> Option<&mut [usize]> {
+        let (from, to) = self.ends(row);
+        self.entries.as_mut_slice().get_mut(from..to)
+    }
+
+    /// Joins the cut into the row, which is made if there is none. The only error is running out of memory.
+    fn join(&mut self, row: usize, cut: &[usize]) -> Result<(), AllocError> {
+        self.make(row)?;
+        if let Some(kept) = self.row_mut(row) {
+            join_cut(kept, cut);
+        }
+        Ok(())
+    }
+}
+
+/// The barrier episode of this place among those that aren't over, of so many processors. The only error is running out of memory.
+fn episode_at(
+    episodes: &mut VecDeque<Episode>,
+    alloc: Global,
+    processors: usize,
+    place: usize,
+) -> Result<Option<&mut Episode>, AllocError> {
+    for _ in episodes.len()..place.saturating_add(1) {
+        episodes.push_back(Episode {
+            known: vec![in alloc; 0; processors]?,
+            departures: 0,
+        })?;
+    }
+    Ok(episodes.get_mut(place))
 }
 
 /// The number at this place; 0 past the end.
@@ -165,11 +246,12 @@ impl HeardStores {
     pub(crate) fn new(alloc: Global) -> HeardStores {
         HeardStores {
             logs: Vec::new(alloc),
-            known: Vec::new(alloc),
+            known: StoreCuts::new(alloc),
             takes: Vec::new(alloc),
             heard: Vec::new(alloc),
-            locks: Vec::new(alloc),
-            flags: Vec::new(alloc),
+            locks: StoreCuts::new(alloc),
+            flags: StoreCuts::new(alloc),
+            told: Vec::new(alloc),
             episodes: VecDeque::new(alloc),
             past_episodes: 0,
             arrived: Vec::new(alloc),
@@ -191,9 +273,12 @@ impl HeardStores {
 
     /// Makes room for these processors. The only error is running out of memory.
     fn begin(&mut self, alloc: Global, processors: usize) -> Result<(), AllocError> {
-        for _ in self.logs.len()..processors {
+        for processor in self.logs.len()..processors {
+            self.known.processors = processors;
+            self.locks.processors = processors;
+            self.flags.processors = processors;
             self.logs.push(StoreLog::new(alloc))?;
-            self.known.push([0; MOST])?;
+            self.known.make(processor)?;
             self.takes.push(0)?;
             self.heard.push(Vec::new(alloc))?;
             self.arrived.push(0)?;
@@ -202,25 +287,22 @@ impl HeardStores {
         Ok(())
     }
 
-    /// What the processor knows, its own stores with it; its interval is closed.
-    fn close(&mut self, processor: usize) -> StoreCut {
-        let mut cut = match self.known.get(processor) {
-            Some(known) => *known,
-            None => [0; MOST],
-        };
-        if let Some(log) = self.logs.get_mut(processor) {
+    /// The processor's interval is closed: it knows its own stores.
+    fn close(&mut self, processor: usize) {
+        if let Some(log) = self.logs.get_mut(processor)
+            && let Some(known) = self.known.row_mut(processor)
+        {
             log.closed = log.closed.saturating_add(1);
-            if let Some(own) = cut.get_mut(processor) {
+            if let Some(own) = known.get_mut(processor) {
                 *own = log.end();
             }
         }
-        cut
     }
 
-    /// Tells the processor of these stores. The only error is running out of memory.
-    fn take(&mut self, processor: usize, cut: &StoreCut) -> Result<(), AllocError> {
+    /// Tells the processor of the stores that are to be told. The only error is running out of memory.
+    fn take(&mut self, processor: usize) -> Result<(), AllocError> {
         let (Some(known), Some(heard), Some(take)) = (
-            self.known.get_mut(processor),
+            self.known.row_mut(processor),
             self.heard.get_mut(processor),
             self.takes.get_mut(processor),
         ) else {
@@ -229,56 +311,58 @@ impl HeardStores {
         *take = (*take).saturating_add(1);
         for (by, log) in self.logs.iter().enumerate() {
             if by != processor {
-                log.tell(known[by % MOST], cut[by % MOST], heard, *take)?;
+                log.tell(
+                    stores_at(known, by),
+                    stores_at(&self.told, by),
+                    heard,
+                    *take,
+                )?;
             }
         }
-        join_cut(known, cut);
+        join_cut(known, &self.told);
         Ok(())
     }
 
-    /// What the barrier episode knows of this number, if it isn't over. The only error is running out of memory.
-    fn episode(&mut self, number: usize) -> Result<Option<&mut Episode>, AllocError> {
-        let place = number.saturating_sub(self.past_episodes);
-        for _ in self.episodes.len()..place.saturating_add(1) {
-            self.episodes.push_back(Episode {
-                known: [0; MOST],
-                departures: 0,
-            })?;
-        }
-        Ok(self.episodes.get_mut(place))
+    /// Tells the processor what the lock hands over. The only error is running out of memory.
+    fn acquire(&mut self, processor: usize, lock: usize) -> Result<(), AllocError> {
+        copy_cut(&mut self.told, self.locks.row(lock))?;
+        self.take(processor)
+    }
+
+    /// Tells the processor what the flag tells. The only error is running out of memory.
+    fn awaits(&mut self, processor: usize, flag: usize) -> Result<(), AllocError> {
+        copy_cut(&mut self.told, self.flags.row(flag))?;
+        self.take(processor)
     }
 
     /// The processor arrives at the barrier. The only error is running out of memory.
-    fn arrive(&mut self, processor: usize) -> Result<(), AllocError> {
-        let cut = self.close(processor);
-        let number = match self.arrived.get_mut(processor) {
-            Some(arrived) => {
-                *arrived = (*arrived).saturating_add(1);
-                *arrived
-            }
-            None => return Ok(()),
+    fn arrive(&mut self, alloc: Global, processor: usize) -> Result<(), AllocError> {
+        self.close(processor);
+        let Some(arrived) = self.arrived.get_mut(processor) else {
+            return Ok(());
         };
-        if let Some(episode) = self.episode(number - 1)? {
-            join_cut(&mut episode.known, &cut);
+        let place = (*arrived).saturating_sub(self.past_episodes);
+        *arrived = (*arrived).saturating_add(1);
+        let processors = self.known.processors;
+        if let Some(episode) = episode_at(&mut self.episodes, alloc, processors, place)? {
+            join_cut(&mut episode.known, self.known.row(processor));
         }
         Ok(())
     }
 
     /// It departs. The only error is running out of memory.
-    fn depart(&mut self, processor: usize) -> Result<(), AllocError> {
-        let number = match self.departed.get_mut(processor) {
-            Some(departed) => {
-                *departed = (*departed).saturating_add(1);
-                *departed
-            }
-            None => return Ok(()),
+    fn depart(&mut self, alloc: Global, processor: usize) -> Result<(), AllocError> {
+        let Some(departed) = self.departed.get_mut(processor) else {
+            return Ok(());
         };
-        let mut cut = [0; MOST];
-        if let Some(episode) = self.episode(number - 1)? {
+        let place = (*departed).saturating_sub(self.past_episodes);
+        *departed = (*departed).saturating_add(1);
+        let processors = self.known.processors;
+        if let Some(episode) = episode_at(&mut self.episodes, alloc, processors, place)? {
             episode.departures = episode.departures.saturating_add(1);
-            cut = episode.known;
+            copy_cut(&mut self.told, &episode.known)?;
         }
-        self.take(processor, &cut)?;
+        self.take(processor)?;
         self.let_go_of_episodes();
         Ok(())
     }
@@ -305,12 +389,24 @@ impl HeardStores {
             return;
         }
         let mut known = log.end();
-        for (by, cut) in self.known.iter().enumerate() {
+        for by in 0..self.known.processors {
             if by != processor {
-                known = known.min(cut[processor % MOST]);
+                known = known.min(stores_at(self.known.row(by), processor));
             }
         }
         log.let_go(known);
+    }
+
+    /// The processor closes its interval and lets others on. The only error is running out of memory.
+    fn hand_over(&mut self, processor: usize, kind: Kind) -> Result<(), AllocError> {
+        self.close(processor);
+        self.let_go(processor);
+        let known = self.known.row(processor);
+        match kind {
+            Kind::Release(lock) => self.locks.join(lock, known),
+            Kind::Set(flag) => self.flags.join(flag, known),
+            _ => Ok(()),
+        }
     }
 
     /// Takes note of the event, which comes next, of a trace of so many processors. The only error is running out of memory.
@@ -320,58 +416,26 @@ impl HeardStores {
         processors: usize,
         event: Event,
     ) -> Result<(), AllocError> {
-        self.begin(alloc, processors.min(MOST))?;
+        self.begin(alloc, processors)?;
         let processor = event.processor;
         match event.kind {
             Kind::Store(address, _) => match self.logs.get_mut(processor) {
                 Some(log) => log.store(address),
                 None => Ok(()),
             },
-            Kind::Release(lock) => {
-                let cut = self.close(processor);
-                self.let_go(processor);
-                hand_over(&mut self.locks, lock, &cut)
-            }
-            Kind::Set(flag) => {
-                let cut = self.close(processor);
-                self.let_go(processor);
-                hand_over(&mut self.flags, flag, &cut)
-            }
+            Kind::Release(_) | Kind::Set(_) => self.hand_over(processor, event.kind),
             Kind::Arrive => {
                 self.let_go(processor);
-                self.arrive(processor)
+                self.arrive(alloc, processor)
             }
             Kind::Ask(_) | Kind::Watch(_) => {
-                drop(self.close(processor));
+                self.close(processor);
                 Ok(())
             }
-            Kind::Acquire(lock) => {
-                let cut = handed_over(&self.locks, lock);
-                self.take(processor, &cut)
-            }
-            Kind::Await(flag) => {
-                let cut = handed_over(&self.flags, flag);
-                self.take(processor, &cut)
-            }
-            Kind::Depart => self.depart(processor),
+            Kind::Acquire(lock) => self.acquire(processor, lock),
+            Kind::Await(flag) => self.awaits(processor, flag),
+            Kind::Depart => self.depart(alloc, processor),
             _ => Ok(()),
         }
-    }
-}
-
-/// Keeps what who takes it next is told. The only error is running out of memory.
-fn hand_over(cuts: &mut Vec<StoreCut>, place: usize, cut: &StoreCut) -> Result<(), AllocError> {
-    lengthen_row(cuts, place, [0; MOST])?;
-    if let Some(kept) = cuts.get_mut(place) {
-        join_cut(kept, cut);
-    }
-    Ok(())
-}
-
-/// What who takes it is told.
-fn handed_over(cuts: &[StoreCut], place: usize) -> StoreCut {
-    match cuts.get(place) {
-        Some(cut) => *cut,
-        None => [0; MOST],
     }
 }

@@ -8,8 +8,10 @@ use crate::output::write_pages_text;
 use crate::page_row::PageRow;
 use crate::page_watch::LabelWait;
 use crate::pages_picture::write_pages_picture;
+use crate::processor_set::ProcessorSet;
 use crate::text_table::{TextTable, number_word, table_word};
 use crate::top_pages::TopPage;
+use judge::MOST_JUDGED_PROCESSORS;
 use lrc_commands::fault::CommandFault;
 use lrc_json::members::{Members, Values};
 use lrc_json::output::JsonLines;
@@ -115,16 +117,13 @@ fn eager_line(alloc: Global, eager: &EagerTraffic) -> Result<Vec<String>, AllocE
 
 /// The numbers of the processors that are marked, with commas between, and two dots between the ends of three and more in a row; a
 /// stroke if none is. The only error is running out of memory.
-fn marked_processors(alloc: Global, marks: u64) -> Result<String, AllocError> {
+fn marked_processors(alloc: Global, marked: &ProcessorSet) -> Result<String, AllocError> {
     let mut text = String::new(alloc);
-    let mut next = 0u32;
-    for _ in 0..64 {
-        let skipped = (marks.checked_shr(next).unwrap_or(0)).trailing_zeros();
-        if skipped >= 64 {
+    let mut next = 0;
+    for _ in 0..MOST_JUDGED_PROCESSORS {
+        let Some((first, run)) = marked.run_from(next) else {
             break;
-        }
-        let first = next.saturating_add(skipped);
-        let run = marks.checked_shr(first).unwrap_or(0).trailing_ones();
+        };
         put_processor_run(&mut text, alloc, first, run)?;
         next = first.saturating_add(run);
     }
@@ -138,8 +137,8 @@ fn marked_processors(alloc: Global, marks: u64) -> Result<String, AllocError> {
 fn put_processor_run(
     text: &mut String,
     alloc: Global,
-    first: u32,
-    run: u32,
+    first: usize,
+    run: usize,
 ) -> Result<(), AllocError> {
     let last = first.saturating_add(run.saturating_sub(1));
     let comma = if text.is_empty() { "" } else { "," };
@@ -161,8 +160,8 @@ fn top_page_line(alloc: Global, page: &TopPage) -> Result<Vec<String>, AllocErro
     ];
     let mut line = Vec::new(alloc);
     put_number_words(&mut line, alloc, &numbers)?;
-    line.push(marked_processors(alloc, page.used.writers)?)?;
-    line.push(marked_processors(alloc, page.used.readers)?)?;
+    line.push(marked_processors(alloc, &page.used.writers)?)?;
+    line.push(marked_processors(alloc, &page.used.readers)?)?;
     Ok(line)
 }
 
@@ -250,10 +249,10 @@ fn put_page_rows(
 }
 
 /// The numbers of the processors that are marked, as a list.
-fn marked_processors_json(alloc: Global, marks: u64) -> Result<Values, AllocError> {
+fn marked_processors_json(alloc: Global, marked: &ProcessorSet) -> Result<Values, AllocError> {
     let mut numbers = Vec::new(alloc);
-    for processor in 0..64usize {
-        if marks & (1u64 << processor) != 0 {
+    for processor in 0..MOST_JUDGED_PROCESSORS {
+        if marked.has(processor) {
             numbers.push(processor)?;
         }
     }
@@ -267,8 +266,14 @@ fn top_page_json(alloc: Global, page: &TopPage) -> Result<Members, AllocError> {
     members.put_count("fetches", page.fetches);
     members.put_count("useless", page.used.useless);
     members.put_count("words", page.words);
-    members.put_list("writers", marked_processors_json(alloc, page.used.writers)?);
-    members.put_list("readers", marked_processors_json(alloc, page.used.readers)?);
+    members.put_list(
+        "writers",
+        marked_processors_json(alloc, &page.used.writers)?,
+    );
+    members.put_list(
+        "readers",
+        marked_processors_json(alloc, &page.used.readers)?,
+    );
     Ok(members)
 }
 

@@ -2,6 +2,7 @@
 
 use crate::heard_stores::{Heard, HeardStores, lengthen_row};
 use crate::page_traffic::PageTraffic;
+use crate::processor_set::ProcessorSet;
 use journal::{Event, Kind};
 use std::alloc::{AllocError, Global};
 
@@ -10,18 +11,18 @@ use std::alloc::{AllocError, Global};
 pub struct PageUse {
     /// The fetches of which each brings no word that its processor accesses before it fetches the page again.
     pub useless: u64,
-    /// The processors that store in it, one bit each, the lowest one for processor 0.
-    pub writers: u64,
+    /// The processors that store in it.
+    pub writers: ProcessorSet,
     /// Those that load from it.
-    pub readers: u64,
+    pub readers: ProcessorSet,
 }
 
 /// What is kept of a page.
 #[derive(Clone, Copy, Default, Drop)]
 struct UsedPage {
     useful: u64,
-    writers: u64,
-    readers: u64,
+    writers: ProcessorSet,
+    readers: ProcessorSet,
 }
 
 /// What is kept of a processor's fetches of a page.
@@ -37,7 +38,7 @@ struct LastFetch {
     is_unused: bool,
 }
 
-/// What pages of one size are used for. It takes 24 bytes for each page, 16 for each page and processor that accesses any, and 8
+/// What pages of one size are used for. It takes 72 bytes for each page, 16 for each page and processor that accesses any, and 8
 /// for each label.
 #[derive(Drop)]
 pub(crate) struct PageUses {
@@ -119,11 +120,10 @@ impl LastFetch {
 impl UsedPage {
     /// The processor accesses it.
     fn access(&mut self, processor: usize, stores: bool, used: bool) {
-        let mark = 1u64 << (processor % 64);
         if stores {
-            self.writers |= mark;
+            self.writers.add(processor);
         } else {
-            self.readers |= mark;
+            self.readers.add(processor);
         }
         self.useful = self.useful.saturating_add(u64::from(used));
     }

@@ -4,11 +4,8 @@ ghost use Rattle.std.specs.Thread.{IsSync};
 ghost use Rattle.lrc_script.specs.Prelude.{IsLawful, plan_of};
 ghost use Rattle.lrc_sample.specs.Prelude.{AreSampleRunsTold, CameBySampleRunSeed};
 
-use crate::detail::SampleDetail;
-use crate::sampled_run::{SampledRun, no_memory, told_sampled_run};
-use conformance::{LockChoice, RunFault, ScriptRunner};
-use lrc_script::script::Script;
-use std::alloc::Global;
+use crate::sampled_run::{SampledRun, SampledScript, no_memory, told_sampled_run};
+use conformance::{RunFault, ScriptRunner};
 use std::sync::Wait;
 use std::thread::{Threads, join};
 
@@ -16,18 +13,15 @@ use std::thread::{Threads, join};
 fn add_sampled_run<T: ScriptRunner, R: Wait>(
     runs: &T,
     rt: &R,
-    alloc: Global,
-    detail: SampleDetail,
-    script: &Script,
-    lock: LockChoice,
+    sampled: SampledScript<'_>,
     seed: u64,
     told: &mut Vec<SampledRun>,
 ) -> Result<(), RunFault>
-    requires { IsLawful (plan_of script.now) }
-    ensures { OnOk result ((from : ℕ) → AreSampleRunsTold (CameBySampleRunSeed T.followed T.drawn lock) detail (plan_of script.now) from seed told.old.items
-        → AreSampleRunsTold (CameBySampleRunSeed T.followed T.drawn lock) detail (plan_of script.now) from (seed + 1) told.new.items) }
+    requires { IsLawful (plan_of sampled.script.now) }
+    ensures { OnOk result ((from : ℕ) → AreSampleRunsTold (CameBySampleRunSeed T.followed T.drawn sampled.entry.lock) sampled.entry.detail (plan_of sampled.entry.script.now) from seed told.old.items
+        → AreSampleRunsTold (CameBySampleRunSeed T.followed T.drawn sampled.entry.lock) sampled.entry.detail (plan_of sampled.entry.script.now) from (seed + 1) told.new.items) }
 {
-    let run = told_sampled_run(runs, rt, alloc, detail, script, lock, Some(seed))?;
+    let run = told_sampled_run(runs, rt, sampled, Some(seed))?;
     match told.push(run) {
         Ok(()) => Ok(()),
         Err(error) => Err(no_memory(error.into())),
@@ -38,20 +32,17 @@ fn add_sampled_run<T: ScriptRunner, R: Wait>(
 fn job_of_sampled_runs<T: ScriptRunner, R: Wait>(
     runs: &T,
     rt: &R,
-    alloc: Global,
-    detail: SampleDetail,
-    script: &Script,
-    lock: LockChoice,
+    sampled: SampledScript<'_>,
     from: u64,
     to: u64,
 ) -> Result<Vec<SampledRun>, RunFault>
-    requires lawful { IsLawful (plan_of script.now) }
+    requires lawful { IsLawful (plan_of sampled.script.now) }
     requires order { from ≤ to }
-    ensures { IfOk result (λ told. AreSampleRunsTold (CameBySampleRunSeed T.followed T.drawn lock) detail (plan_of script.now) from to told.items) }
+    ensures { IfOk result (λ told. AreSampleRunsTold (CameBySampleRunSeed T.followed T.drawn sampled.entry.lock) sampled.entry.detail (plan_of sampled.entry.script.now) from to told.items) }
 {
-    let mut told = Vec::new(alloc);
+    let mut told = Vec::new(sampled.alloc);
     for seed in from..to {
-        add_sampled_run(runs, rt, alloc, detail, script, lock, seed, &mut told)?;
+        add_sampled_run(runs, rt, sampled, seed, &mut told)?;
     }
     Ok(told)
 }
@@ -72,32 +63,29 @@ fn middle_of_jobs(from: u64, to: u64, first: u64, jobs: u64) -> u64
 pub(crate) fn sampled_runs_by_jobs<T: ScriptRunner + Sync, R: Threads + Wait + Sync>(
     runs: &T,
     rt: &R,
-    alloc: Global,
-    detail: SampleDetail,
-    script: &Script,
-    lock: LockChoice,
+    sampled: SampledScript<'_>,
     jobs: u64,
     from: u64,
     to: u64,
 ) -> Result<Vec<SampledRun>, RunFault>
-    requires lawful { IsLawful (plan_of script.now) }
+    requires lawful { IsLawful (plan_of sampled.script.now) }
     requires order { from ≤ to }
-    ensures { IfOk result (λ told. AreSampleRunsTold (CameBySampleRunSeed T.followed T.drawn lock) detail (plan_of script.now) from to told.items) }
+    ensures { IfOk result (λ told. AreSampleRunsTold (CameBySampleRunSeed T.followed T.drawn sampled.entry.lock) sampled.entry.detail (plan_of sampled.entry.script.now) from to told.items) }
 {
     if jobs < 2 {
-        return job_of_sampled_runs(runs, rt, alloc, detail, script, lock, from, to);
+        return job_of_sampled_runs(runs, rt, sampled, from, to);
     }
     let first = jobs / 2;
     let second = jobs - first;
     let middle = middle_of_jobs(from, to, first, jobs);
     let before = move || -> Result<Vec<SampledRun>, RunFault>
-        requires { IsSync T.row × IsSync R.row × IsLawful (plan_of script.now) × (from ≤ middle) }
-        ensures { IfOk result (λ told. AreSampleRunsTold (CameBySampleRunSeed T.followed T.drawn lock) detail (plan_of script.entry.now) from middle told.items) }
-    { sampled_runs_by_jobs(runs, rt, alloc, detail, script, lock, first, from, middle) };
+        requires { IsSync T.row × IsSync R.row × IsLawful (plan_of sampled.script.now) × (from ≤ middle) }
+        ensures { IfOk result (λ told. AreSampleRunsTold (CameBySampleRunSeed T.followed T.drawn sampled.entry.lock) sampled.entry.detail (plan_of sampled.entry.script.now) from middle told.items) }
+    { sampled_runs_by_jobs(runs, rt, sampled, first, from, middle) };
     let after = move || -> Result<Vec<SampledRun>, RunFault>
-        requires { IsSync T.row × IsSync R.row × IsLawful (plan_of script.now) × (middle ≤ to) }
-        ensures { IfOk result (λ told. AreSampleRunsTold (CameBySampleRunSeed T.followed T.drawn lock) detail (plan_of script.entry.now) middle to told.items) }
-    { sampled_runs_by_jobs(runs, rt, alloc, detail, script, lock, second, middle, to) };
+        requires { IsSync T.row × IsSync R.row × IsLawful (plan_of sampled.script.now) × (middle ≤ to) }
+        ensures { IfOk result (λ told. AreSampleRunsTold (CameBySampleRunSeed T.followed T.drawn sampled.entry.lock) sampled.entry.detail (plan_of sampled.entry.script.now) middle to told.items) }
+    { sampled_runs_by_jobs(runs, rt, sampled, second, middle, to) };
     let (told, rest) = join(rt, before, after);
     let mut told = told?;
     let mut rest = rest?;

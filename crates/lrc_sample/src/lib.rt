@@ -22,5 +22,5 @@ pub mod sampling;
 mod tally;
 pub mod text;
 
-pub use sampled_run::SampledRun;
+pub use sampled_run::{SampledRun, SampledScript};
 pub use tally::TallyLine;

@@ -12,6 +12,18 @@ use lrc_script::script::Script;
 use std::alloc::{AllocError, Global};
 use std::sync::Wait;
 
+/// A script that is sampled.
+#[derive(Clone, Copy)]
+pub struct SampledScript<'a> {
+    /// What memory comes from.
+    pub alloc: Global,
+    pub script: &'a Script,
+    /// The lock round the book of its runs.
+    pub lock: LockChoice,
+    /// How much of a run is told.
+    pub detail: SampleDetail,
+}
+
 /// What a run came to, and by which turns.
 #[derive(Drop)]
 pub struct SampledRun {
@@ -28,14 +40,15 @@ pub(crate) fn no_memory(error: AllocError) -> RunFault {
 }
 
 /// What a run came to, in this detail: a run that can't go on is stuck.
-fn sampled_outcome(
-    alloc: Global,
-    detail: SampleDetail,
-    script: &Script,
-    ended: Ended,
-) -> Result<SampleOutcome, RunFault>
-    ensures { IfOk result (λ outcome. outcome ≡ sample_outcome_of_end detail (plan_of script.now) ended) }
+fn sampled_outcome(sampled: SampledScript<'_>, ended: Ended) -> Result<SampleOutcome, RunFault>
+    ensures { IfOk result (λ outcome. outcome ≡ sample_outcome_of_end sampled.entry.detail (plan_of sampled.entry.script.now) ended) }
 {
+    let SampledScript {
+        alloc,
+        script,
+        detail,
+        ..
+    } = sampled;
     match ended {
         Ended::Whole(report) => match SampleOutcomeAnswers::of(alloc, detail, script, report) {
             Ok(answers) => Ok(SampleOutcome::Ended(answers)),
@@ -49,14 +62,18 @@ fn sampled_outcome(
 fn sampled_run<T: ScriptRunner, R: Wait>(
     runs: &T,
     rt: &R,
-    alloc: Global,
-    script: &Script,
-    lock: LockChoice,
+    sampled: SampledScript<'_>,
     seed: Option<u64>,
 ) -> Result<DrawnRun, RunFault>
-    requires { IsLawful (plan_of script.now) }
-    ensures { IfOk result (IsSampleRun (CameBySampleRunSeed T.followed T.drawn lock) (plan_of script.now) seed) }
+    requires { IsLawful (plan_of sampled.script.now) }
+    ensures { IfOk result (IsSampleRun (CameBySampleRunSeed T.followed T.drawn sampled.entry.lock) (plan_of sampled.entry.script.now) seed) }
 {
+    let SampledScript {
+        alloc,
+        script,
+        lock,
+        ..
+    } = sampled;
     let Some(seed) = seed else {
         let schedule = Schedule {
             turns: Vec::new(alloc),
@@ -74,16 +91,13 @@ fn sampled_run<T: ScriptRunner, R: Wait>(
 pub(crate) fn told_sampled_run<T: ScriptRunner, R: Wait>(
     runs: &T,
     rt: &R,
-    alloc: Global,
-    detail: SampleDetail,
-    script: &Script,
-    lock: LockChoice,
+    sampled: SampledScript<'_>,
     seed: Option<u64>,
 ) -> Result<SampledRun, RunFault>
-    requires { IsLawful (plan_of script.now) }
-    ensures { IfOk result (IsSampleRunTold (CameBySampleRunSeed T.followed T.drawn lock) detail (plan_of script.now) seed) }
+    requires { IsLawful (plan_of sampled.script.now) }
+    ensures { IfOk result (IsSampleRunTold (CameBySampleRunSeed T.followed T.drawn sampled.entry.lock) sampled.entry.detail (plan_of sampled.entry.script.now) seed) }
 {
-    let DrawnRun { schedule, ended } = sampled_run(runs, rt, alloc, script, lock, seed)?;
-    let outcome = sampled_outcome(alloc, detail, script, ended)?;
+    let DrawnRun { schedule, ended } = sampled_run(runs, rt, sampled, seed)?;
+    let outcome = sampled_outcome(sampled, ended)?;
     Ok(SampledRun { outcome, schedule })
 }

@@ -3,13 +3,10 @@ ghost use Rattle.std.specs.Prelude.{◌≤◌, ◌+◌, ◌^◌, IfOk, OnOk};
 ghost use Rattle.lrc_script.specs.Prelude.{IsLawful, plan_of};
 ghost use Rattle.lrc_sample.specs.Prelude.{CameBySampleRunSeed, AreSampleRunsInMaking, IsSampleOfRuns, tally_place_of_seed};
 
-use crate::detail::SampleDetail;
 use crate::jobs::sampled_runs_by_jobs;
-use crate::sampled_run::{SampledRun, no_memory, told_sampled_run};
+use crate::sampled_run::{SampledRun, SampledScript, no_memory, told_sampled_run};
 use crate::tally::{TallyLine, note_in_sample_tally, sort_sample_tally};
-use conformance::{LockChoice, RunFault, ScriptRunner};
-use lrc_script::script::Script;
-use std::alloc::Global;
+use conformance::{RunFault, ScriptRunner};
 use std::sync::Wait;
 use std::thread::Threads;
 
@@ -37,20 +34,17 @@ pub trait SampleProgress {
 fn sample_once<T: ScriptRunner, R: Wait>(
     runs: &T,
     rt: &R,
-    alloc: Global,
-    detail: SampleDetail,
-    script: &Script,
-    lock: LockChoice,
+    sampled: SampledScript<'_>,
     seed: Option<u64>,
     lines: &mut Vec<TallyLine>,
 ) -> Result<(), RunFault>
-    requires lawful { IsLawful (plan_of script.now) }
+    requires lawful { IsLawful (plan_of sampled.script.now) }
     requires few { tally_place_of_seed seed ≤ 2 ^ 32 }
-    requires made { AreSampleRunsInMaking (CameBySampleRunSeed T.followed T.drawn lock) detail (plan_of script.now) (tally_place_of_seed seed) lines.old.items }
-    ensures { OnOk result (AreSampleRunsInMaking (CameBySampleRunSeed T.followed T.drawn lock) detail (plan_of script.now) (tally_place_of_seed seed + 1)
+    requires made { AreSampleRunsInMaking (CameBySampleRunSeed T.followed T.drawn sampled.lock) sampled.detail (plan_of sampled.script.now) (tally_place_of_seed seed) lines.old.items }
+    ensures { OnOk result (AreSampleRunsInMaking (CameBySampleRunSeed T.followed T.drawn sampled.entry.lock) sampled.entry.detail (plan_of sampled.entry.script.now) (tally_place_of_seed seed + 1)
         lines.new.items) }
 {
-    let run = told_sampled_run(runs, rt, alloc, detail, script, lock, seed)?;
+    let run = told_sampled_run(runs, rt, sampled, seed)?;
     let SampledRun { outcome, schedule } = run;
     match note_in_sample_tally(lines, outcome, seed, schedule) {
         Ok(()) => Ok(()),
@@ -62,21 +56,18 @@ fn sample_once<T: ScriptRunner, R: Wait>(
 fn sample_in_turn<T: ScriptRunner, R: Wait, P: SampleProgress>(
     runs: &T,
     rt: &R,
-    alloc: Global,
-    detail: SampleDetail,
-    script: &Script,
-    lock: LockChoice,
+    sampled: SampledScript<'_>,
     seeds: u32,
     lines: &mut Vec<TallyLine>,
     progress: &mut P,
 ) -> Result<(), RunFault>
-    requires lawful { IsLawful (plan_of script.now) }
-    requires made { AreSampleRunsInMaking (CameBySampleRunSeed T.followed T.drawn lock) detail (plan_of script.now) 1 lines.old.items }
-    ensures { OnOk result (AreSampleRunsInMaking (CameBySampleRunSeed T.followed T.drawn lock) detail (plan_of script.now) (seeds + 1) lines.new.items) }
+    requires lawful { IsLawful (plan_of sampled.script.now) }
+    requires made { AreSampleRunsInMaking (CameBySampleRunSeed T.followed T.drawn sampled.lock) sampled.detail (plan_of sampled.script.now) 1 lines.old.items }
+    ensures { OnOk result (AreSampleRunsInMaking (CameBySampleRunSeed T.followed T.drawn sampled.entry.lock) sampled.entry.detail (plan_of sampled.entry.script.now) (seeds + 1) lines.new.items) }
 {
     for seed in 0..seeds {
         let drawn = Some(u64::from(seed));
-        sample_once(runs, rt, alloc, detail, script, lock, drawn, lines)?;
+        sample_once(runs, rt, sampled, drawn, lines)?;
         progress.ran(u64::from(seed) + 2);
     }
     Ok(())
@@ -87,21 +78,18 @@ fn sample_in_turn<T: ScriptRunner, R: Wait, P: SampleProgress>(
 fn sample_batch<T: ScriptRunner + Sync, R: Threads + Wait + Sync>(
     runs: &T,
     rt: &R,
-    alloc: Global,
-    detail: SampleDetail,
-    script: &Script,
-    lock: LockChoice,
+    sampled: SampledScript<'_>,
     jobs: u64,
     from: u64,
     to: u64,
     lines: &mut Vec<TallyLine>,
 ) -> Result<(), RunFault>
-    requires lawful { IsLawful (plan_of script.now) }
+    requires lawful { IsLawful (plan_of sampled.script.now) }
     requires order { (from ≤ to) × (to ≤ 2 ^ 32) }
-    requires made { AreSampleRunsInMaking (CameBySampleRunSeed T.followed T.drawn lock) detail (plan_of script.now) (from + 1) lines.old.items }
-    ensures { OnOk result (AreSampleRunsInMaking (CameBySampleRunSeed T.followed T.drawn lock) detail (plan_of script.now) (to + 1) lines.new.items) }
+    requires made { AreSampleRunsInMaking (CameBySampleRunSeed T.followed T.drawn sampled.lock) sampled.detail (plan_of sampled.script.now) (from + 1) lines.old.items }
+    ensures { OnOk result (AreSampleRunsInMaking (CameBySampleRunSeed T.followed T.drawn sampled.entry.lock) sampled.entry.detail (plan_of sampled.entry.script.now) (to + 1) lines.new.items) }
 {
-    let told = sampled_runs_by_jobs(runs, rt, alloc, detail, script, lock, jobs, from, to)?;
+    let told = sampled_runs_by_jobs(runs, rt, sampled, jobs, from, to)?;
     let mut seed = from;
     for run in told {
         let SampledRun { outcome, schedule } = run;
@@ -117,25 +105,22 @@ fn sample_batch<T: ScriptRunner + Sync, R: Threads + Wait + Sync>(
 fn sample_by_jobs<T: ScriptRunner + Sync, R: Threads + Wait + Sync, P: SampleProgress>(
     runs: &T,
     rt: &R,
-    alloc: Global,
-    detail: SampleDetail,
-    script: &Script,
-    lock: LockChoice,
+    sampled: SampledScript<'_>,
     jobs: u64,
     seeds: u32,
     lines: &mut Vec<TallyLine>,
     progress: &mut P,
 ) -> Result<(), RunFault>
-    requires lawful { IsLawful (plan_of script.now) }
-    requires made { AreSampleRunsInMaking (CameBySampleRunSeed T.followed T.drawn lock) detail (plan_of script.now) 1 lines.old.items }
-    ensures { OnOk result (AreSampleRunsInMaking (CameBySampleRunSeed T.followed T.drawn lock) detail (plan_of script.now) (seeds + 1) lines.new.items) }
+    requires lawful { IsLawful (plan_of sampled.script.now) }
+    requires made { AreSampleRunsInMaking (CameBySampleRunSeed T.followed T.drawn sampled.lock) sampled.detail (plan_of sampled.script.now) 1 lines.old.items }
+    ensures { OnOk result (AreSampleRunsInMaking (CameBySampleRunSeed T.followed T.drawn sampled.entry.lock) sampled.entry.detail (plan_of sampled.entry.script.now) (seeds + 1) lines.new.items) }
 {
     let jobs = jobs.min(MOST_JOBS);
     let all = u64::from(seeds);
     let mut from = 0;
     while from < all {
         let to = all.min(from + MOST_BATCH);
-        sample_batch(runs, rt, alloc, detail, script, lock, jobs, from, to, lines)?;
+        sample_batch(runs, rt, sampled, jobs, from, to, lines)?;
         progress.ran(to + 1);
         from = to;
     }
@@ -146,27 +131,20 @@ fn sample_by_jobs<T: ScriptRunner + Sync, R: Threads + Wait + Sync, P: SamplePro
 fn sample_seeds<T: ScriptRunner + Sync, R: Threads + Wait + Sync, P: SampleProgress>(
     runs: &T,
     rt: &R,
-    alloc: Global,
-    detail: SampleDetail,
-    script: &Script,
-    lock: LockChoice,
+    sampled: SampledScript<'_>,
     jobs: u64,
     seeds: u32,
     lines: &mut Vec<TallyLine>,
     progress: &mut P,
 ) -> Result<(), RunFault>
-    requires lawful { IsLawful (plan_of script.now) }
-    requires made { AreSampleRunsInMaking (CameBySampleRunSeed T.followed T.drawn lock) detail (plan_of script.now) 1 lines.old.items }
-    ensures { OnOk result (AreSampleRunsInMaking (CameBySampleRunSeed T.followed T.drawn lock) detail (plan_of script.now) (seeds + 1) lines.new.items) }
+    requires lawful { IsLawful (plan_of sampled.script.now) }
+    requires made { AreSampleRunsInMaking (CameBySampleRunSeed T.followed T.drawn sampled.lock) sampled.detail (plan_of sampled.script.now) 1 lines.old.items }
+    ensures { OnOk result (AreSampleRunsInMaking (CameBySampleRunSeed T.followed T.drawn sampled.entry.lock) sampled.entry.detail (plan_of sampled.entry.script.now) (seeds + 1) lines.new.items) }
 {
     if jobs < 2 {
-        return sample_in_turn(
-            runs, rt, alloc, detail, script, lock, seeds, lines, progress,
-        );
+        return sample_in_turn(runs, rt, sampled, seeds, lines, progress);
     }
-    sample_by_jobs(
-        runs, rt, alloc, detail, script, lock, jobs, seeds, lines, progress,
-    )
+    sample_by_jobs(runs, rt, sampled, jobs, seeds, lines, progress)
 }
 
 /// Runs the script by turns: in rounds by rising number, and then by the turns that each seed from 0 to `seeds` - 1 draws. It
@@ -181,23 +159,18 @@ fn sample_seeds<T: ScriptRunner + Sync, R: Threads + Wait + Sync, P: SampleProgr
 pub fn sample<T: ScriptRunner + Sync, R: Threads + Wait + Sync, P: SampleProgress>(
     runs: &T,
     rt: &R,
-    alloc: Global,
-    detail: SampleDetail,
-    script: &Script,
-    lock: LockChoice,
+    sampled: SampledScript<'_>,
     jobs: u64,
     seeds: u32,
     progress: &mut P,
 ) -> Result<Sampled, RunFault>
-    requires { IsLawful (plan_of script.now) }
-    ensures { IfOk result (IsSampleOfRuns (CameBySampleRunSeed T.followed T.drawn lock) detail (plan_of script.now) (seeds + 1)) }
+    requires { IsLawful (plan_of sampled.script.now) }
+    ensures { IfOk result (IsSampleOfRuns (CameBySampleRunSeed T.followed T.drawn sampled.entry.lock) sampled.entry.detail (plan_of sampled.entry.script.now) (seeds + 1)) }
 {
-    let mut lines = Vec::new(alloc);
-    sample_once(runs, rt, alloc, detail, script, lock, None, &mut lines)?;
+    let mut lines = Vec::new(sampled.alloc);
+    sample_once(runs, rt, sampled, None, &mut lines)?;
     progress.ran(1);
-    sample_seeds(
-        runs, rt, alloc, detail, script, lock, jobs, seeds, &mut lines, progress,
-    )?;
+    sample_seeds(runs, rt, sampled, jobs, seeds, &mut lines, progress)?;
     match sort_sample_tally(&mut lines) {
         Ok(()) => Ok(Sampled { lines }),
         Err(error) => Err(no_memory(error)),

@@ -147,7 +147,7 @@ fn put_sample_lines_text(text: &mut String, lines: &[TallyLine]) -> Result<(), A
 }
 
 /// How many runs the lines count.
-fn runs_in_sample_text(lines: &[TallyLine]) -> u64
+pub fn runs_of_sample(lines: &[TallyLine]) -> u64
     ensures { result ≡ sample_text_runs lines.now }
 {
     let mut runs: u64 = 0;
@@ -187,7 +187,7 @@ fn put_sample_verdicts_text(text: &mut String, lines: &[TallyLine]) -> Result<()
 fn sample_text_of(alloc: Global, sampled: &Sampled) -> Result<String, AllocError>
     ensures { IfOk result (λ s. string_bytes s ≡ sample_text sampled.now) }
 {
-    let runs = runs_in_sample_text(&sampled.lines);
+    let runs = runs_of_sample(&sampled.lines);
     let mut text = format!(in alloc; "runs {runs}\n")?;
     put_sample_verdicts_text(&mut text, &sampled.lines)?;
     put_sample_lines_text(&mut text, &sampled.lines)?;

@@ -4,22 +4,18 @@ use Rattle.std.proofs.lemmas.Bool.{cases_lt}
 use Rattle.std.proofs.lemmas.Option.{slice_get_within}
 use Rattle.journal.specs.declared.event.Event.{Event}
 use Rattle.journal.specs.Events.{EventAt}
-use Rattle.journal.specs.EventsInRange.{EventProcessorsInRange}
 use Rattle.journal.proofs.Order.EventPlacesAndCounts.{event_place_shorter}
 use Rattle.judge.specs.Cuts.{IsCutIn}
 
--- t, with its first `count` entries raised to u's
-pub record IsRaisedCut (count : ℕ) (t u v : ℕ → ℕ) : Type 0 where
-  pub below : (q : ℕ) → q < count → v q ≡ max (t q) (u q)
-  pub rest : (q : ℕ) → count ≤ q → v q ≡ t q
+-- t, with its entries raised to u's
+abbrev pub IsRaisedCut : (ℕ → ℕ) → (ℕ → ℕ) → (ℕ → ℕ) → Type 0
+IsRaisedCut t u v = (q : ℕ) → v q ≡ max (t q) (u q)
 
 -- it is raised to no more than both
-pub raised_cut_within : (count n : ℕ) (t u v : ℕ → ℕ) → IsRaisedCut count t u v → ((q : ℕ) → t q ≤ n) → ((q : ℕ)
-    → u q ≤ n) → (q : ℕ) → v q ≤ n
-raised_cut_within count n t u v raised old other q = let x = old q in let y = other q in elim (cases_lt q count) [
-  | inl lt ↦ (let is = raised.below q lt in omega arith)
-  | inr le ↦ (let is = raised.rest q le in omega arith)
-]
+pub raised_cut_within : (n : ℕ) (t u v : ℕ → ℕ) → IsRaisedCut t u v → ((q : ℕ) → t q ≤ n) → ((q : ℕ) → u q ≤ n)
+    → (q : ℕ) → v q ≤ n
+raised_cut_within n t u v raised old other q =
+    let x = old q in let y = other q in let is = raised q in omega arith
 
 -- before the first event zeros are the cut of any places
 pub cut_of_places_start : (among : ℕ → Type 0) (t : ℕ → ℕ) → ((q : ℕ) → t q ≡ 0) → IsCutIn [] among t
@@ -64,26 +60,25 @@ cut_of_places_longer j es some others t is inside a = record { covers = covers; 
     within q = let top = a.within q in let sum = length-append j es in omega arith
 
 -- the places of both sets: the one's cut, raised to the other's
-pub cut_of_places_joined : {j : List Event} {count : ℕ} {some others : ℕ → Type 0} {t u v : ℕ → ℕ}
-    → EventProcessorsInRange count j
-    → IsRaisedCut count t u v → IsCutIn j some t → IsCutIn j others u → IsCutIn j (λ i. some i ⊎ others i) v
-cut_of_places_joined {j} {count} {some} {others} {t} {u} {v} range raised a b = record {
+pub cut_of_places_joined : {j : List Event} {some others : ℕ → Type 0} {t u v : ℕ → ℕ}
+    → IsRaisedCut t u v → IsCutIn j some t → IsCutIn j others u → IsCutIn j (λ i. some i ⊎ others i) v
+cut_of_places_joined {j} {some} {others} {t} {u} {v} raised a b = record {
   covers = λ i e at. (there i e at, back i e at);
-  within = raised_cut_within count (length j) t u v raised a.within b.within;
+  within = raised_cut_within (length j) t u v raised a.within b.within;
 }
   where
     there : (i : ℕ) (e : Event) → EventAt j i e → some i ⊎ others i → i < v e.processor
     there i e at (inl h) =
         let lt = (a.covers i e at).0 h in
-        let is = raised.below e.processor (range i e at) in
+        let is = raised e.processor in
         omega arith
     there i e at (inr h) =
         let lt = (b.covers i e at).0 h in
-        let is = raised.below e.processor (range i e at) in
+        let is = raised e.processor in
         omega arith
 
     back : (i : ℕ) (e : Event) → EventAt j i e → i < v e.processor → some i ⊎ others i
-    back i e at lt = let is = raised.below e.processor (range i e at) in elim (cases_lt i (t e.processor)) [
+    back i e at lt = let is = raised e.processor in elim (cases_lt i (t e.processor)) [
       | inl below ↦ inl ((a.covers i e at).1 below)
       | inr above ↦ inr ((b.covers i e at).1 (omega arith))
     ]

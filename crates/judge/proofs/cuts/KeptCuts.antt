@@ -4,7 +4,6 @@ use Rattle.journal.specs.declared.event.Event.{Event}
 use Rattle.journal.specs.declared.event.Kind.{Kind}
 use Rattle.journal.specs.declared.event.Kind.TheVariants.{Arrive}
 use Rattle.journal.specs.Events.{EventAt, event_count, event_arrives}
-use Rattle.journal.specs.EventsInRange.{EventProcessorsInRange}
 use Rattle.journal.specs.Pasts.{UpTo, InPastOfSome}
 use Rattle.journal.specs.Brings.{BringsFromKind, BringsFromSomeArrival}
 use Rattle.journal.proofs.Order.IntoPast.{into_past_up_to_longer, into_past_up_to_shorter, into_past_up_to_within}
@@ -26,15 +25,15 @@ kept_cut_others j es some others t inside is a =
     back i h = let old = (is h.0).1 h.1 in (h.0, old, into_past_up_to_shorter j es h.0 i (inside h.0 old) h.2)
 
 -- with the event that is pushed among them, their cut is raised to what this one hands on
-pub kept_cut_now : {count : ℕ} {t u v : ℕ → ℕ} → (j : List Event) (e : Event) (some others : ℕ → Type 0) → ((i : ℕ)
+pub kept_cut_now : {t u v : ℕ → ℕ} → (j : List Event) (e : Event) (some others : ℕ → Type 0) → ((i : ℕ)
     → some i → i < length j)
-    → ((i : ℕ) → others i ↔ (some i ⊎ (i ≡ length j))) → EventProcessorsInRange count (j ++ e ∷ []) → IsRaisedCut count t u v
+    → ((i : ℕ) → others i ↔ (some i ⊎ (i ≡ length j))) → IsRaisedCut t u v
     → IsCutIn j (InPastOfSome j some) t → IsCutIn (j ++ e ∷ []) (UpTo (j ++ e ∷ []) (length j)) u
     → IsCutIn (j ++ e ∷ []) (InPastOfSome (j ++ e ∷ []) others) v
-kept_cut_now {count} {t} {u} {v} j e some others inside is range raised a b =
+kept_cut_now {t} {u} {v} j e some others inside is raised a b =
     cut_of_places_same (j ++ e ∷ []) (λ i. InPastOfSome (j ++ e ∷ []) some i ⊎ UpTo (j ++ e ∷ []) (length j) i)
     (InPastOfSome (j ++ e ∷ []) others) v (λ i. (there i, back i))
-    (cut_of_places_joined range raised (kept_cut_others j (e ∷ []) some some t inside (λ i. ((λ h. h), (λ h. h))) a) b)
+    (cut_of_places_joined raised (kept_cut_others j (e ∷ []) some some t inside (λ i. ((λ h. h), (λ h. h))) a) b)
   where
     there : (i : ℕ) → InPastOfSome (j ++ e ∷ []) some i ⊎ UpTo (j ++ e ∷ []) (length j) i
         → InPastOfSome (j ++ e ∷ []) others i
@@ -56,14 +55,13 @@ kept_cut_of_kind j es k t away a =
     (λ i. kept_time_does j es k i away) a
 
 -- a release or a set joins what it hands on
-pub kept_cut_kind_joins : {count : ℕ} {t u v : ℕ → ℕ} → (j : List Event) (e : Event)
-    → EventProcessorsInRange count (j ++ e ∷ [])
-    → IsRaisedCut count t u v → IsCutIn j (InPastOfSome j (BringsFromKind j e.kind)) t
+pub kept_cut_kind_joins : {t u v : ℕ → ℕ} → (j : List Event) (e : Event)
+    → IsRaisedCut t u v → IsCutIn j (InPastOfSome j (BringsFromKind j e.kind)) t
     → IsCutIn (j ++ e ∷ []) (UpTo (j ++ e ∷ []) (length j)) u
     → IsCutIn (j ++ e ∷ []) (InPastOfSome (j ++ e ∷ []) (BringsFromKind (j ++ e ∷ []) e.kind)) v
-kept_cut_kind_joins j e range raised a b =
+kept_cut_kind_joins j e raised a b =
     kept_cut_now j e (BringsFromKind j e.kind) (BringsFromKind (j ++ e ∷ []) e.kind) (kept_time_does_within j e.kind)
-    (λ i. kept_time_does_now j e i) range raised a b
+    (λ i. kept_time_does_now j e i) raised a b
 
 -- an episode keeps its cut under events that are no arrivals
 pub kept_cut_of_arrivals : (j es : List Event) (n : ℕ) (t : ℕ → ℕ) → ((m : ℕ) (f : Event) → EventAt es m f → f.kind ≢ Arrive)
@@ -83,15 +81,14 @@ kept_cut_other_arrivals j e n t away a =
     (λ i. kept_time_arrives_others j e n i away) a
 
 -- an arrival joins what it hands on
-pub kept_cut_arrival_joins : {count : ℕ} {t u v : ℕ → ℕ} → (j : List Event) (e : Event)
-    → EventProcessorsInRange count (j ++ e ∷ [])
-    → IsRaisedCut count t u v → e.kind ≡ Arrive
+pub kept_cut_arrival_joins : {t u v : ℕ → ℕ} → (j : List Event) (e : Event)
+    → IsRaisedCut t u v → e.kind ≡ Arrive
     → IsCutIn j (InPastOfSome j (BringsFromSomeArrival j (event_count event_arrives j e.processor))) t
     → IsCutIn (j ++ e ∷ []) (UpTo (j ++ e ∷ []) (length j)) u
     → IsCutIn (j ++ e ∷ [])
     (InPastOfSome (j ++ e ∷ []) (BringsFromSomeArrival (j ++ e ∷ []) (event_count event_arrives j e.processor))) v
-kept_cut_arrival_joins j e range raised arrive a b =
+kept_cut_arrival_joins j e raised arrive a b =
     kept_cut_now j e (BringsFromSomeArrival j (event_count event_arrives j e.processor))
     (BringsFromSomeArrival (j ++ e ∷ []) (event_count event_arrives j e.processor))
-    (kept_time_arrives_within j (event_count event_arrives j e.processor)) (λ i. kept_time_arrives_now j e i arrive) range raised
+    (kept_time_arrives_within j (event_count event_arrives j e.processor)) (λ i. kept_time_arrives_now j e i arrive) raised
     a b

@@ -7,7 +7,6 @@ use Rattle.journal.specs.declared.event.Event.{Event}
 use Rattle.journal.specs.Events.{EventAt, event_takes}
 use Rattle.journal.specs.Pasts.{InPast, UpTo}
 use Rattle.journal.specs.Brings.{Brings}
-use Rattle.journal.specs.EventsInRange.{EventProcessorsInRange}
 use Rattle.journal.proofs.Order.EventPlacesAndCounts.{event_place_inside, event_place_at_end}
 use Rattle.journal.proofs.Order.IntoPast.{into_past_push, into_past_reaches_push, into_past_own, into_past_own_push, into_past_within, into_past_others}
 use Rattle.judge.specs.Cuts.{IsCutIn, IsCutOf}
@@ -51,16 +50,15 @@ pushed_cut_others j e p t u away same a = record { covers = covers; within = wit
     within q = let is = same q in let top = a.within q in let sum = length-append j (e ∷ []) in omega arith
 
 -- an event raises its processor's cut to that of what it brings
-pub pushed_cut_taking : {count : ℕ} {t u v : ℕ → ℕ} → (j : List Event) (e : Event) → EventProcessorsInRange count j
-    → IsRaisedCut count t u v
+pub pushed_cut_taking : {t u v : ℕ → ℕ} → (j : List Event) (e : Event) → IsRaisedCut t u v
     → IsCutOf j e.processor t → IsCutIn j (Brings j e.processor e.kind) u → IsCutOf (j ++ e ∷ []) e.processor v
-pushed_cut_taking {count} {t} {u} {v} j e range raised a b = record { covers = covers; within = within }
+pushed_cut_taking {t} {u} {v} j e raised a b = record { covers = covers; within = within }
   where
     covers : (i : ℕ) (f : Event) → EventAt (j ++ e ∷ []) i f → f.processor ≢ e.processor
         → InPast (j ++ e ∷ []) e.processor i ↔ (i < v f.processor)
     covers i f at apart = elim (slice_push_cases j e i f at) [
       | inl old ↦
-          (let is = raised.below f.processor (range i f old.1) in
+          (let is = raised f.processor in
           let inside = old.0 in
           let known = a.covers i f old.1 apart in
           let brought = b.covers i f old.1 in (
@@ -81,7 +79,7 @@ pushed_cut_taking {count} {t} {u} {v} j e range raised a b = record { covers = c
 
     within : (q : ℕ) → v q ≤ length (j ++ e ∷ [])
     within q =
-        let top = raised_cut_within count (length j) t u v raised a.within b.within q in
+        let top = raised_cut_within (length j) t u v raised a.within b.within q in
         let sum = length-append j (e ∷ []) in
         omega arith
 

@@ -1,5 +1,6 @@
 -- What a load that comes next may answer, by its processor's past.
-use Rattle.std.proofs.Common.{◌≡◌, ◌≢◌, ℕ, ◌<◌, inl, inr, ◌↔◌, List, [], ◌∷◌, length, Option, subst, sym, refl, ap}
+use Rattle.std.proofs.Common.{◌≡◌, ℕ, ◌<◌, inl, inr, ◌↔◌, List, [], ◌∷◌, length, subst, sym, refl, ap, arith}
+use Rattle.std.proofs.lemmas.Bool.{cases_lt}
 use Rattle.std.proofs.lemmas.Option.{slice_get_within}
 use Rattle.std.proofs.lemmas.List.{append-nil}
 use Rattle.journal.specs.declared.event.Event.{Event}
@@ -13,14 +14,14 @@ use Rattle.journal.specs.WellFormed.{Does}
 use Rattle.journal.proofs.Order.EventPlacesAndCounts.{event_place_does_same, event_place_inside, event_place_longer}
 use Rattle.journal.proofs.Order.HappensBefore.{happens_before_extension}
 use Rattle.journal.proofs.Order.IntoPast.{into_past_reaches_new, into_past_within}
+use Rattle.journal.proofs.Times.LeavingCloses.{leaving_closes_own_order}
 use Rattle.judge.specs.declared.flat_memory.FlatStore.{FlatStore}
 use Rattle.judge.specs.declared.kept_store.KeptStore.{KeptStore}
-use Rattle.judge.specs.KeptInPasts.{AreUnknownFrom, HasUnknownOfValue, IsKeptStoreUnfollowed, IsUnknownWithin}
+use Rattle.judge.specs.KeptInPasts.{AreUnknownFrom, HasUnknownOfValue, IsUnknownWithin}
 use Rattle.judge.specs.Models.{ModelConcurrentStore}
 use Rattle.judge.specs.PermittedStores.{IsLatestStore, IsUnorderedStore}
 use Rattle.judge.specs.Sources.Latest.{IsLatest}
 use Rattle.judge.specs.StoresInPasts.{IsLatestInPast, IsOutsidePast, MayBeAnsweredLater}
-use Rattle.judge.proofs.kept_stores.ChoosingKept.{IsGivenToChooseKept, choosing_kept_latest, choosing_kept_store, choosing_kept_unfollowed}
 use Rattle.judge.proofs.sources.Answering.{answering_store_shorter, answering_untouched}
 
 answering_kept_one_value : (a v b w : ℕ) → Store a v ≡ Store b w → v ≡ w
@@ -77,90 +78,84 @@ answering_kept_later n j p a q i v present range does outside =
       may = inr (subst (λ xs. IsOutsidePast xs p a q i) (sym whole) (record { value = v; does = does; outside = outside }));
     }
 
--- ---- by the last kept stores that none follows
+-- ---- by the latest stores of the past
 
-module _ (n : ℕ) (j : List Event) (cuts : List (List ℕ)) (p a v : ℕ) (of : ℕ → List KeptStore) (last : List (Option KeptStore))
-    (given : IsGivenToChooseKept n j cuts p a of last) where
+module _ (j : List Event) (p a v : ℕ) where
   -- the value of one may be answered
-  pub answering_kept_one : (q : ℕ) (x : KeptStore) → IsKeptStoreUnfollowed cuts last q x → x.value ≡ v
+  pub answering_kept_one : (q i : ℕ) → IsLatestInPast j p a q i → Does j i q (Store a v)
       → IsAnswer (did j p (Load a v)) (length j) a v
-  unfolding answering_kept_latest_of
-  answering_kept_one q x u is = inr (record {
-    place = x.place;
+  answering_kept_one q i x does = inr (record {
+    place = i;
     by = q;
-    stores = event_place_longer j (event p (Load a v) ∷ []) x.place (event q (Store a v))
-        (subst (λ w. Does j x.place q (Store a w)) is (choosing_kept_store n j cuts p a of last given q x u.at).does);
-    before = l.store.before;
-    latest = l.store.latest;
+    stores = event_place_longer j (event p (Load a v) ∷ []) i (event q (Store a v)) does;
+    before = (answering_kept_past j p a v i).1 x.past;
+    latest = λ m r w to before follows.
+        (let past = (answering_kept_past j p a v m).0 before in
+        x.latest m r w (answering_store_shorter j p a v m r a w to) past
+        ((happens_before_extension j (event p (Load a v) ∷ []) i m (into_past_within j p m past)).0 follows));
   })
-    where
-      l : IsLatest (did j p (Load a v)) (length j) a q x.place
-      l = answering_kept_latest_of j p a v q x.place (choosing_kept_latest n j cuts p a of last given q x u)
 
   -- a latest store of the load is one of them
-  answering_kept_found : (x : LatestExplainedAnswer (did j p (Load a v)) (length j) a v)
-      → (y : KeptStore) × IsKeptStoreUnfollowed cuts last x.by y × (y.value ≡ v)
-  answering_kept_found x =
-      let l : IsLatest (did j p (Load a v)) (length j) a x.by x.place =
-      record { value = v; store = x; place = refl; by = refl } in
-      let found = choosing_kept_unfollowed n j cuts p a of last given x.by x.place (answering_kept_latest j p a v x.by x.place l) in
-      let y = found.store in
-      let does = (choosing_kept_store n j cuts p a of last given x.by y found.is.at).does in
-      let mine = answering_store_shorter j p a v x.place x.by a v x.stores in
-      let same = event_place_does_same j x.place x.by x.by (Store a y.value) (Store a v)
-      (subst (λ m. Does j m x.by (Store a y.value)) found.place does) mine in
-      (y, found.is, answering_kept_one_value a y.value a v same.1)
+  pub answering_kept_found : (x : LatestExplainedAnswer (did j p (Load a v)) (length j) a v)
+      → IsLatestInPast j p a x.by x.place × Does j x.place x.by (Store a v)
+  answering_kept_found x = (
+    answering_kept_latest j p a v x.by x.place (record { value = v; store = x; place = refl; by = refl }),
+    answering_store_shorter j p a v x.place x.by a v x.stores,
+  )
 
   -- where there is one, no other value may
-  pub answering_kept_other : (q : ℕ) (x : KeptStore) → IsKeptStoreUnfollowed cuts last q x
-      → ((r : ℕ) (y : KeptStore) → IsKeptStoreUnfollowed cuts last r y → y.value ≢ v)
+  pub answering_kept_other : (q i : ℕ) → IsLatestInPast j p a q i
+      → ((r m : ℕ) → IsLatestInPast j p a r m → ¬ Does j m r (Store a v))
       → ¬ IsAnswer (did j p (Load a v)) (length j) a v
-  answering_kept_other q x u others (inl none) =
-      let l = answering_kept_latest_of j p a v q x.place (choosing_kept_latest n j cuts p a of last given q x u) in
-      none.1 l.store.place l.store.by l.value l.store.stores l.store.before
-  answering_kept_other q x u others (inr l) = let found = answering_kept_found l in others l.by found.0 found.1 found.2
+  answering_kept_other q i x others (inl none) =
+      let l = answering_kept_latest_of j p a v q i x in none.1 l.store.place l.store.by l.value l.store.stores l.store.before
+  answering_kept_other q i x others (inr l) = let found = answering_kept_found l in others l.by l.place found.0 found.1
 
   -- and where there is none, just 0 may
-  pub answering_kept_none : ((q : ℕ) (x : KeptStore) → ¬ IsKeptStoreUnfollowed cuts last q x)
-      → IsAnswer (did j p (Load a v)) (length j) a v ↔ (v ≡ 0)
+  pub answering_kept_none : ((q i : ℕ) → ¬ IsLatestInPast j p a q i) → IsAnswer (did j p (Load a v)) (length j) a v ↔ (v ≡ 0)
   answering_kept_none none = (there, back)
     where
       there : IsAnswer (did j p (Load a v)) (length j) a v → v ≡ 0
       there (inl x) = x.0
-      there (inr l) = let found = answering_kept_found l in absurd (none l.by found.0 found.1)
+      there (inr l) = absurd (none l.by l.place (answering_kept_found l).0)
 
       back : v ≡ 0 → IsAnswer (did j p (Load a v)) (length j) a v
       back is = inl (
         is,
-        answering_untouched (did j p (Load a v)) (length j) a (λ q i l.
-            (let found = choosing_kept_unfollowed n j cuts p a of last given q i (answering_kept_latest j p a v q i l) in
-            none q found.store found.is)),
+        answering_untouched (did j p (Load a v)) (length j) a (λ q i l. none q i (answering_kept_latest j p a v q i l)),
       )
 
   -- they are all the latest stores
   pub answering_kept_stores : (x : FlatStore) → IsLatestStore (did j p (Load a v)) (length j) a x
-      → (y : KeptStore) × IsKeptStoreUnfollowed cuts last x.by y × (x.place ≡ y.place) × (x.value ≡ y.value)
-  answering_kept_stores x l =
-      let found = choosing_kept_unfollowed n j cuts p a of last given x.by x.place
-      (answering_kept_latest j p a v x.by x.place l.latest) in
-      let y = found.store in
-      let does = (choosing_kept_store n j cuts p a of last given x.by y found.is.at).does in
-      let mine = answering_store_shorter j p a v x.place x.by a x.value l.stores in
-      let same = event_place_does_same j x.place x.by x.by (Store a y.value) (Store a x.value)
-      (subst (λ m. Does j m x.by (Store a y.value)) found.place does) mine in
-      (y, found.is, sym found.place, sym (answering_kept_one_value a y.value a x.value same.1))
+      → IsLatestInPast j p a x.by x.place × Does j x.place x.by (Store a x.value)
+  answering_kept_stores x l = (
+    answering_kept_latest j p a v x.by x.place l.latest,
+    answering_store_shorter j p a v x.place x.by a x.value l.stores,
+  )
 
-  pub answering_kept_stores_of : (x : FlatStore) (y : KeptStore) → IsKeptStoreUnfollowed cuts last x.by y → x.place ≡ y.place
-      → x.value ≡ y.value → IsLatestStore (did j p (Load a v)) (length j) a x
-  answering_kept_stores_of x y u place value =
-      let l = answering_kept_latest_of j p a v x.by y.place (choosing_kept_latest n j cuts p a of last given x.by y u) in
-      let does = event_place_longer j (event p (Load a v) ∷ []) y.place (event x.by (Store a y.value))
-      (choosing_kept_store n j cuts p a of last given x.by y u.at).does in
-      record {
-        stores = subst (λ m. Does (did j p (Load a v)) m x.by (Store a x.value)) (sym place)
-            (subst (λ w. Does (did j p (Load a v)) y.place x.by (Store a w)) (sym value) does);
-        latest = subst (IsLatest (did j p (Load a v)) (length j) a x.by) (sym place) l;
-      }
+  pub answering_kept_stores_of : (x : FlatStore) → IsLatestInPast j p a x.by x.place → Does j x.place x.by (Store a x.value)
+      → IsLatestStore (did j p (Load a v)) (length j) a x
+  answering_kept_stores_of x l does = record {
+    stores = event_place_longer j (event p (Load a v) ∷ []) x.place (event x.by (Store a x.value)) does;
+    latest = answering_kept_latest_of j p a v x.by x.place l;
+  }
+
+-- two latest stores of a processor are one
+pub answering_kept_same : (j : List Event) (p a q i k : ℕ) → IsLatestInPast j p a q i → IsLatestInPast j p a q k → i ≡ k
+answering_kept_same j p a q i k x y = elim (cases_lt i k) [
+  | inl lt ↦ absurd (x.latest k q y.value y.does y.past
+      (leaving_closes_own_order j q i k (Store a x.value) (Store a y.value) x.does y.does lt))
+  | inr le ↦ elim (cases_lt k i) [
+    | inl lt ↦ absurd (y.latest i q x.value x.does x.past
+        (leaving_closes_own_order j q k i (Store a y.value) (Store a x.value) y.does x.does lt))
+    | inr ge ↦ omega arith
+  ]
+]
+
+-- and of one value
+pub answering_kept_value : (j : List Event) (i q a v w : ℕ) → Does j i q (Store a v) → Does j i q (Store a w) → v ≡ w
+answering_kept_value j i q a v w one other =
+    let same = event_place_does_same j i q q (Store a v) (Store a w) one other in answering_kept_one_value a v a w same.1
 
 -- ---- outside the past
 

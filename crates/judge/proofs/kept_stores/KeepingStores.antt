@@ -11,9 +11,10 @@ use Rattle.journal.specs.declared.event.Kind.TheVariants.{Store}
 use Rattle.journal.specs.DidEvent.{did, event}
 use Rattle.journal.specs.EventsInRange.{EventProcessorsInRange}
 use Rattle.journal.specs.WellFormed.{Does}
-use Rattle.journal.specs.ClockEntry.{entry}
 use Rattle.journal.proofs.Order.EventPlacesAndCounts.{event_place_inside, event_place_longer, event_place_shorter, event_place_at_end}
 use Rattle.journal.proofs.Order.HappensBefore.{happens_before_goes_forward, happens_before_extension}
+use Rattle.judge.specs.declared.cut_rows.CutRows.{CutRows}
+use Rattle.judge.specs.CutRows.{cut_entry}
 use Rattle.judge.specs.declared.kept_store.KeptStore.{KeptStore}
 use Rattle.judge.specs.declared.sparse_table.SparseTable.{SparseTable}
 use Rattle.judge.specs.Cuts.{IsCutOf}
@@ -70,17 +71,17 @@ keeping_cut_before_longer j e q k t lt is = record {
 }
 
 -- a store stays
-pub keeping_store_longer : (j : List Event) (e : Event) (cuts : List (List ℕ)) (a q : ℕ) (x : KeptStore) → IsKeptStore j cuts a q x
+pub keeping_store_longer : (j : List Event) (e : Event) (cuts : CutRows) (a q : ℕ) (x : KeptStore) → IsKeptStore j cuts a q x
     → IsKeptStore (j ++ e ∷ []) cuts a q x
 keeping_store_longer j e cuts a q x is = record {
   does = event_place_longer j (e ∷ []) x.place (event q (Store a x.value)) is.does;
   within = is.within;
-  cut = keeping_cut_before_longer j e q x.place (entry cuts x.cut) (event_place_inside j x.place (event q (Store a x.value)) is.does)
+  cut = keeping_cut_before_longer j e q x.place (cut_entry cuts x.cut) (event_place_inside j x.place (event q (Store a x.value)) is.does)
       is.cut;
 }
 
 -- and under more cuts
-pub keeping_store_more : (j : List Event) (old new : List (List ℕ)) (a q : ℕ) (x : KeptStore) → KeepsCuts old new
+pub keeping_store_more : (j : List Event) (old new : CutRows) (a q : ℕ) (x : KeptStore) → KeepsCuts old new
     → IsKeptStore j old a q x → IsKeptStore j new a q x
 keeping_store_more j old new a q x more is = record {
   does = is.does;
@@ -95,12 +96,12 @@ keeping_store_more j old new a q x more is = record {
 }
 
 -- one that comes next is kept with its processor's cut
-pub keeping_store_now : (j : List Event) (cuts : List (List ℕ)) (a q : ℕ) (x : KeptStore) → x.place ≡ length j → x.cut < length cuts
-    → IsCutOf j q (entry cuts x.cut) → IsKeptStore (did j q (Store a x.value)) cuts a q x
+pub keeping_store_now : (j : List Event) (cuts : CutRows) (a q : ℕ) (x : KeptStore) → x.place ≡ length j → x.cut < cuts.count
+    → IsCutOf j q (cut_entry cuts x.cut) → IsKeptStore (did j q (Store a x.value)) cuts a q x
 keeping_store_now j cuts a q x place within cut = record {
   does = subst (λ n. Does (did j q (Store a x.value)) n q (Store a x.value)) (sym place) (event_place_at_end j e);
   within = within;
-  cut = subst (λ n. IsCutBefore (did j q (Store a x.value)) q n (entry cuts x.cut)) (sym place) (record {
+  cut = subst (λ n. IsCutBefore (did j q (Store a x.value)) q n (cut_entry cuts x.cut)) (sym place) (record {
     covers = λ i f at apart. elim (slice_push_cases j e i f at) [
       | inl old ↦ cut_tells_happens_before e cut refl old.1 apart
       | inr new ↦ absurd (apart (ap (λ (z : Event). z.processor) (sym new.1)))
@@ -114,7 +115,7 @@ keeping_store_now j cuts a q x place within cut = record {
 
 -- ---- the stores of a row
 
-pub keeping_row_more : (n : ℕ) (j : List Event) (old new : List (List ℕ)) (a q : ℕ) (stores : List KeptStore) → KeepsCuts old new
+pub keeping_row_more : (n : ℕ) (j : List Event) (old new : CutRows) (a q : ℕ) (stores : List KeptStore) → KeepsCuts old new
     → AreKeptStores n j old a q stores → AreKeptStores n j new a q stores
 keeping_row_more n j old new a q stores more are = record {
   each = λ m x at. keeping_store_more j old new a q x more (are.each m x at);
@@ -123,7 +124,7 @@ keeping_row_more n j old new a q stores more are = record {
 }
 
 -- any event but one more store leaves them
-pub keeping_row_others : (n : ℕ) (j : List Event) (e : Event) (cuts : List (List ℕ)) (a q : ℕ) (stores : List KeptStore)
+pub keeping_row_others : (n : ℕ) (j : List Event) (e : Event) (cuts : CutRows) (a q : ℕ) (stores : List KeptStore)
     → ((v : ℕ) → e ≢ event q (Store a v)) → AreKeptStores n j cuts a q stores → AreKeptStores n (j ++ e ∷ []) cuts a q stores
 keeping_row_others n j e cuts a q stores away are = record {
   each = λ m x at. keeping_store_longer j e cuts a q x (are.each m x at);
@@ -140,8 +141,8 @@ keeping_row_others n j e cuts a q stores away are = record {
 }
 
 -- a store that comes next is one more
-pub keeping_row_next : (n : ℕ) (j : List Event) (cuts : List (List ℕ)) (a q : ℕ) (stores : List KeptStore) (x : KeptStore)
-    → x.place ≡ length j → x.cut < length cuts → IsCutOf j q (entry cuts x.cut) → AreKeptStores n j cuts a q stores
+pub keeping_row_next : (n : ℕ) (j : List Event) (cuts : CutRows) (a q : ℕ) (stores : List KeptStore) (x : KeptStore)
+    → x.place ≡ length j → x.cut < cuts.count → IsCutOf j q (cut_entry cuts x.cut) → AreKeptStores n j cuts a q stores
     → AreKeptStores n (did j q (Store a x.value)) cuts a q (stores ++ x ∷ [])
 keeping_row_next n j cuts a q stores x place within cut are = record { each = each; rising = rising; all = all }
   where
@@ -186,11 +187,11 @@ keeping_row_next n j cuts a q stores x place within cut are = record { each = ea
     ]
 
 -- the rows of stores, of which each has those of a processor to an address
-abbrev pub AreKeptRows : ℕ → List Event → List (List ℕ) → SparseTable (Vec KeptStore) → Type 0
+abbrev pub AreKeptRows : ℕ → List Event → CutRows → SparseTable (Vec KeptStore) → Type 0
 AreKeptRows n j cuts rows = (a q : ℕ) → q < n → AreKeptStores n j cuts a q (sparse_row rows (kept_store_row n a q))
 
 -- an event that is no store leaves them
-pub keeping_rows_others : (n : ℕ) (j : List Event) (e : Event) (cuts : List (List ℕ)) (rows : SparseTable (Vec KeptStore))
+pub keeping_rows_others : (n : ℕ) (j : List Event) (e : Event) (cuts : CutRows) (rows : SparseTable (Vec KeptStore))
     → ((a v : ℕ) → e.kind ≢ Store a v) → AreKeptRows n j cuts rows → AreKeptRows n (j ++ e ∷ []) cuts rows
 keeping_rows_others n j e cuts rows away are a q lt =
     keeping_row_others n j e cuts a q (sparse_row rows (kept_store_row n a q))
@@ -201,9 +202,9 @@ keeping_rows_store_same a b v w p q is =
     let kind = ap (λ (x : Event). x.kind) is in (cc, ap (λ (x : Event). x.processor) is)
 
 -- a store that comes next is one more of its row
-pub keeping_rows_next : {n : ℕ} {j : List Event} (old new : List (List ℕ)) {before after : SparseTable (Vec KeptStore)} (a p : ℕ)
+pub keeping_rows_next : {n : ℕ} {j : List Event} (old new : CutRows) {before after : SparseTable (Vec KeptStore)} (a p : ℕ)
     {x : KeptStore} → KeepsCuts old new → p < n → IsSparseRowWith before after (kept_store_row n a p) x
-    → x.place ≡ length j → x.cut < length new → IsCutOf j p (entry new x.cut) → AreKeptRows n j old before
+    → x.place ≡ length j → x.cut < new.count → IsCutOf j p (cut_entry new x.cut) → AreKeptRows n j old before
     → AreKeptRows n (did j p (Store a x.value)) new after
 keeping_rows_next {n = n} {j = j} old new {before = before} {after = after} a p {x = x} more few written place within cut are b q lt =
     elim (cases_eq (kept_store_row n b q) (kept_store_row n a p)) [
@@ -233,7 +234,7 @@ keeping_rows_next {n = n} {j = j} old new {before = before} {after = after} a p 
         (keeping_row_more n j old new b q was more (are b q lt)))
 
 -- before the first event there is no store
-pub keeping_rows_first : (n : ℕ) (cuts : List (List ℕ)) (rows : SparseTable (Vec KeptStore)) → ((r : ℕ) → sparse_at rows r ≡ None)
+pub keeping_rows_first : (n : ℕ) (cuts : CutRows) (rows : SparseTable (Vec KeptStore)) → ((r : ℕ) → sparse_at rows r ≡ None)
     → AreKeptRows n [] cuts rows
 keeping_rows_first n cuts rows empty a q lt =
     subst (AreKeptStores n [] cuts a q) (sym (ap sparse_items (empty (kept_store_row n a q)))) (record {

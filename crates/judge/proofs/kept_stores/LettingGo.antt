@@ -6,11 +6,12 @@ use Rattle.journal.specs.declared.event.Event.{Event}
 use Rattle.journal.specs.declared.event.Kind.TheVariants.{Store}
 use Rattle.journal.specs.DidEvent.{event}
 use Rattle.journal.specs.WellFormed.{Does}
-use Rattle.journal.specs.ClockEntry.{entry}
 use Rattle.journal.proofs.Order.EventPlacesAndCounts.{event_place_longer}
 use Rattle.journal.proofs.Order.HappensBefore.{happens_before_longer}
 use Rattle.journal.proofs.Order.IntoPast.{into_past_back, into_past_longer}
 use Rattle.journal.proofs.Times.LeavingCloses.{leaving_closes_own_order}
+use Rattle.judge.specs.declared.cut_rows.CutRows.{CutRows}
+use Rattle.judge.specs.CutRows.{cut_entry}
 use Rattle.judge.specs.declared.kept_store.KeptStore.{KeptStore}
 use Rattle.judge.specs.KeptInPasts.{IsKeptStoreIndex, IsLastKeptInPast}
 use Rattle.judge.specs.KeptStores.{AreKeptStores, HasKeptStoreAt, IsKeptStore}
@@ -29,9 +30,9 @@ letting_go_hidden n j a q i hidden x =
     ]
 
 -- up to which place the last store x of r follows those of q
-pub letting_go_followed : (n : ℕ) (j : List Event) (cuts : List (List ℕ)) (p a q r i v limit : ℕ) (x : KeptStore) (stores : List KeptStore)
+pub letting_go_followed : (n : ℕ) (j : List Event) (cuts : CutRows) (p a q r i v limit : ℕ) (x : KeptStore) (stores : List KeptStore)
     → AreKeptStores n j cuts a r stores → IsLastKeptInPast j p stores x → Does j i q (Store a v)
-    → limit ≡ cond (r == q) x.place (entry cuts x.cut q) → i < limit → IsHiddenInPast j p a i
+    → limit ≡ cond (r == q) x.place (cut_entry cuts x.cut q) → i < limit → IsHiddenInPast j p a i
 letting_go_followed n j cuts p a q r i v limit x stores are last does is lt = record {
   place = x.place;
   by = r;
@@ -44,7 +45,7 @@ letting_go_followed n j cuts p a q r i v limit x stores are last does is lt = re
         leaving_closes_own_order j q i x.place (Store a v) (Store a x.value) does
         (subst (λ s. Does j x.place s (Store a x.value)) same kept.does) (omega arith))
     | inr isnt ↦
-        (let cut : limit ≡ entry cuts x.cut q = is ∙ (rw (ne_eqb r q isnt) refl) in
+        (let cut : limit ≡ cut_entry cuts x.cut q = is ∙ (rw (ne_eqb r q isnt) refl) in
         (kept.cut.covers i (event q (Store a v)) does (λ same. isnt (sym same))).1 (omega arith))
   ];
 }
@@ -53,7 +54,7 @@ letting_go_followed n j cuts p a q r i v limit x stores are last does is lt = re
     kept = are.each last.has.0 x last.has.1
 
 -- the stores from this index on are all that may be answered later
-pub letting_go_row : (n : ℕ) (j : List Event) (cuts : List (List ℕ)) (a q limit from : ℕ) (stores : List KeptStore)
+pub letting_go_row : (n : ℕ) (j : List Event) (cuts : CutRows) (a q limit from : ℕ) (stores : List KeptStore)
     → AreKeptStores n j cuts a q stores → IsKeptStoreIndex stores limit from
     → ((i v p : ℕ) → Does j i q (Store a v) → i < limit → p < n → IsHiddenInPast j p a i)
     → AreKeptStores n j cuts a q (drop from stores)

@@ -1,27 +1,22 @@
 -- The cuts that are kept.
-use Rattle.std.proofs.Common.{ℕ, ◌<◌, ◌≤◌, inl, inr, List, [], ◌∷◌, ◌++◌, length, slice_index, slice_set, subst, sym, ap, arith, length-append}
+use Rattle.std.proofs.Common.{◌≡◌, ℕ, ◌<◌, ◌≤◌, inl, inr, List, length, slice_index, slice_set, subst, sym, ◌∙◌, arith}
 use Rattle.std.proofs.lemmas.Bool.{cases_eq}
-use Rattle.std.proofs.lemmas.List.{get_or_append_left, get_or-set_same, get_or-set_other}
-use Rattle.std.proofs.Math.Seq.{get_or-append_seam}
+use Rattle.std.proofs.lemmas.List.{get_or-set_same, get_or-set_other}
 use Rattle.journal.specs.declared.event.Event.{Event}
-use Rattle.journal.specs.ClockEntry.{entry}
+use Rattle.judge.specs.declared.cut_rows.CutRows.{CutRows}
+use Rattle.judge.specs.CutRows.{cut_entry}
+use Rattle.judge.specs.CutEntries.{CutEntriesMarkedAt}
 use Rattle.judge.specs.Cuts.{IsCutOf}
-use Rattle.judge.specs.MovedCuts.{KeepsCuts}
-use Rattle.judge.proofs.TellingCuts.{cut_of_equal}
 
--- one cut more
-pub keeping_cut_pushed : (cuts : List (List ℕ)) (t : List ℕ) → KeepsCuts cuts (cuts ++ t ∷ [])
-keeping_cut_pushed cuts t = record {
-  more = (let long = length-append cuts (t ∷ []) in omega arith);
-  same = λ n q lt. ap (λ (x : List ℕ). slice_index x q) (get_or_append_left cuts (t ∷ []) [] n lt);
-}
-
--- stands last
-pub keeping_cut_last : (j : List Event) (cuts : List (List ℕ)) (t : List ℕ) (p : ℕ) → IsCutOf j p (slice_index t)
-    → IsCutOf j p (entry (cuts ++ t ∷ []) (length cuts))
-keeping_cut_last j cuts t p =
-    cut_of_equal j p (slice_index t) (entry (cuts ++ t ∷ []) (length cuts))
-    (λ q. sym (ap (λ (x : List ℕ). slice_index x q) (get_or-append_seam cuts t [] [])))
+-- a cut that was added, and then marked, is that without its own entry
+pub keeping_cut_pushed : (pushed new : CutRows) (n p : ℕ) (t : List ℕ) → p < length t
+    → ((q : ℕ) → cut_entry pushed n q ≡ slice_index t q) → CutEntriesMarkedAt (cut_entry pushed) (cut_entry new) n p 0
+    → (q : ℕ) → slice_index (slice_set t p 0) q ≡ cut_entry new n q
+keeping_cut_pushed pushed new n p t inside last marked q = elim (cases_eq q p) [
+  | inl same ↦ subst (λ r. slice_index (slice_set t p 0) r ≡ cut_entry new n r) (sym same)
+      (get_or-set_same t p 0 0 inside ∙ sym marked.own)
+  | inr isnt ↦ get_or-set_other t p q 0 0 isnt ∙ sym (marked.others q isnt ∙ last q)
+]
 
 -- a processor's cut tells as much without its own entry
 pub keeping_cut_without_own : (j : List Event) (t : List ℕ) (p : ℕ) → p < length t → IsCutOf j p (slice_index t)

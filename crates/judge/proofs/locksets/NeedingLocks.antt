@@ -5,7 +5,6 @@ use Rattle.std.proofs.lemmas.Bool.{cases_lt}
 use Rattle.std.proofs.lemmas.List.{take-map}
 use Rattle.std.proofs.lemmas.Option.{same_Some}
 use Rattle.base.specs.InOrderOnce.{Has}
-use Rattle.base.proofs.SlicesAndCounts.{slice_get-take}
 use Rattle.journal.specs.declared.event.Event.{Event}
 use Rattle.journal.specs.declared.event.Kind.{Kind}
 use Rattle.journal.specs.DidEvent.{event}
@@ -19,7 +18,6 @@ use Rattle.judge.specs.declared.locksets.watched_word.Guarded.{Guarded}
 use Rattle.judge.specs.declared.locksets.watched_word.LockedAccess.{LockedAccess}
 use Rattle.judge.specs.declared.locksets.watched_word.PairedAccess.{PairedAccess}
 use Rattle.judge.specs.Cuts.{IsCutOf}
-use Rattle.judge.specs.JudgedSizes.{most_judged_processors}
 use Rattle.judge.specs.Locksets.Unlocked.{unlocked_event, unlocked_history}
 use Rattle.judge.specs.Locksets.Held.{AreHeldLocks, HasHeldLock, HeldLocksShare}
 use Rattle.judge.specs.Locksets.Pairs.{IsGuardedPair, IsPairLockHeld, IsPairedAccess, IsUnguardedPair, IsPairToLock, TellsGuardedPair, TellsUnguardedPair}
@@ -261,10 +259,3 @@ pub needing_unguarded_none : (j : List Event) (a n : ℕ) (o : Option (PairedAcc
     → (i k : ℕ) → k < n → ¬ IsUnguardedPair j a i k
 needing_unguarded_none j a n None is of = of
 needing_unguarded_none j a n (Some u) is of = absurd (cc is)
-
--- the processors of what is kept are in range
-pub needing_processors : {j : List Event} {a n : ℕ} {xs : List LockedAccess} {y : LockedAccess} {t : ℕ → ℕ} → IsWatchedNext j a n y t
-    → AreWatchedAccesses j a n xs → (x : LockedAccess) → Has xs x → x.processor < most_judged_processors
-needing_processors {j = j} {n = n} comes are x has =
-    let kept = are.each x has in
-    comes.range x.place (event x.processor kept.access.kind) (slice_get-take j n x.place kept.below ∙ kept.access.does)

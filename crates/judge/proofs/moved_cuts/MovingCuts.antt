@@ -1,79 +1,75 @@
 -- Cuts that are moved, and the stores that stand behind them.
-use Rattle.std.proofs.Common.{◌≡◌, ℕ, zero, suc, ◌+◌, ◌<◌, inl, inr, List, [], ◌∷◌, ◌++◌, drop, take, length, Option, Some, slice_get, slice_index, slice_index_or, slice_set, subst, sym, refl, ap, ◌∙◌, arith, length-append}
+use Rattle.std.proofs.Common.{◌≡◌, ℕ, zero, suc, ◌+◌, ◌<◌, inl, inr, List, [], ◌++◌, drop, take, length, Option, Some, slice_get, slice_index, slice_index_or, slice_set, subst, sym, refl, ap, ◌∙◌, arith}
 use Rattle.std.specs.Prelude.{None}
 use Rattle.std.specs.Global.{Vec}
 use Rattle.std.specs.Vec.{with_items}
 use Rattle.std.proofs.lemmas.Bool.{cases_eq}
 use Rattle.std.proofs.lemmas.List.{get_or-set_same, get_or-set_other}
 use Rattle.std.proofs.lemmas.Option.{none-some, same_Some, slice_get-get_or, slice_get_within}
-use Rattle.std.proofs.Math.Seq.{get_or-append_seam, take-append_seam}
+use Rattle.std.proofs.Math.Seq.{take-append_seam}
 use Rattle.journal.specs.declared.event.Event.{Event}
 use Rattle.journal.specs.declared.event.Kind.TheVariants.{Store}
 use Rattle.journal.specs.WellFormed.{Does}
-use Rattle.journal.specs.ClockEntry.{entry}
+use Rattle.judge.specs.declared.cut_rows.CutRows.{CutRows}
+use Rattle.judge.specs.CutRows.{cut_entry}
 use Rattle.judge.specs.declared.kept_store.KeptStore.{KeptStore}
 use Rattle.judge.specs.declared.sparse_table.SparseTable.{SparseTable}
 use Rattle.judge.specs.KeptStores.{AreKeptStores, IsCutBefore, IsKeptStore}
 use Rattle.judge.specs.MovedCuts.{AreMovedRows, AreMovedStores, IsMovedCut, IsMovedStore, KeepsCuts}
 use Rattle.judge.specs.SparseTables.{sparse_items, sparse_mark, sparse_row, sparse_table_value}
-use Rattle.judge.proofs.known_cuts.KeepingCuts.{keeping_cut_pushed}
 
 -- nothing changes
-pub moving_kept_same : (cuts : List (List ℕ)) → KeepsCuts cuts cuts
+pub moving_kept_same : (cuts : CutRows) → KeepsCuts cuts cuts
 moving_kept_same cuts = record { more = omega arith; same = λ n q lt. refl }
 
 -- one after the other
-pub moving_kept_on : (a b c : List (List ℕ)) → KeepsCuts a b → KeepsCuts b c → KeepsCuts a c
+pub moving_kept_on : (a b c : CutRows) → KeepsCuts a b → KeepsCuts b c → KeepsCuts a c
 moving_kept_on a b c x y = record {
   more = (let m = x.more in let n = y.more in omega arith);
   same = λ n q lt. (let m = x.more in y.same n q (omega arith) ∙ x.same n q lt);
 }
 
 -- a moved cut stays where more are moved
-pub moving_cut_longer : (old a b : List (List ℕ)) (n m : ℕ) → KeepsCuts a b → IsMovedCut old a n m → IsMovedCut old b n m
+pub moving_cut_longer : (old a b : CutRows) (n m : ℕ) → KeepsCuts a b → IsMovedCut old a n m → IsMovedCut old b n m
 moving_cut_longer old a b n m more is = record {
   within = (let x = more.more in let w = is.within in omega arith);
   same = λ q. more.same m q is.within ∙ is.same q;
 }
 
-pub moving_store_longer : (old a b : List (List ℕ)) (x y : KeptStore) → KeepsCuts a b → IsMovedStore old a x y → IsMovedStore old b x y
+pub moving_store_longer : (old a b : CutRows) (x y : KeptStore) → KeepsCuts a b → IsMovedStore old a x y → IsMovedStore old b x y
 moving_store_longer old a b x y more is = record {
   place = is.place;
   value = is.value;
   cut = λ within. moving_cut_longer old a b x.cut y.cut more (is.cut within);
 }
 
-pub moving_stores_longer : (old a b : List (List ℕ)) (xs ys : List KeptStore) → KeepsCuts a b → AreMovedStores old a xs ys
+pub moving_stores_longer : (old a b : CutRows) (xs ys : List KeptStore) → KeepsCuts a b → AreMovedStores old a xs ys
     → AreMovedStores old b xs ys
 moving_stores_longer old a b xs ys more are = record {
   long = are.long;
   each = λ m x at. (let y = are.each m x at in (y.0, y.1, moving_store_longer old a b x y.0 more y.2));
 }
 
--- a cut that is moved stands last
-pub moving_cut_pushed : (old cuts : List (List ℕ)) (c : List ℕ) (n : ℕ) → ((q : ℕ) → slice_index c q ≡ entry old n q)
-    → IsMovedCut old (cuts ++ c ∷ []) n (length cuts)
-moving_cut_pushed old cuts c n is = record {
-  within = (let long = length-append cuts (c ∷ []) in omega arith);
-  same = λ q. ap (λ (x : List ℕ). slice_index x q) (get_or-append_seam cuts c [] []) ∙ is q;
+pub moving_rows_longer : (old a b : CutRows) (xs ys : List (Vec KeptStore)) → KeepsCuts a b → AreMovedRows old a xs ys
+    → AreMovedRows old b xs ys
+moving_rows_longer old a b xs ys more are = record {
+  long = are.long;
+  each = λ n x at. (let y = are.each n x at in (y.0, y.1, moving_stores_longer old a b x.items y.0.items more y.2));
 }
 
--- and its place is told
-pub moving_cut_told : (old cuts : List (List ℕ)) (places : List ℕ) (c : List ℕ) (n : ℕ) → n < length places
-    → ((q : ℕ) → slice_index c q ≡ entry old n q)
-    → ((k m : ℕ) → slice_index places k ≡ suc m → IsMovedCut old cuts k m)
-    → (k m : ℕ) → slice_index (slice_set places n (length cuts + 1)) k ≡ suc m → IsMovedCut old (cuts ++ c ∷ []) k m
-moving_cut_told old cuts places c n within is before k m told = elim (cases_eq k n) [
+-- the place of a cut that is moved is told
+pub moving_cut_told : (old a b : CutRows) (places : List ℕ) (n : ℕ) → n < length places → KeepsCuts a b → IsMovedCut old b n a.count
+    → ((k m : ℕ) → slice_index places k ≡ suc m → IsMovedCut old a k m)
+    → (k m : ℕ) → slice_index (slice_set places n (a.count + 1)) k ≡ suc m → IsMovedCut old b k m
+moving_cut_told old a b places n within more now before k m told = elim (cases_eq k n) [
   | inl same ↦
-      (let here = get_or-set_same places n (length cuts + 1) 0 within in
-      let one : length cuts + 1 ≡ suc m =
-      sym here ∙ (sym (ap (slice_index (slice_set places n (length cuts + 1))) same) ∙ told) in
-      let place : length cuts ≡ m = omega arith in
-      subst (IsMovedCut old (cuts ++ c ∷ []) k) place
-      (subst (λ i. IsMovedCut old (cuts ++ c ∷ []) i (length cuts)) (sym same) (moving_cut_pushed old cuts c n is)))
+      (let here = get_or-set_same places n (a.count + 1) 0 within in
+      let one : a.count + 1 ≡ suc m =
+      sym here ∙ (sym (ap (slice_index (slice_set places n (a.count + 1))) same) ∙ told) in
+      let place : a.count ≡ m = omega arith in
+      subst (IsMovedCut old b k) place (subst (λ i. IsMovedCut old b i a.count) (sym same) now))
   | inr isnt ↦
-      moving_cut_longer old cuts (cuts ++ c ∷ []) k m (keeping_cut_pushed cuts c)
-      (before k m (sym (get_or-set_other places n k (length cuts + 1) 0 isnt) ∙ told))
+      moving_cut_longer old a b k m more (before k m (sym (get_or-set_other places n k (a.count + 1) 0 isnt) ∙ told))
 ]
 
 -- a list of other items, as many
@@ -88,7 +84,7 @@ nothing : KeptStore
 nothing = record { place = 0; value = 0; cut = 0 }
 
 -- the store that was moved there
-moving_store_at : (old new : List (List ℕ)) (xs ys : List KeptStore) (m : ℕ) (y : KeptStore) → AreMovedStores old new xs ys
+moving_store_at : (old new : CutRows) (xs ys : List KeptStore) (m : ℕ) (y : KeptStore) → AreMovedStores old new xs ys
     → slice_get ys m ≡ Some y → (x : KeptStore) × (slice_get xs m ≡ Some x) × IsMovedStore old new x y
 moving_store_at old new xs ys m y are at =
     let long = are.long in
@@ -99,7 +95,7 @@ moving_store_at old new xs ys m y are at =
     (x, there, subst (IsMovedStore old new x) (same_Some z.0 y (sym z.1 ∙ at)) z.2)
 
 -- a moved store is kept
-moving_store_kept : (j : List Event) (old new : List (List ℕ)) (a q : ℕ) (x y : KeptStore) → IsKeptStore j old a q x
+moving_store_kept : (j : List Event) (old new : CutRows) (a q : ℕ) (x y : KeptStore) → IsKeptStore j old a q x
     → IsMovedStore old new x y → IsKeptStore j new a q y
 moving_store_kept j old new a q x y is moved =
     let cut = moved.cut is.within in
@@ -107,7 +103,7 @@ moving_store_kept j old new a q x y is moved =
       does = subst (λ i. Does j i q (Store a y.value)) (sym moved.place)
           (subst (λ v. Does j x.place q (Store a v)) (sym moved.value) is.does);
       within = cut.within;
-      cut = subst (λ k. IsCutBefore j q k (entry new y.cut)) (sym moved.place) (record {
+      cut = subst (λ k. IsCutBefore j q k (cut_entry new y.cut)) (sym moved.place) (record {
         covers = λ i e at apart.
             (let same = cut.same e.processor in
             let was = is.cut.covers i e at apart in
@@ -117,7 +113,7 @@ moving_store_kept j old new a q x y is moved =
     }
 
 -- so are those of a row
-pub moving_row_kept : (n : ℕ) (j : List Event) (old new : List (List ℕ)) (a q : ℕ) (xs ys : List KeptStore)
+pub moving_row_kept : (n : ℕ) (j : List Event) (old new : CutRows) (a q : ℕ) (xs ys : List KeptStore)
     → AreMovedStores old new xs ys → AreKeptStores n j old a q xs → AreKeptStores n j new a q ys
 moving_row_kept n j old new a q xs ys moved are = record {
   each = λ m y at.
@@ -137,7 +133,7 @@ moving_row_kept n j old new a q xs ys moved are = record {
 }
 
 -- the rows of a table
-pub moving_table_row : (old new : List (List ℕ)) (t : SparseTable (Vec KeptStore)) (rows : List (Vec KeptStore)) (r : ℕ)
+pub moving_table_row : (old new : CutRows) (t : SparseTable (Vec KeptStore)) (rows : List (Vec KeptStore)) (r : ℕ)
     → AreMovedRows old new t.kept.items rows
     → AreMovedStores old new (sparse_row t r) (sparse_items (sparse_table_value rows (sparse_mark t.marks.items r)))
 moving_table_row old new t rows r are = go (sparse_mark t.marks.items r)

@@ -5,7 +5,6 @@ use Rattle.journal.specs.declared.event.Event.{Event}
 use Rattle.journal.specs.declared.event.Kind.{Kind}
 use Rattle.journal.specs.declared.event.Kind.TheVariants.{Store}
 use Rattle.journal.specs.Events.{EventAt, event_address, event_stores}
-use Rattle.journal.specs.EventsInRange.{EventProcessorsInRange}
 use Rattle.journal.specs.WellFormed.{Does}
 use Rattle.judge.specs.declared.locksets.watched_word.Guarded.{Guarded}
 use Rattle.judge.specs.declared.locksets.watched_word.LockedAccess.{LockedAccess}
@@ -14,7 +13,6 @@ use Rattle.judge.specs.declared.locksets.watched_word.WatchedStorers.{WatchedSto
 use Rattle.judge.specs.declared.locksets.watched_word.WatchedStorers.TheVariants.{Nobody, One, Several}
 use Rattle.judge.specs.declared.locksets.watched_word.WatchedWord.{WatchedWord}
 use Rattle.judge.specs.Cuts.{IsCutOf}
-use Rattle.judge.specs.JudgedSizes.{most_judged_processors}
 use Rattle.judge.specs.Locksets.Unlocked.{unlocked_history}
 use Rattle.judge.specs.Locksets.Held.{AreHeldLocks, HeldLocksShare}
 use Rattle.judge.specs.Locksets.Pairs.{IsGuardedPair, IsStoredByPair, IsUnguardedPair, MayBeginPair, TellsGuardedPair, TellsUnguardedPair}
@@ -34,7 +32,6 @@ pub record IsWatchCandidate (j : List Event) (a i : ℕ) (x : LockedAccess) : Ty
 
 -- y is the access of a at place n, and t is what its processor knows of the others there, where locks order nothing
 pub record IsWatchedNext (j : List Event) (a n : ℕ) (y : LockedAccess) (t : ℕ → ℕ) : Type 0 where
-  pub range : EventProcessorsInRange most_judged_processors (take n j)
   pub access : IsWatchCandidate j a n y
   pub cut : IsCutOf (unlocked_history (take n j)) y.processor t
 

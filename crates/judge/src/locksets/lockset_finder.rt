@@ -7,7 +7,6 @@ ghost use Rattle.judge.specs.Prelude.{IsSparse, most_judged_events, most_judged_
 ghost use Rattle.judge.specs.Locksets.Prelude.{AreKeptLocksetWords, AreKeptLocksetsOfAll, ComesNextToWatch, IsGuardedPair, IsLocksetFinderOf, IsUnguardedPair, IsUnprotectedAsked};
 ghost use Rattle.judge.specs.Locksets.Prelude.{IsWatchCandidate, IsWatchedNext, PairsLeaveUnprotected, PairsTellUnprotected, TellsGuardedPair, WatchedTells};
 
-use crate::cut::Cut;
 use crate::cuts::Cuts;
 use crate::locksets::held_locks::HeldLocks;
 use crate::locksets::unlocked::unlocked_event;
@@ -93,7 +92,7 @@ fn watch_finder_word(
     words: &mut SparseTable<WatchedWord>,
     address: usize,
     access: LockedAccess,
-    cut: &Cut,
+    cut: &[u32],
 ) -> Result<(), AllocError>
     requires sparse { IsSparse words.old }
     requires room { address < sparse_room words.old }

@@ -8,7 +8,7 @@ ghost use Rattle.judge.specs.Locksets.Prelude.{AreWatchedRacing, AreWatchedStore
 ghost use Rattle.judge.specs.Locksets.Prelude.{IsWatchedGuarded, IsWatchedGuardedWith, IsWatchedAlike, IsWatchCandidate, IsWatchedUnguarded};
 ghost use Rattle.judge.specs.Locksets.Prelude.{IsUnwatched, IsWatchedUnguardedWith, WatchedTells, paired_access};
 
-use crate::cut::Cut;
+use crate::cut_rows::known_in;
 use crate::locksets::held_locks::HeldLocks;
 use std::alloc::{AllocError, Global};
 
@@ -96,22 +96,20 @@ impl WatchedStorers {
 }
 
 /// Whether the accesses, of which the second one's processor knows this of the others, need a lock.
-fn are_watched_racing(earlier: &LockedAccess, later: &LockedAccess, cut: &Cut) -> bool
-    requires { earlier.now.processor < most_judged_processors }
+fn are_watched_racing(earlier: &LockedAccess, later: &LockedAccess, cut: &[u32]) -> bool
     ensures { IsTrue result ↔ AreWatchedRacing earlier.now later.now (slice_index cut.now) }
 {
     earlier.processor != later.processor
         && (earlier.stores || later.stores)
-        && cut[earlier.processor] as usize <= earlier.place
+        && known_in(cut, earlier.processor) as usize <= earlier.place
 }
 
 /// The first of these accesses that needs a lock with a later one and has one in common with it.
 fn watched_word_first_guarded(
     accesses: &[LockedAccess],
     later: &LockedAccess,
-    cut: &Cut,
+    cut: &[u32],
 ) -> Option<Guarded>
-    requires { (x : LockedAccess) → Has accesses.now x → x.processor < most_judged_processors }
     ensures { MatchOption result
         ((x : LockedAccess) (l : ℕ) → Has accesses.now x → AreWatchedRacing x later.now (slice_index cut.now)
         → ¬ HeldLocksShare x.held later.now.held l)
@@ -132,9 +130,8 @@ fn watched_word_first_guarded(
 fn watched_word_first_unguarded(
     accesses: &[LockedAccess],
     later: &LockedAccess,
-    cut: &Cut,
+    cut: &[u32],
 ) -> Option<(PairedAccess, PairedAccess)>
-    requires { (x : LockedAccess) → Has accesses.now x → x.processor < most_judged_processors }
     ensures { MatchOption result
         ((x : LockedAccess) → Has accesses.now x → AreWatchedRacing x later.now (slice_index cut.now)
         → (l : ℕ) × HeldLocksShare x.held later.now.held l)
@@ -186,7 +183,7 @@ impl WatchedWord {
     }
 
     /// Two accesses with a lock in common, up to the one that comes next.
-    fn guarded_with(&self, access: &LockedAccess, cut: &Cut) -> Option<Guarded>
+    fn guarded_with(&self, access: &LockedAccess, cut: &[u32]) -> Option<Guarded>
         requires { (j : List Event) × (a : ℕ) × (n : ℕ) × WatchedTells j a n self.now
             × IsWatchedNext j a n access.now (slice_index cut.now) }
         ensures { (j : List Event) (a n : ℕ) → WatchedTells j a n self.now
@@ -202,7 +199,7 @@ impl WatchedWord {
     fn unguarded_with(
         &self,
         access: &LockedAccess,
-        cut: &Cut,
+        cut: &[u32],
     ) -> Option<(PairedAccess, PairedAccess)>
         requires { (j : List Event) × (a : ℕ) × (n : ℕ) × WatchedTells j a n self.now
             × IsWatchedNext j a n access.now (slice_index cut.now) }
@@ -217,7 +214,7 @@ impl WatchedWord {
 
     /// Takes note of an access of the word, which comes next; its processor knows this of the others. The only error is running
     /// out of memory.
-    pub(crate) fn note(&mut self, access: LockedAccess, cut: &Cut) -> Result<(), AllocError>
+    pub(crate) fn note(&mut self, access: LockedAccess, cut: &[u32]) -> Result<(), AllocError>
         requires { (j : List Event) × (a : ℕ) × (n : ℕ) × WatchedTells j a n self.old
             × IsWatchedNext j a n access (slice_index cut.now) }
         ensures { OnOk result ((j : List Event) (a n : ℕ) → WatchedTells j a n self.old

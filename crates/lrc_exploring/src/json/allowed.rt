@@ -1,6 +1,8 @@
 //! What was found of all schedules of a racy script, and what its runs may show by the rules of the memory.
 ghost use Rattle.std.specs.Prelude.{◌≡◌, ℕ, List, OnOk, Err};
 ghost use Rattle.std.specs.Io.KnownBytes.{Appends};
+ghost use Rattle.lrc_json.specs.Prelude.{AreMoreLinesPut, HasMembers};
+ghost use Rattle.lrc_exploring.specs.Prelude.{IsAllowedJson, allowed_rules};
 ghost use Rattle.lrc_json.specs.declared.fault.JsonFault.TheVariants.{NoMemory};
 
 use crate::json::explored::{
@@ -67,7 +69,9 @@ fn allowed_outcome_json(
 }
 
 /// How many outcomes the rules allow, whether there are no others, and how many beginnings of runs were looked at.
-fn allowed_rules_json(alloc: Global, allowed: &AllowedOutcomes) -> Members {
+fn allowed_rules_json(alloc: Global, allowed: &AllowedOutcomes) -> Members
+    ensures { HasMembers result (allowed_rules allowed.now) }
+{
     let mut members = Members::telling(alloc, "rules");
     members.put_number("outcomes", allowed.outcomes.len());
     members.put_flag("all", allowed.are_all);
@@ -82,7 +86,9 @@ fn put_allowed_json(
     script: &Script,
     allowed: &AllowedOutcomes,
     shown: &MemoryShown,
-) -> Result<(), AllocError> {
+) -> Result<(), AllocError>
+    ensures { OnOk result (AreMoreLinesPut lines.old lines.new) }
+{
     let rows = sorted_run_outcomes(alloc, &allowed.outcomes)?;
     for (_, place) in &rows {
         if let Some(run) = allowed.outcomes.get(*place) {
@@ -90,6 +96,20 @@ fn put_allowed_json(
         }
     }
     Ok(())
+}
+
+/// The same; that memory ran out is told at the end.
+fn put_allowed_lines_json(
+    lines: &mut JsonLines,
+    alloc: Global,
+    script: &Script,
+    allowed: &AllowedOutcomes,
+    shown: &MemoryShown,
+)
+    ensures { AreMoreLinesPut lines.old lines.new }
+{
+    let put = put_allowed_json(lines, alloc, script, allowed, shown);
+    lines.note(put);
 }
 
 /// Writes what was found of all schedules of a racy script that shows these addresses, and what its runs may show by the rules of the
@@ -107,13 +127,12 @@ pub fn write_allowed_json<W: Write>(
     shown: &MemoryShown,
     out: &mut W,
 ) -> Result<(), JsonFault>
-    ensures written { OnOk result ((text : List ℕ) × Appends (W.contents out.old) (W.contents out.new) text) }
+    ensures written { OnOk result ((text : List ℕ) × IsAllowedJson explored.now allowed.now text × Appends (W.contents out.old) (W.contents out.new) text) }
     ensures unwritten { result ≡ Err NoMemory → W.contents out.new ≡ W.contents out.old }
 {
     let mut lines = JsonLines::new(alloc);
     put_explored_json(&mut lines, alloc, script, explored);
-    let put = put_allowed_json(&mut lines, alloc, script, allowed, shown);
-    lines.note(put);
+    put_allowed_lines_json(&mut lines, alloc, script, allowed, shown);
     lines.put(allowed_rules_json(alloc, allowed));
     lines.put(explored_summary_json(alloc, explored));
     lines.write(out)

@@ -1,6 +1,8 @@
 //! Whether the rules of the memory allow a run of a racy script that ends with words that were asked for, behind a schedule that races.
 ghost use Rattle.std.specs.Prelude.{◌≡◌, ℕ, List, OnOk, Err};
 ghost use Rattle.std.specs.Io.KnownBytes.{Appends};
+ghost use Rattle.lrc_json.specs.Prelude.{AreMoreLinesPut, HasMembers};
+ghost use Rattle.lrc_exploring.specs.Prelude.{IsAllowedShowingJson, allowed_until_rules};
 ghost use Rattle.lrc_json.specs.declared.fault.JsonFault.TheVariants.{NoMemory};
 
 use crate::json::allowed::put_alone_json;
@@ -50,8 +52,25 @@ fn allowed_showing_run_json(
     Ok(members)
 }
 
+/// Adds the line of a run that the rules allow, if they allow one.
+fn put_allowed_showing_json(
+    lines: &mut JsonLines,
+    alloc: Global,
+    script: &Script,
+    showing: &AllowedShowing,
+    until: &MemoryUntil<'_>,
+)
+    ensures { AreMoreLinesPut lines.old lines.new }
+{
+    if let AllowedShowing::Shown(run) = showing {
+        lines.put_made(allowed_showing_run_json(alloc, script, run, until));
+    }
+}
+
 /// What the rules say, and how many beginnings of runs were looked at.
-fn allowed_showing_rules_json(alloc: Global, allowed: &AllowedUntil) -> Members {
+fn allowed_showing_rules_json(alloc: Global, allowed: &AllowedUntil) -> Members
+    ensures { HasMembers result (allowed_until_rules allowed.now) }
+{
     let answer = match &allowed.showing {
         AllowedShowing::Shown(_) => "shown",
         AllowedShowing::Never => "never",
@@ -77,14 +96,12 @@ pub fn write_allowed_showing_json<W: Write>(
     until: &MemoryUntil<'_>,
     out: &mut W,
 ) -> Result<(), JsonFault>
-    ensures written { OnOk result ((text : List ℕ) × Appends (W.contents out.old) (W.contents out.new) text) }
+    ensures written { OnOk result ((text : List ℕ) × IsAllowedShowingJson explored.now allowed.now text × Appends (W.contents out.old) (W.contents out.new) text) }
     ensures unwritten { result ≡ Err NoMemory → W.contents out.new ≡ W.contents out.old }
 {
     let mut lines = JsonLines::new(alloc);
     put_showing_json(&mut lines, alloc, script, explored);
-    if let AllowedShowing::Shown(run) = &allowed.showing {
-        lines.put_made(allowed_showing_run_json(alloc, script, run, until));
-    }
+    put_allowed_showing_json(&mut lines, alloc, script, &allowed.showing, until);
     lines.put(allowed_showing_rules_json(alloc, allowed));
     lines.put(showing_summary_json(alloc, explored));
     lines.write(out)

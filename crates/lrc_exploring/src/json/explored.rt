@@ -1,6 +1,9 @@
 //! What was found of all schedules of a script: a schedule that races, one that hangs, the outcomes, and at the end the verdict.
-ghost use Rattle.std.specs.Prelude.{◌≡◌, ℕ, List, OnOk, Err};
+ghost use Rattle.std.specs.Prelude.{◌≡◌, ℕ, Err, IfOk, List, None, OnOk, string_bytes};
 ghost use Rattle.std.specs.Io.KnownBytes.{Appends};
+ghost use Rattle.conformance.specs.Prelude.{schedule_text};
+ghost use Rattle.lrc_json.specs.Prelude.{AreLinesPut, AreMoreLinesPut, BecameMembers, HasItems, HasMembers};
+ghost use Rattle.lrc_exploring.specs.Prelude.{HasScheduleMembers, IsExploredFront, IsExploredJson, IsHangLine, IsVerdictLines, explored_end, explored_hang, explored_hangs, explored_race, explored_verdict, explored_wait, explored_waits, with_schedule};
 ghost use Rattle.lrc_json.specs.declared.fault.JsonFault.TheVariants.{NoMemory};
 
 use conformance::Schedule;
@@ -19,14 +22,18 @@ use std::alloc::{AllocError, Global};
 use std::io::Write;
 
 /// The text of a schedule.
-fn schedule_json(alloc: Global, schedule: &Schedule) -> Result<String, AllocError> {
+fn schedule_json(alloc: Global, schedule: &Schedule) -> Result<String, AllocError>
+    ensures { IfOk result (λ s. string_bytes s ≡ schedule_text schedule.now.turns.items) }
+{
     let mut text = String::new(alloc);
     schedule.put(&mut text)?;
     Ok(text)
 }
 
 /// Adds the turns of a schedule.
-pub fn put_schedule_json(members: &mut Members, alloc: Global, schedule: &Schedule) {
+pub fn put_schedule_json(members: &mut Members, alloc: Global, schedule: &Schedule)
+    ensures { BecameMembers members.old members.new (with_schedule schedule.now.turns.items) }
+{
     members.put_string("schedule", schedule_json(alloc, schedule));
 }
 
@@ -35,7 +42,9 @@ pub fn explored_race_json(
     alloc: Global,
     script: &Script,
     racy: &RacyEvents,
-) -> Result<Members, AllocError> {
+) -> Result<Members, AllocError>
+    ensures { IfOk result (HasScheduleMembers (explored_race racy.now)) }
+{
     let schedule = schedule_of_events(alloc, script, &racy.events)?;
     let mut members = Members::telling(alloc, "race");
     members.put_list("events", events_json(alloc, &racy.events));
@@ -46,7 +55,9 @@ pub fn explored_race_json(
 }
 
 /// What a processor waits for.
-fn explored_wait_json(alloc: Global, processor: usize, awaited: Kind) -> Members {
+fn explored_wait_json(alloc: Global, processor: usize, awaited: Kind) -> Members
+    ensures { HasMembers result (explored_wait processor awaited) }
+{
     let mut members = Members::new(alloc);
     members.put_number("processor", processor);
     match awaited {
@@ -58,7 +69,9 @@ fn explored_wait_json(alloc: Global, processor: usize, awaited: Kind) -> Members
 }
 
 /// What each processor waits for that waits.
-fn explored_waits_json(alloc: Global, hang: &Hang) -> Values {
+fn explored_waits_json(alloc: Global, hang: &Hang) -> Values
+    ensures { HasItems result (explored_waits 0 hang.now.waits.items) }
+{
     let mut list = Values::new(alloc);
     for (processor, awaited) in hang.waits.iter().enumerate() {
         if let Some(kind) = *awaited {
@@ -69,7 +82,9 @@ fn explored_waits_json(alloc: Global, hang: &Hang) -> Values {
 }
 
 /// A schedule that hangs.
-fn explored_hang_json(alloc: Global, script: &Script, hang: &Hang) -> Result<Members, AllocError> {
+fn explored_hang_json(alloc: Global, script: &Script, hang: &Hang) -> Result<Members, AllocError>
+    ensures { IfOk result (HasScheduleMembers (explored_hang hang.now)) }
+{
     let schedule = schedule_of_events(alloc, script, &hang.events)?;
     let mut members = Members::telling(alloc, "hang");
     members.put_list("events", events_json(alloc, &hang.events));
@@ -134,7 +149,9 @@ fn put_explored_outcomes_json(
     alloc: Global,
     script: &Script,
     explored: &Explored,
-) -> Result<(), AllocError> {
+) -> Result<(), AllocError>
+    ensures { OnOk result (AreMoreLinesPut lines.old lines.new) }
+{
     let rows = sorted_shown_outcomes(alloc, &explored.outcomes)?;
     for (replies, makers) in &rows {
         lines.put_made(explored_outcome_json(alloc, script, *replies, *makers));
@@ -143,7 +160,9 @@ fn put_explored_outcomes_json(
 }
 
 /// The name of a verdict.
-fn explored_verdict_json(verdict: &Verdict) -> &'static str {
+fn explored_verdict_json(verdict: &Verdict) -> &'static str
+    ensures { result.now ≡ explored_verdict verdict.now }
+{
     match verdict {
         Verdict::RaceFree => "race-free",
         Verdict::Racy(_) => "racy",
@@ -152,7 +171,9 @@ fn explored_verdict_json(verdict: &Verdict) -> &'static str {
 }
 
 /// Whether a schedule hangs.
-fn explored_hangs_json(hanging: &Hanging) -> &'static str {
+fn explored_hangs_json(hanging: &Hanging) -> &'static str
+    ensures { result.now ≡ explored_hangs hanging.now }
+{
     match hanging {
         Hanging::Never => "never",
         Hanging::Hangs(_) => "hangs",
@@ -162,7 +183,9 @@ fn explored_hangs_json(hanging: &Hanging) -> &'static str {
 
 /// The verdict, how far outcomes and hangs are known, and how many states were found. Of a script that races no outcome is
 /// told, and whether it hangs only where it does.
-pub fn explored_summary_json(alloc: Global, explored: &Explored) -> Members {
+pub fn explored_summary_json(alloc: Global, explored: &Explored) -> Members
+    ensures { HasMembers result (explored_end explored.now) }
+{
     let mut members = Members::telling(alloc, "end");
     members.put_text("verdict", explored_verdict_json(&explored.verdict));
     members.put_number("states", explored.states);
@@ -175,22 +198,33 @@ pub fn explored_summary_json(alloc: Global, explored: &Explored) -> Members {
     members
 }
 
-/// Adds the lines of what was found of the script, but for the end.
-pub fn put_explored_json(
-    lines: &mut JsonLines,
-    alloc: Global,
-    script: &Script,
-    explored: &Explored,
-) {
+/// Adds the line of a schedule that races, or a line for each outcome.
+fn put_verdict_json(lines: &mut JsonLines, alloc: Global, script: &Script, explored: &Explored)
+    ensures { lines.new.fault ≡ None → (first : List ℕ) × IsVerdictLines explored.now.verdict first × AreLinesPut lines.old lines.new first }
+{
     if let Verdict::Racy(racy) = &explored.verdict {
         lines.put_made(explored_race_json(alloc, script, racy));
     } else {
         let put = put_explored_outcomes_json(lines, alloc, script, explored);
         lines.note(put);
     }
-    if let Hanging::Hangs(hang) = &explored.hanging {
+}
+
+/// Adds the line of a schedule that hangs, if there is one.
+fn put_hang_json(lines: &mut JsonLines, alloc: Global, script: &Script, hanging: &Hanging)
+    ensures { lines.new.fault ≡ None → (line : List ℕ) × IsHangLine hanging.now line × AreLinesPut lines.old lines.new line }
+{
+    if let Hanging::Hangs(hang) = hanging {
         lines.put_made(explored_hang_json(alloc, script, hang));
     }
+}
+
+/// Adds the lines of what was found of the script, but for the end.
+pub fn put_explored_json(lines: &mut JsonLines, alloc: Global, script: &Script, explored: &Explored)
+    ensures { lines.new.fault ≡ None → (front : List ℕ) × IsExploredFront explored.now front × AreLinesPut lines.old lines.new front }
+{
+    put_verdict_json(lines, alloc, script, explored);
+    put_hang_json(lines, alloc, script, &explored.hanging);
 }
 
 /// Writes what was found of all schedules of the script, and flushes the writer: an object a line.
@@ -205,7 +239,7 @@ pub fn write_explored_json<W: Write>(
     explored: &Explored,
     out: &mut W,
 ) -> Result<(), JsonFault>
-    ensures written { OnOk result ((text : List ℕ) × Appends (W.contents out.old) (W.contents out.new) text) }
+    ensures written { OnOk result ((text : List ℕ) × IsExploredJson explored.now text × Appends (W.contents out.old) (W.contents out.new) text) }
     ensures unwritten { result ≡ Err NoMemory → W.contents out.new ≡ W.contents out.old }
 {
     let mut lines = JsonLines::new(alloc);

@@ -1,6 +1,8 @@
 //! What was found of a script of which something is open, and what in its text leaves it open.
 ghost use Rattle.std.specs.Prelude.{◌≡◌, ℕ, List, OnOk, Err};
 ghost use Rattle.std.specs.Io.KnownBytes.{Appends};
+ghost use Rattle.lrc_json.specs.Prelude.{AreMoreLinesPut};
+ghost use Rattle.lrc_exploring.specs.Prelude.{IsOpenJson};
 ghost use Rattle.lrc_json.specs.declared.fault.JsonFault.TheVariants.{NoMemory};
 
 use crate::json::explored::{explored_summary_json, put_explored_json};
@@ -108,6 +110,20 @@ fn unranked_json(alloc: Global, script: &Script, locks: &UnrankedLocks) -> Membe
     members
 }
 
+/// Adds a line for each word that isn't guarded.
+fn put_unguarded_json(
+    lines: &mut JsonLines,
+    alloc: Global,
+    script: &Script,
+    words: &[UnguardedWord],
+)
+    ensures { AreMoreLinesPut lines.old lines.new }
+{
+    for word in words {
+        lines.put_made(unguarded_json(alloc, script, word));
+    }
+}
+
 /// Adds a line for each word that isn't guarded, if the verdict is open, and one for the locks, if it is open whether a schedule
 /// hangs.
 fn put_gaps_json(
@@ -116,11 +132,11 @@ fn put_gaps_json(
     script: &Script,
     explored: &Explored,
     gaps: &TextGaps,
-) {
+)
+    ensures { AreMoreLinesPut lines.old lines.new }
+{
     if let Verdict::Undecided = explored.verdict {
-        for word in &gaps.words {
-            lines.put_made(unguarded_json(alloc, script, word));
-        }
+        put_unguarded_json(lines, alloc, script, &gaps.words);
     }
     let locks = &gaps.locks;
     if let Hanging::Undecided = explored.hanging
@@ -143,7 +159,7 @@ pub fn write_open_json<W: Write>(
     gaps: &TextGaps,
     out: &mut W,
 ) -> Result<(), JsonFault>
-    ensures written { OnOk result ((text : List ℕ) × Appends (W.contents out.old) (W.contents out.new) text) }
+    ensures written { OnOk result ((text : List ℕ) × IsOpenJson explored.now text × Appends (W.contents out.old) (W.contents out.new) text) }
     ensures unwritten { result ≡ Err NoMemory → W.contents out.new ≡ W.contents out.old }
 {
     let mut lines = JsonLines::new(alloc);

@@ -1,6 +1,8 @@
 //! Whether a run of a script ends with words that were asked for: the run, or a schedule that races, and at the end the answer.
-ghost use Rattle.std.specs.Prelude.{◌≡◌, ℕ, List, OnOk, Err};
+ghost use Rattle.std.specs.Prelude.{◌≡◌, ℕ, List, OnOk, Err, None};
 ghost use Rattle.std.specs.Io.KnownBytes.{Appends};
+ghost use Rattle.lrc_json.specs.Prelude.{AreLinesPut, HasMembers};
+ghost use Rattle.lrc_exploring.specs.Prelude.{IsShowingFront, IsShowingJson, showing_end};
 ghost use Rattle.lrc_json.specs.declared.fault.JsonFault.TheVariants.{NoMemory};
 
 use crate::json::explored::{explored_race_json, put_explored_result_json, put_schedule_json};
@@ -23,7 +25,9 @@ fn showing_run_json(alloc: Global, script: &Script, run: &ShownRun) -> Result<Me
 }
 
 /// The answer, and how many states were found.
-pub fn showing_summary_json(alloc: Global, explored: &ExploredUntil) -> Members {
+pub fn showing_summary_json(alloc: Global, explored: &ExploredUntil) -> Members
+    ensures { HasMembers result (showing_end explored.now) }
+{
     let (key, answer) = match &explored.showing {
         Showing::Shown(_) => ("until", "shown"),
         Showing::Never => ("until", "never"),
@@ -42,7 +46,9 @@ pub fn put_showing_json(
     alloc: Global,
     script: &Script,
     explored: &ExploredUntil,
-) {
+)
+    ensures { lines.new.fault ≡ None → (front : List ℕ) × IsShowingFront explored.now.showing front × AreLinesPut lines.old lines.new front }
+{
     match &explored.showing {
         Showing::Shown(run) => lines.put_made(showing_run_json(alloc, script, run)),
         Showing::Racy(racy) => lines.put_made(explored_race_json(alloc, script, racy)),
@@ -62,7 +68,7 @@ pub fn write_showing_json<W: Write>(
     explored: &ExploredUntil,
     out: &mut W,
 ) -> Result<(), JsonFault>
-    ensures written { OnOk result ((text : List ℕ) × Appends (W.contents out.old) (W.contents out.new) text) }
+    ensures written { OnOk result ((text : List ℕ) × IsShowingJson explored.now text × Appends (W.contents out.old) (W.contents out.new) text) }
     ensures unwritten { result ≡ Err NoMemory → W.contents out.new ≡ W.contents out.old }
 {
     let mut lines = JsonLines::new(alloc);

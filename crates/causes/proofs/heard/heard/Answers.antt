@@ -5,7 +5,7 @@ use Rattle.journal.specs.declared.event.Kind.TheVariants.{Load}
 use Rattle.journal.specs.DidEvent.{event}
 use Rattle.judge.specs.Cuts.{IsCutOf}
 use Rattle.judge.proofs.TellingCuts.{cut_of_present, cut_tells_before_at}
-use Rattle.journal.specs.ClockEntry.{entry}
+use Rattle.judge.specs.CutRows.{cut_entry}
 use Rattle.journal.proofs.Order.EventPlacesAndCounts.{event_place_same}
 use Rattle.journal.specs.EventsInRange.{EventProcessorsInRange}
 use Rattle.causes.proofs.heard.heard.Goals as goal
@@ -41,7 +41,8 @@ of-cut-requires c =
     let one = ap (λ (y : Event). y.processor) same in
     let few = c.requires.few_processors in
     let low = c.requires.processors second e at in
-    let long = c.loop-place.invariant.cuts.long in
+    let long = c.loop-place.invariant.cuts.long.count in
+    let present = c.loop-place.invariant.present in
     omega arith
 
 pub last_heard-requires-clause-place : goal.last_heard-requires-clause-place
@@ -60,17 +61,18 @@ last_heard-requires-clause-tells c = λ i a does lt.
     let same =
     event_place_same events second (slice_index_or events second (event 0 (Load 0 0))) e
     (slice_get-get_or events second (event 0 (Load 0 0)) within) at in
-    let items = c.loop-place.cuts.processors.items in
+    let rows = c.loop-place.cuts.processors in
     let low = c.requires.processors second e at in
     let present = c.loop-place.invariant.present in
     let top = c.loop-place.auto.place-end in
     let end = c.loop-place-test.false in
     let is : c.loop-place.place ≡ second = omega arith in
-    let cut : IsCutOf (take second events) p (entry items p) =
-    subst (λ n. IsCutOf (take n events) p (entry items p)) is
+    let cut : IsCutOf (take second events) p (cut_entry rows p) =
+    subst (λ n. IsCutOf (take n events) p (cut_entry rows p)) is
     (cut_of_present c.loop-place.invariant.cuts p (omega arith)) in
     let apart = λ (same : by ≡ p). c.requires.second.3 same in
     let tells = cut_tells_before_at at does lt apart c.requires.second.2 cut in
-    let of = c.of-cut.ensures by in
-    let one = ap (λ (y : Event). entry items y.processor by) same in
+    let of = c.of-cut.ensures.entries by in
+    let known = c.known_in_cut.ensures in
+    let one = ap (λ (y : Event). cut_entry rows y.processor by) same in
     ((λ h. (let below = tells.0 h in omega arith)), (λ below. tells.1 (omega arith)))

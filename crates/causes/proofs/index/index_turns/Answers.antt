@@ -5,6 +5,7 @@ use Rattle.journal.specs.declared.event.Event.{Event}
 use Rattle.journal.specs.declared.event.Kind.TheVariants.{Load}
 use Rattle.journal.specs.DidEvent.{event}
 use Rattle.journal.specs.Events.{EventAt}
+use Rattle.judge.specs.JudgedSizes.{most_judged_processors}
 use Rattle.causes.specs.declared.index.Turn.{Turn}
 use Rattle.causes.specs.Index.{IsIndexedTurn}
 use Rattle.causes.proofs.LookedUpIndex.{AreLookedUpNextTurns, HasLookedUpTurn, looked_up_turns_start, looked_up_turns_next, looked_up_turn_here, looked_up_turn_small}
@@ -19,8 +20,8 @@ abbrev here : List Event → ℕ → Event
 here events place = slice_index_or events place (event 0 (Load 0 0))
 
 -- the turn that is next for its processor
-own : (events : List Event) (place : ℕ) (next : List Turn) → place < length events → length next ≡ 64
-    → (here events place).processor < 64 → AreLookedUpNextTurns events place next
+own : (events : List Event) (place : ℕ) (next : List Turn) → place < length events → length next ≡ most_judged_processors
+    → (here events place).processor < most_judged_processors → AreLookedUpNextTurns events place next
     → IsIndexedTurn events place (here events place).processor (slice_index_or next (here events place).processor zero)
 own events place next lt long low are =
     are (here events place).processor (slice_index_or next (here events place).processor zero)

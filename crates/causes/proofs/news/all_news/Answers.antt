@@ -28,7 +28,7 @@ next_step-requires c =
 
 pub news-requires : goal.news-requires
 news-requires c = record {
-  few_processors = (let few = c.requires.start.few in let present = c.requires.present in omega arith);
+  few_processors = (let few = c.requires.start.long.few in let present = c.requires.present in omega arith);
   processors = c.requires.processors;
   index = c.requires.index;
   step = c.in_ok-step.ensures.step;

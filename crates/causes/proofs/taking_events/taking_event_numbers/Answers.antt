@@ -6,6 +6,7 @@ use Rattle.journal.specs.DidEvent.{event}
 use Rattle.journal.specs.Events.{event_closes}
 use Rattle.journal.specs.EventsInRange.{EventProcessorsInRange}
 use Rattle.journal.proofs.Passes.ClockZeros.{clock_zeros_at}
+use Rattle.judge.specs.JudgedSizes.{most_judged_processors}
 use Rattle.causes.proofs.EdgeLeadsOn.{edge_leads_count_within, edge_leads_counts_next, edge_leads_one_or_none}
 use Rattle.causes.proofs.TakingRows.{AreTakingRowNumbersBelow, taking_row_numbers_next}
 use Rattle.causes.proofs.taking_events.taking_event_numbers.Goals as goal
@@ -15,13 +16,13 @@ abbrev here : List Event → ℕ → Event
 here events place = slice_index_or events place (event 0 (Load 0 0))
 
 -- its processor is one of sixty-four
-low : (events : List Event) (place : ℕ) → place < length events → EventProcessorsInRange 64 events
-    → (here events place).processor < 64
+low : (events : List Event) (place : ℕ) → place < length events → EventProcessorsInRange most_judged_processors events
+    → (here events place).processor < most_judged_processors
 low events place lt range = range place (here events place) (slice_get-get_or events place (event 0 (Load 0 0)) lt)
 
 pub loop-place-init : goal.loop-place-init
 loop-place-init c = record {
-  closed = record { long = refl; each = λ q lt. clock_zeros_at 64 q };
+  closed = record { long = refl; each = λ q lt. clock_zeros_at most_judged_processors q };
   long = c.in_ok-numbers.ensures.len;
   numbers = λ k e lt at. absurd (omega arith);
 }

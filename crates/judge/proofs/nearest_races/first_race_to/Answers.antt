@@ -10,18 +10,20 @@ use Rattle.journal.proofs.Order.EventPlacesAndCounts.{event_place_at_end, event_
 use Rattle.journal.proofs.Passes.NextRaces.{next_race_events}
 use Rattle.judge.proofs.TellingCuts.{cut_tells_race}
 use Rattle.judge.proofs.nearest_races.first_race_to.Goals as goal
-use Rattle.judge.proofs.nearest_races.first_race_to.Goals.{else-is_nearest_race_conflict-via-then-is_nearest_race_conflict+else-place-cut, else-is_nearest_race_conflict-via-else-is_nearest_race_conflict}
+use Rattle.judge.proofs.nearest_races.first_race_to.Goals.{else-is_nearest_race_conflict-via-then-is_nearest_race_conflict+else-place-known_in, else-is_nearest_race_conflict-via-else-is_nearest_race_conflict}
 
 -- the event at this place
 abbrev here : List Event → ℕ → Event
 here events place = slice_index_or events place (event 0 (Load 0 0))
 
-pub returns-then-place-cut : goal.returns-then-place-cut
-returns-then-place-cut c =
+pub returns-then-place-known_in : goal.returns-then-place-known_in
+returns-then-place-known_in c =
     let events = c.args.events.now in
     let at = slice_get-get_or events c.loop-place.place (event 0 (Load 0 0)) c.loop-place-test.true in
-    let both = c.if-is_nearest_race_conflict.ensures.0 refl in (
-      (cut_tells_race c.requires.cut at both.0 both.1).1 c.if-place-cut.true,
+    let both = c.if-is_nearest_race_conflict.ensures.0 refl in
+    let known = c.known_in.ensures in
+    let above = c.if-place-known_in.true in (
+      (cut_tells_race c.requires at both.0 both.1).1 (omega (arith, known, above)),
       λ m r. elim (cases_lt m c.loop-place.place) [ inl below ↦ absurd (c.loop-place.invariant m below r) | inr le ↦ le ],
     )
 
@@ -35,10 +37,11 @@ loop-place-preserved c =
     (next_race_events (events ++ e ∷ []) (length events) i e (here events i) (event_place_at_end events e)
     (event_place_longer events (e ∷ []) i (here events i) at) r) in
     let none : Race (events ++ e ∷ []) i (length events) → ⊥ = elim c.else-is_nearest_race_conflict.branch [
-      | else-is_nearest_race_conflict-via-then-is_nearest_race_conflict+else-place-cut w ↦ (λ r.
+      | else-is_nearest_race_conflict-via-then-is_nearest_race_conflict+else-place-known_in w ↦ (λ r.
           let both = c.is_nearest_race_conflict.ensures.0 w.if-is_nearest_race_conflict.true in
-          let le = (cut_tells_race c.requires.cut at both.0 both.1).0 r in
-          let above = w.if-place-cut.false in
+          let le = (cut_tells_race c.requires at both.0 both.1).0 r in
+          let known = w.known_in.ensures in
+          let above = w.if-place-known_in.false in
           omega arith)
       | else-is_nearest_race_conflict-via-else-is_nearest_race_conflict w ↦ (λ r.
           let is = c.is_nearest_race_conflict.ensures.1 (conflicts r) in

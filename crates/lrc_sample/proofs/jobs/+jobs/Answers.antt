@@ -6,9 +6,9 @@ use Rattle.lrc_sample.proofs.jobs.+jobs.Goals as goal
 
 pub returns-in-Ok : goal.returns-in-Ok
 returns-in-Ok g t c =
-    let came = CameBySampleRunSeed g.T.ScriptRunner.followed g.T.ScriptRunner.drawn c.args.lock in
-    let d = c.args.detail in
-    let s = plan_of c.args.script.now in
+    let came = CameBySampleRunSeed g.T.ScriptRunner.followed g.T.ScriptRunner.drawn c.args.sampled.lock in
+    let d = c.args.sampled.detail in
+    let s = plan_of c.args.sampled.script.now in
     let middle = c.middle_of_jobs-middle.result in
     let told = IfOk-at_ok (λ v. AreSampleRunsTold came d s c.args.from middle v.items) c.in_ok-told.was c.join-told.ensures.first in
     let rest = IfOk-at_ok (λ v. AreSampleRunsTold came d s middle c.args.to v.items) c.in_ok-rest.was c.join-told.ensures.second in

@@ -6,7 +6,7 @@ use Rattle.lrc_sample.proofs.sampling.sample_batch.Given as goal
 
 abbrev pub invariant-loop-run : goal.invariant-loop-run
 invariant-loop-run g l = record {
-  made : AreSampleRunsInMaking (CameBySampleRunSeed g.T.ScriptRunner.followed g.T.ScriptRunner.drawn l.fn.lock) l.fn.detail (plan_of l.script) (l.seed + 1) l.lines.items;
-  left : AreSampleRunsTold (CameBySampleRunSeed g.T.ScriptRunner.followed g.T.ScriptRunner.drawn l.fn.lock) l.fn.detail (plan_of l.script) l.seed l.to
+  made : AreSampleRunsInMaking (CameBySampleRunSeed g.T.ScriptRunner.followed g.T.ScriptRunner.drawn l.fn.sampled.lock) l.fn.sampled.detail (plan_of l.fn.sampled.script.now) (l.seed + 1) l.lines.items;
+  left : AreSampleRunsTold (CameBySampleRunSeed g.T.ScriptRunner.followed g.T.ScriptRunner.drawn l.fn.sampled.lock) l.fn.sampled.detail (plan_of l.fn.sampled.script.now) l.seed l.to
       (into_iter_items l.run-iterator);
 }

@@ -5,4 +5,4 @@ use Rattle.lrc_sample.proofs.sampling.sample_in_turn.Given as goal
 
 abbrev pub invariant-loop-seed : goal.invariant-loop-seed
 invariant-loop-seed g l =
-    AreSampleRunsInMaking (CameBySampleRunSeed g.T.ScriptRunner.followed g.T.ScriptRunner.drawn l.lock) l.detail (plan_of l.script) (l.seed + 1) l.lines.items
+    AreSampleRunsInMaking (CameBySampleRunSeed g.T.ScriptRunner.followed g.T.ScriptRunner.drawn l.sampled.lock) l.sampled.detail (plan_of l.sampled.script.now) (l.seed + 1) l.lines.items

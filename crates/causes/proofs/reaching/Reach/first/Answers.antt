@@ -6,6 +6,7 @@ use Rattle.journal.specs.declared.event.Event.{Event}
 use Rattle.journal.specs.declared.event.Kind.TheVariants.{Load}
 use Rattle.journal.specs.DidEvent.{event}
 use Rattle.journal.proofs.Order.EventPlacesAndCounts.{event_place_does}
+use Rattle.judge.specs.JudgedSizes.{most_judged_processors}
 use Rattle.causes.specs.declared.taking_events.Taking.{Taking}
 use Rattle.causes.specs.declared.reaching.Reach.{Reach}
 use Rattle.causes.specs.TakingEvents.{AreTakingEvents, IsFirstTakingEventAbove, NoTakingEventAbove}
@@ -14,7 +15,7 @@ use Rattle.causes.proofs.ReachedPaths.{ReachedPathTakesBesides, reached_path_fir
 use Rattle.causes.proofs.reaching.Reach.first.Goals as goal
 
 -- the row that is read has the processor's events that take
-row_read : (j : List Event) (x : Reach) (q : ℕ) (row : Vec Taking) (takings : List Taking) → IsPathLookup j x → q < 64
+row_read : (j : List Event) (x : Reach) (q : ℕ) (row : Vec Taking) (takings : List Taking) → IsPathLookup j x → q < most_judged_processors
     → row ≡ slice_index_or x.takings.items q row → takings ≡ row.items → AreTakingEvents j q (length j) takings
 row_read j x q row takings tells lt read is =
     let long = tells.takings.long in

@@ -1,4 +1,4 @@
-use Rattle.std.proofs.Common.{◌≡◌, ◌+◌, subst, sym, ap, ◌∙◌, min, arith}
+use Rattle.std.proofs.Common.{◌≡◌, ◌+◌, [], ◌∷◌, ◌++◌, subst, sym, ap, ◌∙◌, min, arith}
 use Rattle.judge.specs.declared.asked_places.AskedPlaces.{AskedPlaces}
 use Rattle.judge.specs.AskedPlaces.{AreAskedPlaces}
 use Rattle.judge.specs.JudgedSizes.{judged_sizes_of}
@@ -27,9 +27,10 @@ loop-processor-preserved c = λ j tells.
           (let present = tells.present in
           let lt = c.loop-processor-test.true in
           let cut = cut_of_present tells.cuts p (omega (arith, present, lt)) in
-          let least = w.add.ensures.all_from ∙ ap (min old.all_from) (w.of.ensures q) in
+          let least = w.add.ensures.all_from ∙ ap (min old.all_from) (w.known_in-known.ensures ∙ w.of.ensures.entries q) in
+          let more = w.in_ok-add.ensures.fetched ∙ ap (λ v. old.fetched.items ++ v ∷ []) w.known_in-fetched.ensures in
           subst Are (sym w.asked-is) (asked_places_add {old = old} {new = w.add.new.self} (λ is. w.if-processor-by.true (sym is)) cut
-          (w.last_fetch.ensures j tells) least w.in_ok-add.ensures.fetched were))
+          (w.last_fetch.ensures j tells) least more were))
       | else-processor-by w ↦
           subst Are (sym w.asked-is) (asked_places_own s j n q p old w.if-processor-by.false were)
     ]

@@ -1,5 +1,6 @@
-use Rattle.std.proofs.Common.{◌≡◌, ℕ, ◌+◌, ◌≤◌, List, Option, Some, MatchOption, subst, sym, refl, ◌∙◌, arith}
+use Rattle.std.proofs.Common.{◌≡◌, ℕ, ◌+◌, ◌≤◌, List, Option, Some, MatchOption, slice_index_or, subst, sym, refl, ◌∙◌, arith}
 use Rattle.std.specs.Prelude.{None}
+use Rattle.std.proofs.lemmas.List.{get_or_read}
 use Rattle.std.proofs.lemmas.Option.{none-some}
 use Rattle.journal.specs.declared.event.Event.{Event}
 use Rattle.judge.specs.declared.frontier.Frontier.{Frontier}
@@ -11,12 +12,12 @@ use Rattle.judge.proofs.frontier.Frontier.first_ask.Goals.{in-Some+then-place-li
 
 -- what is found by the end is the first ask
 answer : (j : List Event) (x : Frontier) (l limit : ℕ) (found : Option (ℕ × ℕ)) → FrontTellsHistory j x
-    → IsFrontAskingFound x.last x.place l found limit → AreFrontAskingFrom x.last l limit x.sizes.processors
+    → IsFrontAskingFound x.last.items x.place l found limit → AreFrontAskingFrom x.last.items l limit x.sizes.processors
     → MatchOption found (FrontTellsNobodyAsks j l) (λ (a : ℕ × ℕ). FrontTellsFirstAsk j l a.0 a.1)
-answer j x l limit None tells is from = front_asking_none_found j x.last l limit tells.lasts x.sizes.processors from tells.processors (is ∙ tells.place)
+answer j x l limit None tells is from = front_asking_none_found j x.last.items l limit tells.lasts x.sizes.processors from tells.processors (is ∙ tells.place)
 answer j x l limit (Some a) tells is from =
     subst (FrontTellsFirstAsk j l a.0) (sym is.0)
-    (front_asking_first_found j x.last l limit tells.lasts x.sizes.processors from tells.processors a.0 (subst (FrontAsksAt x.last l a.0) is.0 is.1))
+    (front_asking_first_found j x.last.items l limit tells.lasts x.sizes.processors from tells.processors a.0 (subst (FrontAsksAt x.last.items l a.0) is.0 is.1))
 
 pub returns : goal.returns
 returns c = λ j tells.
@@ -39,7 +40,7 @@ from_is last l a b n equal from q i lt asks = let le = from q i lt asks in omega
 
 pub loop-processor-preserved : goal.loop-processor-preserved
 loop-processor-preserved c =
-    let last = c.args.self.now.last in
+    let last = c.args.self.now.last.items in
     let end = c.args.self.now.place in
     let l = c.args.lock in
     let n = c.loop-processor.processor in
@@ -47,9 +48,13 @@ loop-processor-preserved c =
     let limit = c.loop-processor.limit in
     let first = c.loop-processor.first in
     let now = c.match-frontier_ask_at in
+    let long = c.requires.1.long_last in
+    let inside = c.loop-processor-test.true in
+    let read : slice_index_or last n None ≡ c.index.result.now =
+    sym (get_or_read last n c.index.result.now (omega (arith, long, c.args.self.now.last.ok.0, inside)) c.index.ensures None) in
     elim now.branch [
       | in-Some+then-place-limit w ↦
-          (let asks = (c.frontier_ask_at.ensures w.in-Some.place).0 w.in-Some.is in
+          (let asks = read ∙ (c.frontier_ask_at.ensures w.in-Some.place).0 w.in-Some.is in
           record {
             found = found_is last end l now.limit w.in-Some.place now.first _ w.first-is w.limit-is (refl, asks);
             least = from_is last l now.limit w.in-Some.place (n + 1) w.limit-is
@@ -61,14 +66,14 @@ loop-processor-preserved c =
             least = from_is last l now.limit limit (n + 1) w.limit-is
                 (front_asking_from_same last l limit n
                 (λ i asks. at_or_after w.in-Some.place i limit
-                (sym w.in-Some.is ∙ (c.frontier_ask_at.ensures i).1 asks) w.if-place-limit.false) old.least);
+                (sym w.in-Some.is ∙ (c.frontier_ask_at.ensures i).1 (sym read ∙ asks)) w.if-place-limit.false) old.least);
           })
       | in_default w ↦
           (record {
             found = found_is last end l now.limit limit now.first first w.first-is w.limit-is old.found;
             least = from_is last l now.limit limit (n + 1) w.limit-is
                 (front_asking_from_same last l limit n
-                (λ i asks. absurd (none-some i (sym w.in_default.is ∙ (c.frontier_ask_at.ensures i).1 asks))) old.least);
+                (λ i asks. absurd (none-some i (sym w.in_default.is ∙ (c.frontier_ask_at.ensures i).1 (sym read ∙ asks)))) old.least);
           })
     ]
   where

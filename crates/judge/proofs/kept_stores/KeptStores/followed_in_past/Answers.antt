@@ -3,19 +3,11 @@ use Rattle.judge.specs.KeptStores.{kept_stores_of}
 use Rattle.judge.proofs.kept_stores.LettingGo.{letting_go_followed}
 use Rattle.judge.proofs.kept_stores.KeptStores.followed_in_past.Goals as goal
 
-pub followed_up_to-requires-clause-cut : goal.followed_up_to-requires-clause-cut
-followed_up_to-requires-clause-cut c =
-    let s = c.args.self.now in
-    let last = c.in-Some.ensures c.requires.tells.0 c.requires.tells.1 in
-    let kept = (c.requires.tells.1.kept.stores c.args.address c.args.other c.requires.other).each last.has.0 c.in-Some.store last.has.1 in
-    let inside = kept.within in
-    omega (arith, s.known.cuts.ok.0)
-
 pub returns-in-Some : goal.returns-in-Some
 returns-in-Some c = λ j tells i v does lt.
     let s = c.args.self.now in
     let a = c.args.address in
-    letting_go_followed s.processors j s.known.cuts.items c.args.processor a c.args.by c.args.other i v c.followed_up_to.result
+    letting_go_followed s.processors j s.known.cuts c.args.processor a c.args.by c.args.other i v c.followed_up_to.result
     c.in-Some.store (kept_stores_of s a c.args.other) (tells.kept.stores a c.args.other c.requires.other) (c.in-Some.ensures j tells) does
     c.followed_up_to.ensures lt
 

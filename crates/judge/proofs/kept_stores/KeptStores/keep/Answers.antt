@@ -15,8 +15,9 @@ returns-in_default c = record {
       (let s = c.args.self.now in
       let e = c.args.event in
       record {
+        wide = tells.kept.wide;
         sparse = longer_sparse_same j e s.stores tells.kept.sparse;
-        stores = keeping_rows_others s.processors j e s.known.cuts.items s.stores c.in_default.not-Store tells.kept.stores;
+        stores = keeping_rows_others s.processors j e s.known.cuts s.stores c.in_default.not-Store tells.kept.stores;
       });
 }
 

@@ -1,15 +1,14 @@
-use Rattle.std.proofs.Common.{◌≡◌, ℕ, slice_index, subst, sym, arith}
+use Rattle.std.proofs.Common.{◌≡◌, ℕ, slice_index, subst, sym, ◌∙◌, arith}
 use Rattle.std.specs.Prelude.{Result, Ok, Err, OnOk}
 use Rattle.journal.specs.declared.event.Kind.TheVariants.{Store}
 use Rattle.journal.specs.DidEvent.{event}
-use Rattle.journal.specs.ClockEntry.{entry}
+use Rattle.judge.specs.CutRows.{cut_entry}
 use Rattle.judge.specs.Cuts.{IsCutOf}
 use Rattle.std.specs.Global.{Vec}
 use Rattle.judge.specs.declared.sparse_table.SparseTable.{SparseTable}
 use Rattle.judge.specs.SparseTables.{IsSparseRowWith}
 use Rattle.judge.proofs.LongerSparseTables.{longer_sparse_next}
 use Rattle.judge.proofs.TellingCuts.{cut_of_equal, cut_of_present}
-use Rattle.judge.specs.MovedCuts.{KeepsCuts}
 use Rattle.judge.proofs.kept_stores.KeepingStores.{keeping_rows_next}
 use Rattle.judge.proofs.kept_stores.KeptStores.keep_store.Goals as goal
 
@@ -31,20 +30,16 @@ returns-clause-kept c = then c.push_in_sparse_table_row.result c.push_in_sparse_
     let v = c.args.value in
     let present = tells.present in
     let cut : IsCutOf j p (slice_index c.of.result.now) =
-    cut_of_equal j p (entry s.cuts.processors.items p) (slice_index c.of.result.now) (λ q. sym (c.of.ensures q))
+    cut_of_equal j p (cut_entry s.cuts.processors p) (slice_index c.of.result.now) (λ q. sym (c.of.ensures.entries q))
     (cut_of_present tells.cuts p (omega arith)) in
     let placed = c.in_ok-cut.ensures.placed in
     let old = s.known.cuts in
     let new = c.place_of.new.self.cuts in
-    let more : KeepsCuts old.items new.items = record {
-      more = omega (arith, c.place_of.ensures.more, old.ok.0, new.ok.0);
-      same = λ n q lt. c.place_of.ensures.same n q (omega (arith, old.ok.0));
-    } in
     let now = c.push_in_sparse_table_row.new.table in
     record {
+      wide = c.place_of.ensures.width ∙ tells.kept.wide;
       sparse = longer_sparse_next j (event p (Store a v)) s.stores now pushed.sparse c.push_in_sparse_table_row.ensures.room
           c.push_in_sparse_table_row.ensures.few tells.kept.sparse;
-      stores = keeping_rows_next old.items new.items a p more c.requires.processor
-          (written c.row-row.ensures.is pushed) tells.cuts.place
-          (omega (arith, placed.0, new.ok.0)) (placed.1 j cut) tells.kept.stores;
+      stores = keeping_rows_next old new a p c.place_of.ensures.kept c.requires.processor
+          (written c.row-row.ensures.is pushed) tells.cuts.place placed.0 (placed.1 j cut) tells.kept.stores;
     })

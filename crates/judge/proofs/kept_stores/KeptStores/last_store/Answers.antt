@@ -8,7 +8,7 @@ pub last_kept_store_below-requires : goal.last_kept_store_below-requires
 last_kept_store_below-requires c =
     let s = c.args.self.now in
     let j = c.requires.tells.0 in
-    (subst (AreKeptStores s.processors j s.known.cuts.items c.args.address c.args.by) (sym c.stores_of.ensures)
+    (subst (AreKeptStores s.processors j s.known.cuts c.args.address c.args.by) (sym c.stores_of.ensures)
     (c.requires.tells.1.kept.stores c.args.address c.args.by c.requires.by)).rising
 
 pub returns : goal.returns

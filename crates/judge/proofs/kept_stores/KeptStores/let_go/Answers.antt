@@ -33,6 +33,7 @@ shortened j s stores a q row limit from tells present at room few are first hidd
   present = tells.present;
   processors = tells.processors;
   kept = record {
+    wide = tells.kept.wide;
     sparse = record {
       sparse = are.sparse;
       fits = tells.kept.sparse.fits;
@@ -44,19 +45,19 @@ shortened j s stores a q row limit from tells present at room few are first hidd
 }
   where
     rows : (b r : ℕ) → r < s.processors
-        → AreKeptStores s.processors j s.known.cuts.items b r (sparse_row stores (kept_store_row s.processors b r))
+        → AreKeptStores s.processors j s.known.cuts b r (sparse_row stores (kept_store_row s.processors b r))
     rows b r lt = elim (cases_eq (kept_store_row s.processors b r) (kept_store_row s.processors a q)) [
       | inl same ↦
           (let both = nearest_race_row_one s.processors a b q r present lt same in
           let now : drop from (kept_stores_of s a q) ≡ sparse_row stores (kept_store_row s.processors a q) =
           sym (subst (λ m. sparse_row stores m ≡ drop from (sparse_row s.stores m)) at are.now) in
-          let next = letting_go_row s.processors j s.known.cuts.items a q limit from (kept_stores_of s a q)
+          let next = letting_go_row s.processors j s.known.cuts a q limit from (kept_stores_of s a q)
           (tells.kept.stores a q present) first hidden in
-          subst (λ y. AreKeptStores s.processors j s.known.cuts.items y r (sparse_row stores (kept_store_row s.processors y r))) both.0
-          (subst (λ y. AreKeptStores s.processors j s.known.cuts.items a y (sparse_row stores (kept_store_row s.processors a y))) both.1
-          (subst (AreKeptStores s.processors j s.known.cuts.items a q) now next)))
+          subst (λ y. AreKeptStores s.processors j s.known.cuts y r (sparse_row stores (kept_store_row s.processors y r))) both.0
+          (subst (λ y. AreKeptStores s.processors j s.known.cuts a y (sparse_row stores (kept_store_row s.processors a y))) both.1
+          (subst (AreKeptStores s.processors j s.known.cuts a q) now next)))
       | inr other ↦
-          subst (AreKeptStores s.processors j s.known.cuts.items b r)
+          subst (AreKeptStores s.processors j s.known.cuts b r)
           (sym (are.others (kept_store_row s.processors b r) (λ is. other (is ∙ at)))) (tells.kept.stores b r lt)
     ]
 
@@ -64,7 +65,7 @@ pub first_kept_store_from-from-requires : goal.first_kept_store_from-from-requir
 first_kept_store_from-from-requires c =
     let s = c.args.self.now in
     let j = c.requires.tells.0 in
-    (subst (AreKeptStores s.processors j s.known.cuts.items c.args.address c.args.by) (sym c.stores_of.ensures)
+    (subst (AreKeptStores s.processors j s.known.cuts c.args.address c.args.by) (sym c.stores_of.ensures)
     (c.requires.tells.1.kept.stores c.args.address c.args.by c.requires.by)).rising
 
 pub shorten_sparse_table_row-requires-clause-sparse : goal.shorten_sparse_table_row-requires-clause-sparse

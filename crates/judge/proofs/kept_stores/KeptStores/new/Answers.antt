@@ -21,7 +21,8 @@ returns-clause-tells c =
       present = c.in_ok-new.ensures.present;
       processors = λ i e at. absurd (none-some e at);
       kept = record {
-        sparse = subst (λ m. IsSparseFor m 0 c.in_ok-new-2.field-0) rows c.in_ok-new-2.ensures.sparse;
-        stores = keeping_rows_first n c.new-2.result.cuts.items c.in_ok-new-2.field-0 c.in_ok-new-2.ensures.none;
+        wide = c.in_ok-new-2.ensures;
+        sparse = subst (λ m. IsSparseFor m 0 c.in_ok-new-3.field-0) rows c.in_ok-new-3.ensures.sparse;
+        stores = keeping_rows_first n c.in_ok-new-2.field-0.cuts c.in_ok-new-3.field-0 c.in_ok-new-3.ensures.none;
       };
     }

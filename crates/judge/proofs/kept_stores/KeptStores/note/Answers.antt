@@ -28,7 +28,7 @@ told j x cuts range kept are present = record {
   cuts = are;
   present = present;
   processors = range;
-  kept = record { sparse = kept.sparse; stores = kept.stores };
+  kept = record { wide = kept.wide; sparse = kept.sparse; stores = kept.stores };
 }
 
 pub returns-clause-tells : goal.returns-clause-tells

@@ -11,7 +11,7 @@ pub first_kept_store_from-requires : goal.first_kept_store_from-requires
 first_kept_store_from-requires c =
     let s = c.args.self.now in
     let j = c.requires.tells.0 in
-    (subst (AreKeptStores s.processors j s.known.cuts.items c.args.address c.args.by) (sym c.stores_of-stores.ensures)
+    (subst (AreKeptStores s.processors j s.known.cuts c.args.address c.args.by) (sym c.stores_of-stores.ensures)
     (c.requires.tells.1.kept.stores c.args.address c.args.by c.requires.by)).rising
 
 pub returns : goal.returns
@@ -21,7 +21,7 @@ returns c = λ j tells.
     let a = c.args.address in
     let q = c.args.by in
     let stores = c.stores_of-stores.result.now in
-    let are = subst (AreKeptStores s.processors j s.known.cuts.items a q) (sym c.stores_of-stores.ensures)
+    let are = subst (AreKeptStores s.processors j s.known.cuts a q) (sym c.stores_of-stores.ensures)
     (tells.kept.stores a q c.requires.by) in
     let first = c.first_kept_store_from.ensures in
     let known = c.known_up_to.ensures j tells in

@@ -1,8 +1,7 @@
-use Rattle.std.proofs.Common.{◌≡◌, ◌<◌, length, slice_index, slice_set, subst, sym, arith}
-use Rattle.journal.specs.ClockEntry.{entry}
-use Rattle.judge.specs.Cuts.{IsCutOf}
+use Rattle.std.proofs.Common.{◌≡◌, ◌<◌, ℕ, length, slice_index, slice_set, subst, sym, arith}
+use Rattle.judge.specs.CutRows.{cut_entry}
 use Rattle.judge.proofs.TellingCuts.{cut_of_equal}
-use Rattle.judge.proofs.known_cuts.KeepingCuts.{keeping_cut_last, keeping_cut_without_own}
+use Rattle.judge.proofs.known_cuts.KeepingCuts.{keeping_cut_pushed, keeping_cut_without_own}
 use Rattle.judge.proofs.known_cuts.KnownCuts.place_of.Goals as goal
 
 pub returns-in-Some-clause-placed : goal.returns-in-Some-clause-placed
@@ -12,7 +11,7 @@ returns-in-Some-clause-placed c =
     let found = c.recent_place.ensures c.in-Some.place c.in-Some.is in
     let inside : p < length t = omega arith in (
       found.0,
-      λ j is. cut_of_equal j p (slice_index (slice_set t p 0)) (entry c.args.self.now.cuts.items c.in-Some.place) (λ q. sym (found.1 q))
+      λ j is. cut_of_equal j p (slice_index (slice_set t p 0)) (cut_entry c.args.self.now.cuts c.in-Some.place) (λ q. sym (found.1 q))
           (keeping_cut_without_own j t p inside is),
     )
 
@@ -20,13 +19,16 @@ pub returns-clause-placed : goal.returns-clause-placed
 returns-clause-placed c =
     let p = c.args.processor in
     let t = c.args.cut.now in
-    let old = c.args.self.now.cuts in
-    let items = c.in_ok-push.ensures.items in
-    let len = c.in_ok-push.ensures.len in
-    let place : c.len-place.result ≡ length old.items = omega (arith, c.len-place.ensures, old.ok.0) in
+    let n = c.len-place.result in
+    let pushed = c.push.new.self in
+    let new = c.mark.new.self in
+    let place : n ≡ c.args.self.now.cuts.count = c.len-place.ensures in
+    let last = subst (λ m. (q : ℕ) → cut_entry pushed m q ≡ slice_index t q) (sym place) c.in_ok-push.ensures.last in
+    let more = c.in_ok-push.ensures.count in
+    let same = c.mark.ensures.count in
     let inside : p < length t = omega arith in (
-      omega (arith, c.len-place.ensures),
-      λ j is. subst (λ n. IsCutOf j p (entry c.push.new.self.items n)) (sym place)
-          (subst (λ xs. IsCutOf j p (entry xs (length old.items))) (sym items)
-          (keeping_cut_last j old.items (slice_set t p 0) p (keeping_cut_without_own j t p inside is))),
+      omega arith,
+      λ j is. cut_of_equal j p (slice_index (slice_set t p 0)) (cut_entry new n)
+          (keeping_cut_pushed pushed new n p t inside last c.mark.ensures.marked)
+          (keeping_cut_without_own j t p inside is),
     )

@@ -6,12 +6,6 @@ use Rattle.judge.proofs.locksets.KeptAccesses.{kept_accesses_next}
 use Rattle.judge.proofs.locksets.watched_word.watched_word_first_guarded.Goals as goal
 use Rattle.judge.proofs.locksets.watched_word.watched_word_first_guarded.Goals.{then-are_watched_racing+in_default, else-are_watched_racing}
 
-pub are_watched_racing-requires : goal.are_watched_racing-requires
-are_watched_racing-requires c =
-    let xs = c.args.accesses.now in
-    let i = c.loop-access.access-index in
-    c.requires c.access-item.result (i, slice_get_read xs (length xs) i c.access-item.result refl (omega arith) c.access-item.is)
-
 pub returns-in-Some : goal.returns-in-Some
 returns-in-Some c =
     let xs = c.args.accesses.now in

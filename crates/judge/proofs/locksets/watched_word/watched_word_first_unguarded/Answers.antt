@@ -16,12 +16,6 @@ one_there : (o : Option ℕ) (P : ℕ → Type 0) → is_some o ≡ true → IfS
 one_there None P is some = absurd (cc is)
 one_there (Some l) P is some = (l, some)
 
-pub are_watched_racing-requires : goal.are_watched_racing-requires
-are_watched_racing-requires c =
-    let xs = c.args.accesses.now in
-    let i = c.loop-access.access-index in
-    c.requires c.access-item.result (i, slice_get_read xs (length xs) i c.access-item.result refl (omega arith) c.access-item.is)
-
 pub returns-then-is_none : goal.returns-then-is_none
 returns-then-is_none c =
     let xs = c.args.accesses.now in

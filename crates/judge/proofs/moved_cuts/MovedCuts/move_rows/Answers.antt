@@ -21,7 +21,7 @@ loop-index-preserved c =
     let within : index < length rows = omega (arith, c.loop-index-test.true) in
     let at = slice_get_read rows (length rows) index x refl within c.index-rows-index.is in
     let done = c.in_ok-move_stores.ensures in
-    let cuts = c.move_stores.new.self.cuts.items in
+    let cuts = c.move_stores.new.self.cuts in
     let v = slice_index_or rows index x in
     let all = subst (λ xs. AreMovedStores c.args.old.now cuts xs stores) c.deref_mut.ensures.value done.stores in
     let moved : AreMovedStores c.args.old.now cuts x.items y.items =
@@ -41,7 +41,7 @@ loop-index-preserved c =
             (let was = old.before n z (omega arith) there in (
               was.0,
               slice_get-set_other rows index n y isnt ∙ was.1,
-              moving_stores_longer c.args.old.now c.loop-index.self.cuts.items cuts z.items was.0.items done.more was.2,
+              moving_stores_longer c.args.old.now c.loop-index.self.cuts cuts z.items was.0.items done.more was.2,
             ))
       ];
       behind = λ n le. slice_get-set_other rows index n y (omega arith) ∙ old.behind n (omega arith);

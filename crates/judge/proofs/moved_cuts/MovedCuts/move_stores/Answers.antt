@@ -12,7 +12,7 @@ nothing = record { place = 0; value = 0; cut = 0 }
 
 pub loop-index-init : goal.loop-index-init
 loop-index-init c = record {
-  more = moving_kept_same c.args.self.now.cuts.items;
+  more = moving_kept_same c.args.self.now.cuts;
   moved = c.requires;
   before = λ m x lt at. absurd (omega arith);
   behind = λ m le. refl;
@@ -31,7 +31,7 @@ loop-index-preserved c =
     let more = c.place_of.ensures.more in
     let placed = c.in_ok-cut.ensures.moved in
     record {
-      more = moving_kept_on c.args.self.now.cuts.items c.loop-index.self.cuts.items c.place_of.new.self.cuts.items old.more more;
+      more = moving_kept_on c.args.self.now.cuts c.loop-index.self.cuts c.place_of.new.self.cuts old.more more;
       moved = placed.0;
       before = λ m z lt there. elim (cases_eq m index) [
         | inl same ↦
@@ -39,14 +39,14 @@ loop-index-preserved c =
             (sym at ∙ (old.behind index (omega arith) ∙ (ap (slice_get c.args.stores.now) (sym same) ∙ there))) in (
               y,
               ap (slice_get (slice_set stores index y)) same ∙ slice_get-set_same stores index y within,
-              subst (λ w. IsMovedStore c.args.old.now c.place_of.new.self.cuts.items w y) one
+              subst (λ w. IsMovedStore c.args.old.now c.place_of.new.self.cuts w y) one
                   (record { place = refl; value = refl; cut = placed.1 }),
             ))
         | inr isnt ↦
             (let was = old.before m z (omega arith) there in (
               was.0,
               slice_get-set_other stores index m y isnt ∙ was.1,
-              moving_store_longer c.args.old.now c.loop-index.self.cuts.items c.place_of.new.self.cuts.items z was.0 more was.2,
+              moving_store_longer c.args.old.now c.loop-index.self.cuts c.place_of.new.self.cuts z was.0 more was.2,
             ))
       ];
       behind = λ m le. slice_get-set_other stores index m y (omega arith) ∙ old.behind m (omega arith);

@@ -2,8 +2,8 @@ use Rattle.std.proofs.Common.{◌≡◌, ℕ, ◌++◌, ◌∷◌, [], List, Opt
 use Rattle.std.specs.Prelude.{None}
 use Rattle.std.specs.Option.{is_some}
 use Rattle.journal.specs.declared.event.Event.{Event}
-use Rattle.journal.specs.ClockEntry.{entry}
 use Rattle.journal.specs.Races.{Race}
+use Rattle.judge.specs.CutRows.{cut_entry}
 use Rattle.judge.specs.NearestRaces.{IsNearestRaceTo}
 use Rattle.judge.proofs.TellingCuts.{cut_of_equal, cut_of_present}
 use Rattle.judge.proofs.nearest_races.NearestRaces.first.Goals as goal
@@ -19,11 +19,11 @@ returns-then-is_none c =
     none_races c.args.events.now c.args.event c.nearest.result
     (c.is_none.ensures ∙ ap (λ b. not b) c.if-is_none.true) (c.nearest.ensures c.args.events.now c.requires.tells)
 
-pub first_race_to-requires-clause-cut : goal.first_race_to-requires-clause-cut
-first_race_to-requires-clause-cut c =
+pub first_race_to-requires : goal.first_race_to-requires
+first_race_to-requires c =
     let tells = c.requires.tells in
     let present = tells.present in
     let lt = c.requires.processor in
     let p = c.args.event.processor in
-    cut_of_equal c.args.events.now p (entry c.args.self.now.cuts.processors.items p) (slice_index c.of.result.now)
-    (λ q. sym (c.of.ensures q)) (cut_of_present tells.cuts p (omega arith))
+    cut_of_equal c.args.events.now p (cut_entry c.args.self.now.cuts.processors p) (slice_index c.of.result.now)
+    (λ q. sym (c.of.ensures.entries q)) (cut_of_present tells.cuts p (omega arith))

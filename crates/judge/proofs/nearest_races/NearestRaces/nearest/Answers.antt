@@ -6,9 +6,9 @@ use Rattle.journal.specs.declared.event.Kind.TheVariants.{Load, Store}
 use Rattle.journal.specs.DidEvent.{event}
 use Rattle.journal.specs.Events.{event_address}
 use Rattle.journal.specs.Races.{Conflict}
-use Rattle.journal.specs.ClockEntry.{entry}
 use Rattle.journal.proofs.Order.EventPlacesAndCounts.{event_place_at_end}
 use Rattle.journal.proofs.Passes.NextRaces.{next_race_none_other}
+use Rattle.judge.specs.CutRows.{cut_entry}
 use Rattle.judge.specs.declared.nearest_races.NearestRaces.{NearestRaces}
 use Rattle.judge.specs.Cuts.{IsCutOf}
 use Rattle.judge.specs.SparseTables.{sparse_at}
@@ -19,10 +19,10 @@ use Rattle.judge.proofs.nearest_races.NearestRaces.nearest.Goals as goal
 
 -- the processor's cut, as it was read
 cut_of : (j : List Event) (x : NearestRaces) (p : ℕ) (t : List ℕ) → AreNearestRacesOf j x → p < x.processors
-    → ((q : ℕ) → slice_index t q ≡ entry x.cuts.processors.items p q) → IsCutOf j p (slice_index t)
+    → ((q : ℕ) → slice_index t q ≡ cut_entry x.cuts.processors p q) → IsCutOf j p (slice_index t)
 cut_of j x p t tells lt is =
     let present = tells.present in
-    cut_of_equal j p (entry x.cuts.processors.items p) (slice_index t) (λ q. sym (is q))
+    cut_of_equal j p (cut_entry x.cuts.processors p) (slice_index t) (λ q. sym (is q))
     (cut_of_present tells.cuts p (omega arith))
 
 -- the rows of a load and of a store
@@ -63,7 +63,7 @@ returns-in-Load c = λ j tells.
     let t = c.of-cut.result.now in
     nearest_race_is c.nearest_race_in_row.result
     (load_row j x e c.in-Load.address c.in-Load.field-1 c.row.result t tells c.in-Load.is c.row.ensures.is
-    (cut_of j x e.processor t tells c.requires.processor c.of-cut.ensures))
+    (cut_of j x e.processor t tells c.requires.processor c.of-cut.ensures.entries))
     c.nearest_race_in_row.ensures
 
 pub returns-in-Store : goal.returns-in-Store
@@ -73,7 +73,7 @@ returns-in-Store c = λ j tells.
     let t = c.of-cut.result.now in
     nearest_race_is c.nearest_race_in_row-in-Store.result
     (store_row j x e c.in-Store.address c.in-Store.field-1 c.row-in-Store.result t tells c.in-Store.is c.row-in-Store.ensures.is
-    (cut_of j x e.processor t tells c.requires.processor c.of-cut.ensures))
+    (cut_of j x e.processor t tells c.requires.processor c.of-cut.ensures.entries))
     c.nearest_race_in_row-in-Store.ensures
 
 pub returns-in_default : goal.returns-in_default

@@ -29,6 +29,7 @@ went : (j : List Event) (c : StoredCounts) (steps : SparseTable (Vec StoredStep)
     → AreAskedPlaces (judged_sizes_of c.sizes) j n q c.sizes.processors asked → AreStoredCountsOf j (record c { steps = steps })
 went j c steps n q row asked tells present at room few are places = record {
   sizes = tells.sizes;
+  long = tells.long;
   closed = tells.closed;
   pages = pages;
   words = tells.words;

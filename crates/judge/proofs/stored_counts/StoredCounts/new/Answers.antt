@@ -1,4 +1,4 @@
-use Rattle.std.proofs.Common.{[], subst, sym, refl}
+use Rattle.std.proofs.Common.{ℕ, List, [], slice_index, subst, sym, refl, ap, ◌∙◌}
 use Rattle.base.proofs.SliceSets.{index-zeros}
 use Rattle.std.proofs.lemmas.Option.{none-some}
 use Rattle.judge.specs.FetchGaps.{FetchGapStoreAt}
@@ -16,7 +16,9 @@ returns-clause-tells c =
     let row = stored_row c.args.sizes.processors in
     record {
       sizes = c.requires;
-      closed = λ q lt. index-zeros 64 q;
+      long = c.in_ok-vec.ensures.len;
+      closed = λ q lt. ap (λ (xs : List ℕ). slice_index xs q) (c.in_ok-vec.ensures.items_if_clones_equal (λ x is. is))
+          ∙ index-zeros c.args.sizes.processors q;
       pages = λ n q lt.
           subst (λ x. AreStoredSteps s [] n q (sparse_items x) (stored_total (sparse_at c.in_ok-new-2.field-0 (row n q)))) (sym (c.in_ok-new.ensures.none (row n q)))
           (subst (λ x. AreStoredSteps s [] n q [] (stored_total x)) (sym (c.in_ok-new-2.ensures.none (row n q)))

@@ -11,7 +11,7 @@ returns-else-closes_interval c = record {
   tells = λ j tells long.
       (let e = c.args.event in
       let x = c.args.self.now in
-      stored_tables_others j e x x.closed (λ q a v is. c.in_default.not-Store a v (ap (λ (y : Event). y.kind) is))
+      stored_tables_others j e x x.closed tells.long (λ q a v is. c.in_default.not-Store a v (ap (λ (y : Event). y.kind) is))
       (λ q lt. tells.closed q lt ∙ sym (stored_tables_inner j e q (sym c.closes_interval.ensures ∙ c.if-closes_interval.false))) tells);
 }
 
@@ -24,7 +24,7 @@ returns-then-closes_interval c = record {
       let closed = c.close.new.self.closed in
       let closes = sym c.closes_interval.ensures ∙ c.if-closes_interval.true in
       subst (AreStoredCountsOf (j ++ e ∷ [])) (sym c.close.ensures.rest)
-      (stored_tables_others j e x closed (λ q a v is. c.in_default.not-Store a v (ap (λ (y : Event). y.kind) is))
+      (stored_tables_others j e x closed (c.close.ensures.long ∙ tells.long) (λ q a v is. c.in_default.not-Store a v (ap (λ (y : Event). y.kind) is))
       (λ q lt. c.close.ensures.counted q ∙ ap (λ n. n + cond (e.processor == q) 1 0) (tells.closed q lt)
       ∙ sym (stored_tables_closes j e q closes)) tells));
 }

@@ -1,6 +1,7 @@
-use Rattle.std.proofs.Common.{◌≡◌, ℕ, ◌+◌, ◌-◌, ◌/◌, ◌<◌, ◌≤◌, Option, Some, None, List, slice_index, vec_len, subst, sym, refl, ap, ◌∙◌, arith}
-use Rattle.std.proofs.lemmas.Grind.{common_steps, pieces, elements}
+use Rattle.std.proofs.Common.{◌≡◌, ℕ, ◌+◌, ◌-◌, ◌/◌, ◌<◌, ◌≤◌, Option, Some, None, List, slice_index_or, vec_len, subst, sym, refl, ap, ◌∙◌, arith}
+use Rattle.std.proofs.lemmas.Grind.{pieces, elements}
 use Rattle.std.specs.Global.{Vec}
+use Rattle.std.proofs.lemmas.List.{get_or_read}
 use Rattle.std.specs.Option.{unwrap_or}
 use Rattle.journal.specs.declared.event.Event.{Event}
 use Rattle.journal.specs.declared.event.Kind.TheVariants.{Store}
@@ -15,6 +16,7 @@ use Rattle.judge.specs.GapTally.{IsGapTallyMark, gap_tally_mark_in}
 use Rattle.judge.specs.SparseTables.{IsSparseWith, sparse_at, sparse_room}
 use Rattle.judge.specs.StoredCounts.{AreStoredCountsOf, StoredStepAdds, stored_row}
 use Rattle.judge.specs.StoredSteps.{stored_total, stored_total_next}
+use Rattle.judge.proofs.FrontNoting.{front_noting_count_small}
 use Rattle.judge.proofs.GapEvents.{gap_event_store_bound}
 use Rattle.judge.proofs.StoredTables.{IsStoredStepKept, IsStoredWritten, stored_tables_store, stored_tables_stored}
 use Rattle.judge.proofs.stored_counts.StoredCounts.store.Goals as goal
@@ -37,6 +39,13 @@ was_stored j a q mark interval is same lt =
     let bound = gap_event_store_bound j a q (mark - 1) stored in
     subst (FetchGapStoreAt j a q) (omega (arith, bound, same, lt)) stored
 
+-- the count that is read is the history's
+count_is : (j : List Event) (x : StoredCounts) (q read : ℕ) → AreStoredCountsOf j x → q < x.sizes.processors
+    → read ≡ slice_index_or x.closed.items q read → read ≡ event_count event_closes j q
+count_is j x q read tells lt is =
+    let long = tells.long in
+    get_or_read x.closed.items q read (omega (arith, long, x.closed.ok.0, lt)) is 0 ∙ tells.closed q lt
+
 pub returns-then-unwrap_or-interval-clause-tells : goal.returns-then-unwrap_or-interval-clause-tells
 returns-then-unwrap_or-interval-clause-tells c = λ j tells long v.
     let x = c.args.self.now in
@@ -46,8 +55,8 @@ returns-then-unwrap_or-interval-clause-tells c = λ j tells long v.
     let mark = mark_is x.words c.word_row-word.result row c.unwrap_or.result c.get.result c.word_row-word.ensures.is c.get.ensures
     c.unwrap_or.ensures in
     let marked = subst (IsGapTallyMark (FetchGapStoreAt j a q)) mark (tells.words a q c.requires.processor) in
-    stored_tables_stored j x q a v (was_stored j a q c.unwrap_or.result (slice_index x.closed q) marked
-    (tells.closed q c.requires.processor) c.if-unwrap_or-interval.true) tells
+    stored_tables_stored j x q a v (was_stored j a q c.unwrap_or.result c.index-interval.result.now marked
+    (count_is j x q c.index-interval.result.now tells c.requires.processor c.index-interval.ensures) c.if-unwrap_or-interval.true) tells
 
 -- a step was kept in this row, of this total and interval
 kept : {old new : SparseTable (Vec StoredStep)} {place : ℕ} (row r : ℕ) (total t : StoredTotal) (interval k : ℕ) → row ≡ r → total ≡ t
@@ -76,8 +85,8 @@ returns-clause-tells c = λ j tells long v.
     let q = c.args.processor in
     let a = c.args.address in
     let k = event_count event_closes j q in
-    let interval = slice_index x.closed q in
-    let number : interval ≡ k = tells.closed q c.requires.processor in
+    let interval = c.index-interval.result.now in
+    let number : interval ≡ k = count_is j x q interval tells c.requires.processor c.index-interval.ensures in
     let word = stored_row x.sizes.processors a q in
     let row = stored_row x.sizes.processors (a / x.sizes.words) q in
     let total = stored_total (sparse_at x.totals row) in
@@ -106,13 +115,27 @@ returns-clause-tells c = λ j tells long v.
     subst Told (sym rest) (stored_tables_store v c.requires.processor fresh long step all marks tells)
 
 pub overflow_add-interval : goal.overflow_add-interval
-overflow_add-interval c = grind (arith, common_steps)
+overflow_add-interval c =
+    let j = c.requires.tells.0 in
+    let q = c.args.processor in
+    let same = count_is j c.args.self.now q c.index-interval.result.now c.requires.tells.1 c.requires.processor c.index-interval.ensures in
+    let few = front_noting_count_small event_closes j q in
+    let long = c.requires.tells.2 in
+    let place = c.requires.few in
+    omega arith
 
 pub nonzero_div-address : goal.nonzero_div-address
 nonzero_div-address c = search (pieces, arith)
 
 pub with_word-requires-clause-interval : goal.with_word-requires-clause-interval
-with_word-requires-clause-interval c = grind (arith, common_steps)
+with_word-requires-clause-interval c =
+    let j = c.requires.tells.0 in
+    let q = c.args.processor in
+    let same = count_is j c.args.self.now q c.index-interval.result.now c.requires.tells.1 c.requires.processor c.index-interval.ensures in
+    let few = front_noting_count_small event_closes j q in
+    let long = c.requires.tells.2 in
+    let place = c.requires.few in
+    omega arith
 
 pub with_word-requires-clause-records : goal.with_word-requires-clause-records
 with_word-requires-clause-records c = grind (arith, elements)

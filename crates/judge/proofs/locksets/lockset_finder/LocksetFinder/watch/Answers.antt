@@ -2,14 +2,12 @@ use Rattle.std.proofs.Common.{◌≡◌, ℕ, ◌++◌, ◌∷◌, [], ◌<◌, 
 use Rattle.std.proofs.lemmas.List.{take_all}
 use Rattle.std.specs.Prelude.{Result, Ok, Err, OnOk}
 use Rattle.journal.specs.declared.event.Event.{Event}
-use Rattle.journal.specs.ClockEntry.{entry}
 use Rattle.journal.specs.DidEvent.{event}
-use Rattle.journal.specs.EventsInRange.{EventProcessorsInRange}
 use Rattle.journal.proofs.Order.EventPlacesAndCounts.{event_place_same}
+use Rattle.judge.specs.CutRows.{cut_entry}
 use Rattle.judge.specs.declared.locksets.lockset_finder.LocksetFinder.{LocksetFinder}
 use Rattle.judge.specs.declared.locksets.watched_word.LockedAccess.{LockedAccess}
 use Rattle.judge.specs.Cuts.{IsCutOf}
-use Rattle.judge.specs.JudgedSizes.{most_judged_processors}
 use Rattle.judge.specs.SparseTables.{sparse_at}
 use Rattle.judge.specs.Locksets.KeptLocksets.{ComesNextToWatch, IsLocksetFinderOf}
 use Rattle.judge.specs.Locksets.Unlocked.{unlocked_history}
@@ -21,15 +19,13 @@ use Rattle.judge.proofs.locksets.lockset_finder.LocksetFinder.watch.Goals as goa
 -- the access comes next to its word
 comes_next : (x : LocksetFinder) (h j : List Event) (e : Event) (a : ℕ) (y : LockedAccess) (t : List ℕ) → IsLocksetFinderOf j x
     → ComesNextToWatch h j e → e.processor < x.cuts.present → IsWatchCandidate h a (length j) y
-    → ((q : ℕ) → slice_index t q ≡ entry x.cuts.processors.items e.processor q) → IsWatchedNext h a (length j) y (slice_index t)
+    → ((q : ℕ) → slice_index t q ≡ cut_entry x.cuts.processors e.processor q) → IsWatchedNext h a (length j) y (slice_index t)
 comes_next x h j e a y t tells comes lt is read =
     let same : e.processor ≡ y.processor =
     ap (λ (f : Event). f.processor) (event_place_same h (length j) e (event y.processor is.kind) comes.at is.does) in
-    let cut = cut_of_equal (unlocked_history j) e.processor (entry x.cuts.processors.items e.processor) (slice_index t) (λ q. sym (read q))
+    let cut = cut_of_equal (unlocked_history j) e.processor (cut_entry x.cuts.processors e.processor) (slice_index t) (λ q. sym (read q))
     (cut_of_present tells.cuts e.processor lt) in
     record {
-      range = subst (EventProcessorsInRange most_judged_processors) (sym comes.begins)
-          (λ i f at. (let below = tells.processors i f at in let few = tells.cuts.few in omega arith));
       access = is;
       cut = subst (λ xs. IsCutOf (unlocked_history xs) y.processor (slice_index t)) (sym comes.begins)
           (subst (λ q. IsCutOf (unlocked_history j) q (slice_index t)) same cut);
@@ -55,7 +51,7 @@ watch_finder_word-requires-clause-next c =
     let access = c.in_ok-access.ensures h j c.in-Some.address e tells comes refl c.in-Some.ensures.0 c.in-Some.ensures.1 in (
       h,
       length j,
-      comes_next x h j e c.in-Some.address c.in_ok-access.access c.of-cut.result.now tells comes c.requires.processor access c.of-cut.ensures,
+      comes_next x h j e c.in-Some.address c.in_ok-access.access c.of-cut.result.now tells comes c.requires.processor access c.of-cut.ensures.entries,
       tells.words h comes.begins,
     )
 
@@ -65,6 +61,6 @@ returns-clause-words c = success c.watch_finder_word.result
     (let e = c.args.event in
     let access = c.in_ok-access.ensures h j c.in-Some.address e tells comes refl c.in-Some.ensures.0 c.in-Some.ensures.1 in
     noted h (length j)
-    (comes_next c.args.self.now h j e c.in-Some.address c.in_ok-access.access c.of-cut.result.now tells comes c.requires.processor access c.of-cut.ensures)
+    (comes_next c.args.self.now h j e c.in-Some.address c.in_ok-access.access c.of-cut.result.now tells comes c.requires.processor access c.of-cut.ensures.entries)
     (tells.words h comes.begins)))
     c.watch_finder_word.ensures.noted

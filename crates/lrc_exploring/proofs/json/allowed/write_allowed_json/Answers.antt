@@ -1,0 +1,11 @@
+use Rattle.std.proofs.lemmas.Result.{on_ok_weaker}
+use Rattle.lrc_exploring.specs.ExploreJson.{IsExploredFront, allowed_rules, explored_end}
+use Rattle.lrc_exploring.proofs.JsonFronts.{more_and_ends}
+use Rattle.lrc_exploring.proofs.json.allowed.write_allowed_json.Goals as goal
+
+pub returns-clause-written : goal.returns-clause-written
+returns-clause-written g c = on_ok_weaker c.write.result (λ wrote.
+    let told = more_and_ends (IsExploredFront c.args.explored.now) c.new-lines.result c.put_explored_json.new.lines c.put_allowed_lines_json.new.lines c.put.new.self c.put-2.new.self
+    c.allowed_rules_json.result c.explored_summary_json.result (allowed_rules c.args.allowed.now) (explored_end c.args.explored.now) c.new-lines.ensures c.put_explored_json.ensures c.put_allowed_lines_json.ensures c.allowed_rules_json.ensures
+    c.put.ensures c.explored_summary_json.ensures c.put-2.ensures wrote.0 in
+    (_, (told.0, told.1, told.2, told.3), wrote.1)) c.write.ensures.lines

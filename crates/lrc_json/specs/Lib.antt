@@ -1,0 +1,5 @@
+pub mod PutTogether
+pub mod EventJson
+pub mod CheckedJson
+pub mod SampledJson
+pub mod Prelude
