@@ -125,23 +125,6 @@ def draw_wrong_lock(seed):
     return Script(16, 1, 16, 8, 0, tuple(sections), (0,)), word, line
 
 
-def draw_wide(seed):
-    """The text of a script whose searches have many open states: each of four to eight processors adds under locks, or under two at once, so
-    often. Of every four scripts one has an access without a lock at the end."""
-    random_ = random.Random(seed)
-    sections = []
-    for processor in range(random_.randrange(4, 9)):
-        section = []
-        for _ in range(random_.randrange(2, 5)):
-            first, second = random_.sample(range(3), 2)
-            inside = [("add", first, 1)] if random_.random() < 0.8 else [("acquire", second), ("add", second, 1), ("release", second)]
-            section += [("acquire", first), *inside, ("release", first)]
-        if seed % 4 == 0 and processor < 2:
-            section.append(("store", 3, processor + 1))
-        sections.append(tuple(section))
-    return Script(len(sections), 1, 4, 3, 0, tuple(sections), (0,)).text()
-
-
 def read(text):
     """The script of a lawful text."""
     lines = [line.split(" ") for line in text.splitlines()]

@@ -18,7 +18,7 @@ use Rattle.explore.specs.declared.state.kept_state.StateParts.{StateParts}
 use Rattle.explore.specs.declared.state.wait_code.ProcessorNumber.{ProcessorNumber}
 use Rattle.explore.specs.FoundStates.{AreFoundStates, AreFoundStatesKept, IsFoundStateOrigin, FoundStateAdded, IsFoundState, KeepsFoundStates, FoundStateWasPushed, FoundStateWasThere, found_states}
 use Rattle.explore.specs.Origins.{AreOriginsInOrder, StateOrigin, state_origins}
-use Rattle.explore.specs.KeptStates.{AreFewStateParts, AreOfOneSearch, AreStatePartsKept, AreStatePartsOnce, AreTrimmedMemories, IsKeptStateWithin, IsStateKept, opened_state}
+use Rattle.explore.specs.KeptStates.{AreFewStateParts, AreOfOneSearch, AreStatePartsOnce, AreTrimmedMemories, IsKeptStateWithin, IsStateKept, opened_state}
 use Rattle.explore.specs.CallTables.{IsCallTableOf}
 use Rattle.explore.specs.FollowedStates.{IsFollowedState, MayBeFollowedState}
 use Rattle.explore.specs.FreeRun.{AreFreeInRun, IsFoundByFreeRun}
@@ -186,26 +186,24 @@ module _ {s : Plan} {rows : List (Vec ScriptCall)} {x : FoundStates} {place p : 
         };
   }
 
-  pub added_state_is_followed_there : FoundStateWasThere x y m → AreFoundStatesKept y → AreStatePartsKept x.parts y.parts → IsFollowedState s rows x y place p k
-  added_state_is_followed_there was kept parts = record {
+  pub added_state_is_followed_there : FoundStateWasThere x y m → AreFoundStatesKept y → IsFollowedState s rows x y place p k
+  added_state_is_followed_there was kept = record {
     keeps = added_state_there_keeps s x y m was;
     found = added_state_there_found s x y m was kept may.found;
     known = added_state_found_soon (added_state_there_known s x y m was);
-    first = was.first;
-    parts = parts;
+    telling = ap (λ (n : FlatState). n.telling) was.first;
     few = (let same = ap (λ (ms : List FlatState). length ms) was.states in omega (arith, same));
   }
 
-  pub added_state_is_followed_pushed : FoundStateWasPushed x y m o → AreFoundStatesKept y → AreStatePartsKept x.parts y.parts → IsFollowedState s rows x y place p k
-  added_state_is_followed_pushed pushed kept parts = record {
+  pub added_state_is_followed_pushed : FoundStateWasPushed x y m o → AreFoundStatesKept y → IsFollowedState s rows x y place p k
+  added_state_is_followed_pushed pushed kept = record {
     keeps = added_state_pushed_keeps s x y m _ pushed;
     found =
         (let first = may.found.known place f at in
         added_state_pushed_found s x y m _ pushed kept may.found (did first.0 p k ++ came.more) (came.knows first.0 first.1)
         (came.telling ∙ may.found.told place f at) added_state_origin);
     known = added_state_found_soon (added_state_pushed_known s x y m _ pushed);
-    first = pushed.first;
-    parts = parts;
+    telling = ap (λ (n : FlatState). n.telling) pushed.first;
     few = (
         let longer = ap (λ (ms : List FlatState). length ms) pushed.states in
         let one = length-append (found_states x) (m ∷ []) in
@@ -217,7 +215,7 @@ pub added_state_is_followed : {s : Plan} {rows : List (Vec ScriptCall)} {x : Fou
     → MayBeFollowedState s rows x place p k → slice_get (found_states x) place ≡ Some f → IsAddedStateFreelyReached s rows place p k f m o
     → (y : FoundStates) → FoundStateAdded x y m o → IsFollowedState s rows x y place p k
 added_state_is_followed may at came y added = elim added.added [
-  | inl was ↦ added_state_is_followed_there may at came y was added.kept added.parts
+  | inl was ↦ added_state_is_followed_there may at came y was added.kept
   | inr put ↦
       (let like = put.like in
       added_state_is_followed_pushed may at (record {
@@ -227,7 +225,7 @@ added_state_is_followed may at came y added = elim added.added [
         makers = came.makers;
         telling = like.telling ∙ came.telling;
         knows = λ g knows. like_machine_knows _ _ _ put.state like (came.knows g knows);
-      }) y put.pushed added.kept added.parts)
+      }) y put.pushed added.kept)
 ]
 
 -- what is put at a place is opened there
@@ -280,7 +278,6 @@ module _ (x : FoundStates) (parts : StateParts) (m : FlatState) (k : KeptState) 
               (subst (λ z. AreTrimmedMemories z (length x.first.memory.items)) (sym parts_are) added_state_trimmed);
           in_order = subst AreOriginsInOrder (sym origins) old.in_order;
         };
-        parts = subst (AreStatePartsKept x.parts) (sym parts_are) is.keeps;
         added = inl (record {
           first = first;
           calls = added_state_calls y parts_are;
@@ -315,7 +312,6 @@ module _ (x : FoundStates) (parts : StateParts) (m : FlatState) (k : KeptState) 
           (subst (λ z. AreTrimmedMemories z (length x.first.memory.items)) (sym parts_are) added_state_trimmed);
       in_order = in_order;
     };
-    parts = subst (AreStatePartsKept x.parts) (sym parts_are) is.keeps;
     added = inr (record {
       state = opened_state parts x.first k;
       pushed = record {

@@ -16,7 +16,7 @@ pub mod Equals
 pub mod NotedOutcomes
 pub mod FreeRuns
 pub mod AddedStates
-pub mod Followers
+pub mod FollowedAll
 pub mod FirstRaces
 pub mod ChoosingFree
 pub mod Persistence
@@ -24,7 +24,6 @@ pub mod SearchedStates
 pub mod ShownRuns
 pub mod Trials
 pub mod SearchGoals
-pub mod TakenStates
 pub mod Locksets
 pub mod TextWalks
 pub mod UnguardedWords
@@ -35,7 +34,6 @@ pub mod Reduced
 pub mod AllowedRuns
 pub mod Determined
 pub mod KeptStates
-pub mod KeptParts
 pub mod TrimmedWords
 pub mod StateOrigins
 pub mod CountedStates

@@ -1,5 +1,5 @@
 -- What a search knows after it has looked at some of the states that it has found.
-use Rattle.std.specs.Prelude.{ℕ, ◌≡◌, ◌≢◌, ◌<◌, ◌≤◌, ◌↔◌, ◌⊎◌, ⊤, Bool, false, IsTrue, MatchOption, Option, Some, None, List, ◌++◌, length, slice_get}
+use Rattle.std.specs.Prelude.{ℕ, ◌≡◌, ◌≢◌, ◌+◌, ◌<◌, ◌≤◌, ◌↔◌, ◌⊎◌, ⊤, Bool, false, IsTrue, MatchOption, Option, Some, None, List, ◌++◌, length, slice_get}
 use Rattle.std.specs.Global.{Vec}
 use Rattle.base.specs.InOrderOnce.{Has, IsOnce}
 use Rattle.journal.specs.declared.event.Event.{Event}
@@ -13,6 +13,7 @@ use Rattle.conformance.specs.Follows.{Follows}
 use Rattle.explore.specs.declared.prefixes.script_call.ScriptCall.{ScriptCall}
 use Rattle.explore.specs.Prefixes.FlatBeginnings.{IsFlatBeginning, IsFlatBeginningHanging}
 use Rattle.explore.specs.declared.state.flat_state.FlatState.{FlatState}
+use Rattle.explore.specs.declared.search.neighbours.Neighbours.{Neighbours}
 use Rattle.explore.specs.declared.search.Met.{Met}
 use Rattle.explore.specs.declared.search.Search.{Search}
 use Rattle.explore.specs.declared.outcomes.answer.Hanging.{Hanging}
@@ -27,6 +28,7 @@ use Rattle.explore.specs.FoundStates.{AreFoundStates, found_states}
 use Rattle.explore.specs.FreeRun.{IsFoundByFreeRun}
 use Rattle.explore.specs.Machines.{AreLawfulMachineSteps, MachineKnows}
 use Rattle.explore.specs.Nexts.{NextsAreOver}
+use Rattle.explore.specs.Racing.{AreRacing}
 use Rattle.explore.specs.OutcomeTelling.{AreOutcomeTellingReplies}
 
 -- all that may come next after g has V
@@ -137,6 +139,11 @@ pub record HasMoreToFlatSearch (s : Plan) (x : Search) (steps : List (Vec Script
   pub lawful : AreLawfulMachineSteps s steps
   pub searched : FlatSearchedUpTo s x steps n
   pub more : n < length (found_states x.found)
+
+-- the first n states and one more have been looked at; or two next events of that one conflict
+abbrev pub IsFlatSearchedAt : Plan → Search → List (Vec ScriptCall) → ℕ → Option Neighbours → Type 0
+IsFlatSearchedAt s x steps n o =
+    MatchOption o (FlatSearchedUpTo s x steps (n + 1)) (λ ns. FlatSearchedUpTo s x steps n × AreRacing s x.found steps ns)
 
 -- some states have been looked at, or all
 pub record IsFlatSearched (s : Plan) (x : Search) (steps : List (Vec ScriptCall)) (through : Bool) : Type 0 where

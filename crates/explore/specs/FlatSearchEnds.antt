@@ -13,11 +13,7 @@ use Rattle.explore.specs.declared.search.SearchEnd.{SearchEnd}
 use Rattle.explore.specs.declared.outcomes.showing.Showing.{Showing}
 use Rattle.explore.specs.declared.outcomes.showing.Showing.TheVariants.{Undecided}
 use Rattle.explore.specs.FlatSearch.{FlatSearchedUpTo, IsFlatSearched}
-use Rattle.explore.specs.FoundStates.{KeepsFoundStates, found_states}
-use Rattle.explore.specs.Machines.{AreLawfulMachineSteps}
-use Rattle.explore.specs.OpenedStates.{AreOpenedStates, IsOpenedStateAt}
-use Rattle.explore.specs.declared.search.opened_state.OpenedState.{OpenedState}
-use Rattle.explore.specs.KeptStates.{AreStatePartsKept}
+use Rattle.explore.specs.FoundStates.{found_states}
 use Rattle.explore.specs.OutcomeTelling.{outcome_telling_of_script}
 use Rattle.explore.specs.Racing.{AreRacing}
 use Rattle.explore.specs.SearchGoals.{IsGoalMetAt, IsGoalUnmet}
@@ -32,39 +28,6 @@ IsMetByFlatSearch s x steps P (Conflict neighbours) = AreRacing s x.found steps 
 pub record FlatSearchedWithout (s : Plan) (x : Search) (steps : List (Vec ScriptCall)) (P : List Event → Type 0) (n : ℕ) : Type 0 where
   pub searched : FlatSearchedUpTo s x steps n
   pub unmet : IsGoalUnmet s P (found_states x.found) n
-
--- the state at this place, which was opened to be this, is the next one
-pub record IsNextInFlatSearch (s : Plan) (x : Search) (steps : List (Vec ScriptCall)) (P : List Event → Type 0) (place : ℕ) (opened : OpenedState)
-    : Type 0 where
-  pub lawful : AreLawfulMachineSteps s steps
-  pub without : FlatSearchedWithout s x steps P place
-  pub more : place < length (found_states x.found)
-  pub is : IsOpenedStateAt s steps P x.found place opened
-
--- it has been looked at, too; or it is what ends the search
-pub record IsTakenByFlatSearch (s : Plan) (x y : Search) (steps : List (Vec ScriptCall)) (P : List Event → Type 0) (place : ℕ) (o : Option Met)
-    : Type 0 where
-  pub keeps : KeepsFoundStates (found_states x.found) (found_states y.found)
-  pub few : length (found_states y.found) ≤ length (found_states x.found) + most_processors
-  pub first : y.found.first ≡ x.found.first
-  pub parts : AreStatePartsKept x.found.parts y.found.parts
-  pub taken : MatchOption o (FlatSearchedWithout s y steps P (place + 1)) (λ met. FlatSearchedUpTo s y steps place × IsMetByFlatSearch s y steps P met)
-
--- the states from this place on up to another, which were opened to be these, are the next ones
-pub record AreNextInFlatSearch (s : Plan) (x : Search) (steps : List (Vec ScriptCall)) (P : List Event → Type 0) (from to : ℕ) (opened : List OpenedState)
-    : Type 0 where
-  pub lawful : AreLawfulMachineSteps s steps
-  pub without : FlatSearchedWithout s x steps P from
-  pub within : to ≤ length (found_states x.found)
-  pub are : AreOpenedStates s steps P x.found from to opened
-
--- they have been looked at, too, if no more states than these were found; or this was met
-pub record AreTakenByFlatSearch (s : Plan) (x y : Search) (steps : List (Vec ScriptCall)) (P : List Event → Type 0) (most to : ℕ) (o : Option Met)
-    : Type 0 where
-  pub some : (n : ℕ) × FlatSearchedUpTo s y steps n
-  pub few : length (found_states x.found) ≤ most + most_processors → length (found_states y.found) ≤ most + most_processors
-  pub telling : y.found.first.telling ≡ x.found.first.telling
-  pub taken : MatchOption o (length (found_states y.found) ≤ most → FlatSearchedWithout s y steps P to) (IsMetByFlatSearch s y steps P)
 
 -- some states have been looked at, and all if they are no more than this; or this was met
 pub record IsFlatSearchedThrough (s : Plan) (x : Search) (steps : List (Vec ScriptCall)) (P : List Event → Type 0) (most : ℕ) (o : Option Met)

@@ -10,7 +10,6 @@ use Rattle.explore.specs.FreeRun.{IsFoundByFreeRun}
 use Rattle.explore.specs.declared.state.found_states.FoundStates.{FoundStates}
 use Rattle.explore.specs.declared.state.flat_state.FlatState.{FlatState}
 use Rattle.explore.specs.FoundStates.{AreFoundStates, KeepsFoundStates, FoundStateMayDo, found_states}
-use Rattle.explore.specs.KeptStates.{AreStatePartsKept}
 use Rattle.explore.specs.Machines.{AreLawfulMachineSteps, MachineKnows}
 
 -- of the state at this place of a lawful script p may do this next
@@ -28,10 +27,17 @@ pub record IsFollowedState (s : Plan) (rows : List (Vec ScriptCall)) (x y : Foun
   pub known : (m : FlatState) (g : List Event) → slice_get (found_states x) place ≡ Some m → MachineKnows s g m
       → IsFoundByFreeRun s rows (found_states y) (did g p k)
   pub few : length (found_states y) ≤ length (found_states x) + 1
-  pub first : y.first ≡ x.first
-  pub parts : AreStatePartsKept x.parts y.parts
+  pub telling : y.first.telling ≡ x.first.telling
 
--- of the state at this place, what the processors below this number make of it is found soon
+-- of the state at this place of a lawful script each of these may come next
+pub record MayBeFollowedStateByEach (s : Plan) (rows : List (Vec ScriptCall)) (x : FoundStates) (place : ℕ) (nexts : List (Option Kind)) : Type 0 where
+  pub lawful : AreLawfulMachineSteps s rows
+  pub found : AreFoundStates s x
+  pub within : place < length (found_states x)
+  pub next : (m : FlatState) → slice_get (found_states x) place ≡ Some m → (p : ℕ) (k : Kind)
+      → slice_index_or nexts p None ≡ Some k → FoundStateMayDo s m p k
+
+-- and below this number of processors, what they make of it is found soon
 pub record AreFollowedStates (s : Plan) (rows : List (Vec ScriptCall)) (x y : FoundStates) (place : ℕ) (nexts : List (Option Kind)) (n : ℕ) : Type 0 where
   pub keeps : KeepsFoundStates (found_states x) (found_states y)
   pub found : AreFoundStates s y

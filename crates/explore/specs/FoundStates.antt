@@ -12,7 +12,7 @@ use Rattle.explore.specs.declared.state.wait_code.ProcessorNumber.{ProcessorNumb
 use Rattle.std.specs.Global.{Vec}
 use Rattle.explore.specs.declared.prefixes.script_call.ScriptCall.{ScriptCall}
 use Rattle.explore.specs.CallTables.{IsCallTableOf}
-use Rattle.explore.specs.KeptStates.{AreFewStateParts, AreStatePartsKept, AreStatePartsOnce, AreTrimmedMemories, IsKeptStateWithin, opened_state}
+use Rattle.explore.specs.KeptStates.{AreFewStateParts, AreStatePartsOnce, AreTrimmedMemories, IsKeptStateWithin, opened_state}
 use Rattle.explore.specs.Origins.{AreOriginsInOrder, StateOrigin, most_state_origins, state_origins}
 use Rattle.explore.specs.Machines.{AreLawfulMachineSteps, MachinesInSameState, MachineKnows}
 
@@ -92,7 +92,6 @@ pub record FoundStateWasKept (x y : FoundStates) (m : FlatState) (o : StateOrigi
 -- the state was added, if it is a new one
 pub record FoundStateAdded (x y : FoundStates) (m : FlatState) (o : StateOrigin) : Type 0 where
   pub kept : AreFoundStatesKept y
-  pub parts : AreStatePartsKept x.parts y.parts
   pub added : FoundStateWasThere x y m ⊎ FoundStateWasKept x y m o
 
 -- the machine n is in the state at this place

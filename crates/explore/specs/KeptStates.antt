@@ -176,17 +176,6 @@ pub record AreStatePartsGrown (x y : StateParts) (k : KeptState) : Type 0 where
   pub replies : HasStatePartsGrown x.replies.keys y.replies.keys k.replies
   pub asks : HasStatePartsGrown x.asks.keys y.asks.keys k.asks
 
--- the parts have those of the state m, and this is how it is kept
-pub record IsStateKeptBy (x : StateParts) (m : FlatState) (k : KeptState) : Type 0 where
-  pub within : IsKeptStateWithin x k
-  pub like : (first : FlatState) → AreOfOneSearch first m → MachinesInSameState m (opened_state x first k)
-
--- an equal part stands at place i
-pub record IsStatePartAt {A : Type 0} (eq : A → A → Bool) (parts : List A) (a : A) (i : ℕ) : Type 0 where
-  pub part : A
-  pub at : slice_get parts i ≡ Some part
-  pub same : eq a part ≡ true
-
 -- the parts y have the parts of the state m too, and this is how it is kept
 pub record IsStateKept (x y : StateParts) (m : FlatState) (k : KeptState) : Type 0 where
   pub keeps : AreStatePartsKept x y

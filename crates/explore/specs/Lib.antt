@@ -32,14 +32,12 @@ pub mod NoFoundStates
 pub mod Nexts
 pub mod FreeRun
 pub mod FollowedStates
-pub mod Followers
 pub mod StatesOfScript
 pub mod Racing
 pub mod FlatSearch
 pub mod FlatSearchEnds
 pub mod EndingWords
 pub mod SearchGoals
-pub mod OpenedStates
 pub mod Prelude
 pub mod Prefixes
 pub mod WholeRuns

@@ -9,8 +9,7 @@
 //! made and the places of what these don't tell: its words, its replies and its order of asks, which stand once for all
 //! states (`opened_state`). Who waits, who holds a lock and which flags are set is read off a table of the script's steps
 //! (`call_waiting`). `FoundStates` has the states, each once, with where it comes from (`AreFoundStates`); `Search` has looked
-//! at the first of them (`FlatSearchedUpTo`). A state is *opened* by itself, by jobs or in turn (`StateOpener`): what it is, and its
-//! *followers* (`IsOpenedState`). Then it is *taken*, in its place (`IsTakenByFlatSearch`).
+//! at the first of them (`FlatSearchedUpTo`).
 //!
 //! Each search is for all that there is, or for a run that ends with some words (`Goal`). One that is given up makes *trials*, runs by
 //! a few orders of turns (`AreTrials`). Module `search` goes through states on
@@ -23,8 +22,7 @@
 //!
 //! **What is proved.** `allowed_outcomes` answers what `AreAllowedRunOutcomes` says: exactly these outcomes, each once, or
 //! some of them if there are more beginnings of runs than were to be looked at. `allowed_until` answers what
-//! `IsAllowedUntil` says. `explore` answers what `IsExplored` says, and `explore_until` what `IsExploredUntil` says; so do
-//! `explore_by_jobs` and `explore_until_by_jobs`.
+//! `IsAllowedUntil` says. `explore` answers what `IsExplored` says, and `explore_until` what `IsExploredUntil` says.
 //! `guarded_words` says of a word only if it is so that no two accesses of it race. `never_gets_stuck_by_text` says that no
 //! schedule hangs only if that is so. `free_choice` leaves out only what may as well come later (`proofs/Reduced`).
 //! `what_memory_shows` tells outcomes of a script on this memory, each with a schedule: a whole run comes by its turns, and its
@@ -57,8 +55,8 @@ pub use progress::{Progress, Silent};
 pub use rules::search::allowed_outcomes;
 pub use rules::showing::{AllowedOutcomes, AllowedShowing, AllowedUntil};
 pub use rules::until::allowed_until;
-pub use search::until::{explore_until, explore_until_by_jobs};
-pub use search::{explore, explore_by_jobs};
+pub use search::explore;
+pub use search::until::explore_until;
 pub use state::wait_code::ProcessorNumber;
 pub use state::waits::Waiting;
 pub use text::lock_ranks::ranked_locks_law;

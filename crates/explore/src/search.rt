@@ -11,20 +11,17 @@ ghost use Rattle.explore.specs.FreeChoice.{AreFreeChoiceTextFacts};
 ghost use Rattle.explore.specs.Explored.{AreExploredOutcomes, IsExplored, IsExploredHang, IsExploredHanging, IsExploredRacy, IsExploredVerdict, IsRunOfShownOutcome, explored_outcome, shown_outcome};
 ghost use Rattle.explore.specs.declared.outcomes.answer.ShownOutcome.{ShownOutcome as AShownOutcome};
 ghost use Rattle.base.specs.InOrderOnce.{Has};
-ghost use Rattle.explore.specs.FoundStates.{AreFoundStates, HasRoomForStates, found_states};
+ghost use Rattle.explore.specs.FoundStates.{AreFoundStates, HasRoomForStates, IsFoundStateAt, KeepsFoundStates, found_states};
 ghost use Rattle.explore.specs.Origins.{most_state_origins};
 ghost use Rattle.explore.specs.Machines.{AreLawfulMachineSteps};
 ghost use Rattle.explore.specs.SearchGoals.{IsRunOfGoal};
 ghost use Rattle.explore.specs.StateRoom.{state_room_at_most};
 ghost use Rattle.explore.specs.declared.outcomes.telling.Detail.{Detail as ADetail};
 ghost use Rattle.explore.specs.OutcomeTelling.{outcome_telling_of_script};
-ghost use Rattle.explore.specs.FlatSearch.{FlatSearchHasHang, AreFlatSearchNotes, FlatSearchedUpTo};
+ghost use Rattle.explore.specs.FlatSearch.{FlatSearchHasHang, IsFlatSearchedAt, AreFlatSearchNotes, FlatSearchedUpTo, HasMoreToFlatSearch};
 ghost use Rattle.explore.specs.FlatSearch.{AreFlatSearchPlaces, IsFlatSearchHangingOpen, IsFlatSearchVerdictOpen, IsFlatSearched, MayNoteInFlatSearch};
 ghost use Rattle.explore.specs.declared.search.Met.{Met as AMet};
-ghost use Rattle.explore.specs.FlatSearchEnds.{IsFlatSearchEnd, IsFlatSearchedThrough, IsMetByFlatSearch, AreNextInFlatSearch, AreTakenByFlatSearch, IsNextInFlatSearch, IsTakenByFlatSearch};
-ghost use Rattle.explore.specs.OpenedStates.{IsOpenedEndAt};
-ghost use Rattle.explore.specs.declared.search.opened_state.OpenedState.TheVariants.{Stuck, Whole};
-ghost use Rattle.explore.specs.declared.goal.Goal.{Goal as AGoal};
+ghost use Rattle.explore.specs.FlatSearchEnds.{IsFlatSearchEnd, IsFlatSearchedThrough, IsMetByFlatSearch};
 ghost use Rattle.explore.specs.NotedOutcomes.{IsNotedOutcome, noted_outcomes};
 ghost use Rattle.explore.specs.TextGuards.{AreGuardedByText};
 ghost use Rattle.explore.specs.Trials.{AreTrialOutcomes, AreTrials, trial_outcome};
@@ -32,8 +29,6 @@ ghost use Rattle.explore.specs.Trials.{AreTrialOutcomes, AreTrials, trial_outcom
 pub mod free_choice;
 pub mod free_run;
 pub mod neighbours;
-pub mod opened_state;
-pub mod opening;
 pub mod persistent_set;
 pub mod racing_history;
 pub mod trial_order;
@@ -48,9 +43,10 @@ use crate::outcomes::answer::{
 use crate::outcomes::telling::Detail;
 use crate::prefixes::{ScriptCall, script_calls_of_all};
 use crate::progress::Progress;
-use crate::search::neighbours::Neighbours;
-use crate::search::opened_state::OpenedState;
-use crate::search::opening::{ByJobs, InTurn, StateOpener};
+use crate::search::free_choice::free_choice;
+use crate::search::neighbours::{
+    Neighbours, are_neighbours_over, neighbour_nexts_of, neighbours_in,
+};
 use crate::search::racing_history::racing_history;
 use crate::search::trials::{Trials, trials_within};
 use crate::search::whole_run::never_gets_stuck_by_text;
@@ -65,7 +61,6 @@ use indexmap::IndexMap;
 use lrc_script::script::Script;
 use std::alloc::{AllocError, Global};
 use std::mem;
-use std::thread::Threads;
 
 /// What a search has found so far.
 #[derive(Drop)]
@@ -140,14 +135,6 @@ fn is_search_through(met: Option<Met>, states: usize, most: usize) -> bool
         Some(_) => false,
         None => states <= most,
     }
-}
-
-/// Where so many states from this place on end, of which there is one at least and none from `end` on.
-fn end_of_batch(place: usize, more: usize, end: usize) -> usize
-    requires { place < end }
-    ensures { (place < result) × (result ≤ end) }
-{
-    place + more.max(1).min(end - place)
 }
 
 /// Whether the text shows that no schedule races: all words are guarded. If the search was given up, each two accesses are looked
@@ -249,101 +236,74 @@ impl Search {
         })
     }
 
-    /// Takes note of the state at this place, which is whole, and shows this.
-    fn note_whole(&mut self, outcome: ScriptOutcome, place: usize) -> Result<(), AllocError>
-        ensures found { OnOk result (self.new.found ≡ self.old.found) }
-        ensures noted { OnOk result ((s : Plan) (rows : List (AVec AStep)) → MayNoteInFlatSearch s self.old rows place
-            → IsOpenedEndAt s self.old.found place (Whole outcome) → AreFlatSearchNotes s self.new (place + 1)) }
-    {
-        note_search_outcome(&mut self.outcomes, outcome, place)
-    }
-
-    /// Takes note of the state at this place, which hangs.
-    fn note_hang(&mut self, place: usize)
-        ensures found { self.new.found ≡ self.old.found }
-        ensures noted { (s : Plan) (rows : List (AVec AStep)) → MayNoteInFlatSearch s self.old rows place
-            → IsOpenedEndAt s self.old.found place Stuck → AreFlatSearchNotes s self.new (place + 1) }
-    {
-        self.hang = Some(self.hang.unwrap_or(place));
-    }
-
-    /// Takes the state at this place, which was opened, as the next one that is looked at: what there is to note is noted, and what comes
-    /// next is found, or else what ends the search is told.
-    fn take(&mut self, opened: OpenedState, place: usize) -> Result<Option<Met>, AllocError>
-        requires room { HasRoomForStates self.old.found most_processors }
-        requires next { (s : Plan) × (rows : List (AVec AStep)) × (goal : AGoal)
-            × IsNextInFlatSearch s self.old rows (IsRunOfGoal s goal) place opened }
-        ensures { IfOk result (λ o. (s : Plan) (rows : List (AVec AStep)) (goal : AGoal)
-            → IsNextInFlatSearch s self.old rows (IsRunOfGoal s goal) place opened
-            → IsTakenByFlatSearch s self.old self.new rows (IsRunOfGoal s goal) place o) }
-    {
-        match opened {
-            OpenedState::Ending => Ok(Some(Met::Ending(place))),
-            OpenedState::InConflict(first, second) => {
-                Ok(Some(Met::Conflict(Neighbours {
-                    place,
-                    first,
-                    second,
-                })))
-            }
-            OpenedState::Whole(outcome) => {
-                self.note_whole(outcome, place)?;
-                Ok(None)
-            }
-            OpenedState::Stuck => {
-                self.note_hang(place);
-                Ok(None)
-            }
-            OpenedState::Followed(followers) => {
-                self.found.add_followers(followers, place)?;
-                Ok(None)
-            }
-        }
-    }
-
-    /// Takes the states from this place on, which were opened, one after the other, until one ends the search or more than `most` states
-    /// are found.
-    fn take_all<P: Progress>(
+    /// Takes note of the state at this place, which is given, after which nothing may come next: it is whole, or it hangs.
+    fn note_end(
         &mut self,
-        opened: Vec<OpenedState>,
-        from: usize,
-        most: usize,
-        progress: &mut P,
-    ) -> Result<Option<Met>, AllocError>
-        requires room { most + most_processors ≤ most_state_origins }
-        requires next { (s : Plan) × (rows : List (AVec AStep)) × (goal : AGoal) × (to : ℕ)
-            × AreNextInFlatSearch s self.old rows (IsRunOfGoal s goal) from to opened.items }
-        ensures { IfOk result (λ o. (s : Plan) (rows : List (AVec AStep)) (goal : AGoal) (to : ℕ)
-            → AreNextInFlatSearch s self.old rows (IsRunOfGoal s goal) from to opened.items
-            → AreTakenByFlatSearch s self.old self.new rows (IsRunOfGoal s goal) most to o) }
+        state: &FlatState,
+        steps: &[Vec<ScriptCall>],
+        place: usize,
+    ) -> Result<(), AllocError>
+        requires state { IsFoundStateAt self.old.found place state.now }
+        requires may { (s : Plan) × MayNoteInFlatSearch s self.old steps.now place }
+        ensures found { OnOk result (self.new.found ≡ self.old.found) }
+        ensures noted { OnOk result ((s : Plan) → MayNoteInFlatSearch s self.old steps.now place → AreFlatSearchNotes s self.new (place + 1)) }
     {
-        let mut place = from;
-        for state in opened {
-            let states = self.found.len();
-            progress.found(states);
-            if is_search_past(states, most) {
-                return Ok(None);
-            }
-            if let Some(met) = self.take(state, place)? {
-                return Ok(Some(met));
-            }
-            place += 1;
+        if state.is_whole(steps) {
+            let replies = state.replies()?;
+            let outcome = ScriptOutcome { replies };
+            return note_search_outcome(&mut self.outcomes, outcome, place);
         }
+        self.hang = Some(self.hang.unwrap_or(place));
+        Ok(())
+    }
+
+    /// Looks at the state at this place, which is given: the two events that conflict, if there are such; else what comes
+    /// next is found, by one event that is free, by asks, or by all, and what there is to note is noted.
+    fn look_at(
+        &mut self,
+        state: FlatState,
+        steps: &[Vec<ScriptCall>],
+        facts: &TextFacts,
+        place: usize,
+    ) -> Result<Option<Neighbours>, AllocError>
+        requires state { IsFoundStateAt self.old.found place state }
+        requires facts { AreFreeChoiceTextFacts steps.now facts.now }
+        requires room { HasRoomForStates self.old.found most_processors }
+        requires unvisited { (s : Plan) × HasMoreToFlatSearch s self.old steps.now place }
+        ensures looked { IfOk result (λ o. (s : Plan) → HasMoreToFlatSearch s self.old steps.now place
+            → IsFlatSearchedAt s self.new steps.now place o) }
+        ensures found { IfOk result (λ _. (s : Plan) → HasMoreToFlatSearch s self.old steps.now place
+            → KeepsFoundStates (found_states self.old.found) (found_states self.new.found)
+            × (length (found_states self.new.found) ≤ length (found_states self.old.found) + most_processors)
+            × (self.new.found.first.telling ≡ self.old.found.first.telling)) }
+    {
+        let nexts = neighbour_nexts_of(&state, steps);
+        if let Some((first, second)) = neighbours_in(&nexts) {
+            return Ok(Some(Neighbours {
+                place,
+                first,
+                second,
+            }));
+        }
+        let followed = free_choice(steps, &state, &nexts, facts);
+        if are_neighbours_over(&nexts) {
+            self.note_end(&state, steps, place)?;
+        }
+        self.found
+            .follow_all(state, steps, facts, place, &followed)?;
         Ok(None)
     }
 
     /// Looks at each state that there is, until one is what is looked for, two events conflict or more than `most` states are
-    /// found. States are opened some at a time, and taken in their order: so which ends the search doesn't depend on how many.
-    fn look_at_all<P: Progress, O: StateOpener>(
+    /// found.
+    fn look_at_all<P: Progress>(
         &mut self,
         steps: &[Vec<ScriptCall>],
         facts: &TextFacts,
         goal: Goal<'_>,
         most: usize,
-        opener: &O,
         progress: &mut P,
     ) -> Result<Option<Met>, AllocError>
-        requires ready { O.ready }
         requires facts { AreFreeChoiceTextFacts steps.now facts.now }
         requires room { most + most_processors ≤ most_state_origins }
         requires searched { (s : Plan) × AreLawfulMachineSteps s steps.now × FlatSearchedUpTo s self.old steps.now 0 }
@@ -354,20 +314,22 @@ impl Search {
         ensures telling { IfOk result (λ _. (s : Plan) → AreLawfulMachineSteps s steps.now → FlatSearchedUpTo s self.old steps.now 0
             → self.new.found.first.telling ≡ self.old.found.first.telling) }
     {
-        let mut place = 0;
-        while place < most {
+        for place in 0..most {
             let states = self.found.len();
             progress.found(states);
-            if is_search_past(states, most) || place >= states {
+            if is_search_past(states, most) {
                 return Ok(None);
             }
-            let more = opener.at_a_time(&self.found, states - place);
-            let to = end_of_batch(place, more, states.min(most));
-            let opened = opener.open_from(&self.found, steps, facts, goal, place, to)?;
-            if let Some(met) = self.take_all(opened, place, most, progress)? {
-                return Ok(Some(met));
+            if place == states {
+                return Ok(None);
             }
-            place = to;
+            let state = self.found.at(place)?;
+            if goal.is_met_by(&state, steps) {
+                return Ok(Some(Met::Ending(place)));
+            }
+            if let Some(neighbours) = self.look_at(state, steps, facts, place)? {
+                return Ok(Some(Met::Conflict(neighbours)));
+            }
         }
         Ok(None)
     }
@@ -477,16 +439,14 @@ impl Search {
     }
 
     /// Looks at each state that there is, as `look_at_all` does, and says how that ended.
-    pub(crate) fn look_to_the_end<P: Progress, O: StateOpener>(
+    pub(crate) fn look_to_the_end<P: Progress>(
         &mut self,
         steps: &[Vec<ScriptCall>],
         facts: &TextFacts,
         goal: Goal<'_>,
         most: usize,
-        opener: &O,
         progress: &mut P,
     ) -> Result<SearchEnd, AllocError>
-        requires ready { O.ready }
         requires facts { AreFreeChoiceTextFacts steps.now facts.now }
         requires room { most + most_processors ≤ most_state_origins }
         requires searched { (s : Plan) × AreLawfulMachineSteps s steps.now × FlatSearchedUpTo s self.old steps.now 0 }
@@ -495,7 +455,7 @@ impl Search {
         ensures telling { IfOk result (λ _. (s : Plan) → AreLawfulMachineSteps s steps.now → FlatSearchedUpTo s self.old steps.now 0
             → self.new.found.first.telling ≡ self.old.found.first.telling) }
     {
-        let met = self.look_at_all(steps, facts, goal, most, opener, progress)?;
+        let met = self.look_at_all(steps, facts, goal, most, progress)?;
         let states = self.found.len();
         let through = is_search_through(met, states, most);
         Ok(SearchEnd {
@@ -638,7 +598,7 @@ impl Search {
     }
 
     /// Looks at all states of the script as `explore` does, from the first one on.
-    fn explored<P: Progress, O: StateOpener>(
+    fn explored<P: Progress>(
         &mut self,
         alloc: Global,
         script: &Script,
@@ -646,10 +606,8 @@ impl Search {
         facts: &TextFacts,
         detail: Detail,
         most: usize,
-        opener: &O,
         progress: &mut P,
     ) -> Result<Explored, AllocError>
-        requires ready { O.ready }
         requires steps { AreLawfulMachineSteps (plan_of script.now) steps.now }
         requires long { length facts.now.guarded.items ≡ plan_addresses (plan_of script.now) }
         requires facts { AreFreeChoiceTextFacts steps.now facts.now }
@@ -660,28 +618,26 @@ impl Search {
     {
         let most = state_room_at_most(script, detail, most);
         let trials = trials_within(steps, most);
-        let end = self.look_to_the_end(steps, facts, Goal::All, most, opener, progress)?;
+        let end = self.look_to_the_end(steps, facts, Goal::All, most, progress)?;
         self.answer(alloc, script, steps, facts, detail, end, trials)
     }
 }
 
 /// Looks at all states of the script as `explore` does, by its steps.
-fn search_steps<P: Progress, O: StateOpener>(
+fn search_steps<P: Progress>(
     alloc: Global,
     script: &Script,
     steps: &[Vec<ScriptCall>],
     detail: Detail,
     most: usize,
-    opener: &O,
     progress: &mut P,
 ) -> Result<Explored, AllocError>
-    requires ready { O.ready }
-    requires steps { AreLawfulMachineSteps (plan_of script.now) steps.now }
+    requires { AreLawfulMachineSteps (plan_of script.now) steps.now }
     ensures { IfOk result (IsExplored (plan_of script.now) detail most) }
 {
     let facts = text_facts(alloc, script, steps)?;
     let mut search = Search::new(alloc, script, steps, detail)?;
-    let explored = search.explored(alloc, script, steps, &facts, detail, most, opener, progress);
+    let explored = search.explored(alloc, script, steps, &facts, detail, most, progress);
     drop(search);
     explored
 }
@@ -718,26 +674,5 @@ pub fn explore<P: Progress>(
     ensures { IfOk result (IsExplored (plan_of script.now) detail most) }
 {
     let steps = script_calls_of_all(alloc, script)?;
-    search_steps(alloc, script, &steps, detail, most, &InTurn, progress)
-}
-
-/// Looks at the states of the script as `explore` does, of which so many jobs open some beside each other, up to 64, each on a thread of its
-/// own if that can be started. What it says is the same: what each state comes to follows from the state alone, and states are taken in
-/// the order in which they were found. It keeps what up to 1,024 states come to until these are taken. If more than the words is told, there
-/// is one job: most states have replies of their own then, and to hand these over takes longer than to find them.
-pub fn explore_by_jobs<R: Threads + Sync, P: Progress>(
-    rt: &R,
-    jobs: usize,
-    alloc: Global,
-    script: &Script,
-    detail: Detail,
-    most: usize,
-    progress: &mut P,
-) -> Result<Explored, AllocError>
-    requires { IsLawful (plan_of script.now) }
-    ensures { IfOk result (IsExplored (plan_of script.now) detail most) }
-{
-    let steps = script_calls_of_all(alloc, script)?;
-    let opener = ByJobs::of(rt, jobs, detail);
-    search_steps(alloc, script, &steps, detail, most, &opener, progress)
+    search_steps(alloc, script, &steps, detail, most, progress)
 }

@@ -15,7 +15,7 @@ use crate::unshown::refuse_unshown;
 use conformance::ScriptRunner;
 use explore::{
     AllowedOutcomes, AllowedUntil, Explored, Hanging, MemoryShown, Progress, Showing, Verdict,
-    allowed_outcomes, allowed_until, explore_until_by_jobs, text_gaps, what_memory_shows,
+    allowed_outcomes, allowed_until, explore_until, text_gaps, what_memory_shows,
 };
 use lrc_commands::Study;
 use lrc_commands::fault::CommandFault;
@@ -23,7 +23,6 @@ use lrc_options::options::ExploreOptions;
 use lrc_script::script::Script;
 use std::alloc::{AllocError, Global};
 use std::sync::Wait;
-use std::thread::Threads;
 
 /// Whether a schedule races.
 fn is_racy_verdict(verdict: &Verdict) -> bool
@@ -46,7 +45,7 @@ fn is_racy_showing(showing: &Showing) -> bool
 }
 
 /// What the rules of the memory allow of a racy script, and what this memory shows of that.
-fn what_rules_allow<T: ScriptRunner, R: Threads + Wait + Sync, P: Progress>(
+fn what_rules_allow<T: ScriptRunner, R: Wait, P: Progress>(
     study: &Study<'_, T, R>,
     options: &ExploreOptions,
     script: &Script,
@@ -81,7 +80,7 @@ fn what_rules_allow<T: ScriptRunner, R: Threads + Wait + Sync, P: Progress>(
 }
 
 /// Whether the rules of the memory allow a run of a racy script that ends with the words, and what this memory shows.
-fn what_rules_allow_until<T: ScriptRunner, R: Threads + Wait + Sync, P: Progress>(
+fn what_rules_allow_until<T: ScriptRunner, R: Wait, P: Progress>(
     study: &Study<'_, T, R>,
     options: &ExploreOptions,
     script: &Script,
@@ -147,7 +146,7 @@ fn answer_with_gaps(
 }
 
 /// Looks at all schedules of the script, and if it is racy for what the rules of the memory allow.
-fn answer_of_schedules<T: ScriptRunner, R: Threads + Wait + Sync, P: Progress>(
+fn answer_of_schedules<T: ScriptRunner, R: Wait, P: Progress>(
     study: &Study<'_, T, R>,
     options: &ExploreOptions,
     script: &Script,
@@ -158,7 +157,7 @@ fn answer_of_schedules<T: ScriptRunner, R: Threads + Wait + Sync, P: Progress>(
     ensures answer { IfOk result (IsExploreAnswerTo (λ s turns end. T.followed s Ticket turns end) options.now (plan_of script.now)) }
     ensures runs { IfErr result (λ fault. IsCommandExitStatusOfInput fault → ⊥) }
 {
-    let explored = schedules_explored(study.rt, study.alloc, script, options, progress)?;
+    let explored = schedules_explored(study.alloc, script, options, progress)?;
     if !is_racy_verdict(&explored.verdict) {
         let answer = answer_with_gaps(study.alloc, script, explored)?;
         return Ok(answer);
@@ -170,7 +169,7 @@ fn answer_of_schedules<T: ScriptRunner, R: Threads + Wait + Sync, P: Progress>(
 }
 
 /// Looks for a run of the script that ends with the words, and if it is racy for one that the rules of the memory allow.
-fn answer_until<T: ScriptRunner, R: Threads + Wait + Sync, P: Progress>(
+fn answer_until<T: ScriptRunner, R: Wait, P: Progress>(
     study: &Study<'_, T, R>,
     options: &ExploreOptions,
     script: &Script,
@@ -184,10 +183,7 @@ fn answer_until<T: ScriptRunner, R: Threads + Wait + Sync, P: Progress>(
     let words = options.until.as_slice();
     refuse_unshown(script, words)?;
     let detail = explore_detail(options.outcomes);
-    let jobs = options.jobs.unwrap_or(1) as usize;
-    let explored = explore_until_by_jobs(
-        study.rt,
-        jobs,
+    let explored = explore_until(
         study.alloc,
         script,
         detail,
@@ -205,7 +201,7 @@ fn answer_until<T: ScriptRunner, R: Threads + Wait + Sync, P: Progress>(
 }
 
 /// Looks for what the options ask for.
-pub(crate) fn answer<T: ScriptRunner, R: Threads + Wait + Sync, P: Progress>(
+pub(crate) fn answer<T: ScriptRunner, R: Wait, P: Progress>(
     study: &Study<'_, T, R>,
     options: &ExploreOptions,
     script: &Script,

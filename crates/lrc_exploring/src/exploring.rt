@@ -18,13 +18,12 @@ use lrc_program::program::program_reads_script;
 use lrc_script::script::Script;
 use std::io::{Read, Write};
 use std::sync::Wait;
-use std::thread::Threads;
 
 /// The exit status if the search was given up.
 const UNDECIDED: u8 = 7;
 
 /// Looks for what the options ask for, and writes what was found. Answers whether nothing is open.
-fn explore_script<T: ScriptRunner, R: Threads + Wait + Sync, W: Write, P: Progress>(
+fn explore_script<T: ScriptRunner, R: Wait, W: Write, P: Progress>(
     study: &Study<'_, T, R>,
     options: &ExploreOptions,
     script: &Script,
@@ -45,7 +44,7 @@ fn explore_script<T: ScriptRunner, R: Threads + Wait + Sync, W: Write, P: Progre
 }
 
 /// Reads a script, looks for what the options ask for, and writes what was found. Answers whether nothing is open.
-fn explore_source<T: ScriptRunner, R: Threads + Wait + Sync, S: Read, W: Write, P: Progress>(
+fn explore_source<T: ScriptRunner, R: Wait, S: Read, W: Write, P: Progress>(
     study: &Study<'_, T, R>,
     options: &ExploreOptions,
     source: &mut S,
@@ -66,14 +65,7 @@ fn explore_source<T: ScriptRunner, R: Threads + Wait + Sync, S: Read, W: Write, 
 /// Looks at all schedules of the script of `source`, and for what the rules of the memory allow if it is racy. If the options give
 /// words, it looks for a run that ends with these. It writes what was found to `out`, or why nothing was to `err`, and returns the
 /// exit status. The file that the options name isn't opened here. `progress` is told now and then how far the search is.
-pub fn run_explore_command<
-    T: ScriptRunner,
-    R: Threads + Wait + Sync,
-    S: Read,
-    W: Write,
-    E: Write,
-    P: Progress,
->(
+pub fn run_explore_command<T: ScriptRunner, R: Wait, S: Read, W: Write, E: Write, P: Progress>(
     study: &Study<'_, T, R>,
     options: &ExploreOptions,
     source: &mut S,

@@ -4,11 +4,10 @@ ghost use Rattle.lrc_script.specs.Prelude.{IsLawful, plan_of};
 ghost use Rattle.lrc_exploring.specs.Prelude.{AreSchedulesExplored, explore_detail};
 ghost use Rattle.lrc_exploring.specs.ExploreAnswers.{IsHangMet};
 
-use explore::{Detail, Explored, Hanging, Progress, explore_by_jobs};
+use explore::{Detail, Explored, Hanging, Progress, explore};
 use lrc_options::options::{ExploreOptions, OutcomeDetail};
 use lrc_script::script::Script;
 use std::alloc::{AllocError, Global};
-use std::thread::Threads;
 
 /// How many states the first stage looks at. A search that is given up after them has taken some half a second.
 const FIRST_STATES: u32 = 1 << 16;
@@ -39,9 +38,7 @@ fn is_hang_met(hanging: &Hanging) -> bool
 
 /// Looks at the first states, and at a few runs if there are more: that is all if nothing is open, if no more states fit, or if a hang
 /// was met and the options ask for no other number of states than the default. The only error is running out of memory.
-fn explored_first<R: Threads + Sync, P: Progress>(
-    rt: &R,
-    jobs: usize,
+fn explored_first<P: Progress>(
     alloc: Global,
     script: &Script,
     options: &ExploreOptions,
@@ -55,15 +52,7 @@ fn explored_first<R: Threads + Sync, P: Progress>(
         return Ok(None);
     }
     let detail = explore_detail(options.outcomes);
-    let explored = explore_by_jobs(
-        rt,
-        jobs,
-        alloc,
-        script,
-        detail,
-        FIRST_STATES as usize,
-        progress,
-    )?;
+    let explored = explore(alloc, script, detail, FIRST_STATES as usize, progress)?;
     if explored.is_settled() {
         return Ok(Some(explored));
     }
@@ -80,8 +69,7 @@ fn explored_first<R: Threads + Sync, P: Progress>(
 /// Looks at all schedules of the script, at as many states as the options ask for. Of a search with more than 2^16 of them, what a few
 /// runs show is looked at first, after so many: if one races, that is the answer, and so it is if one hangs and the options ask for no
 /// other number of states than the default. The only error is running out of memory.
-pub fn schedules_explored<R: Threads + Sync, P: Progress>(
-    rt: &R,
+pub fn schedules_explored<P: Progress>(
     alloc: Global,
     script: &Script,
     options: &ExploreOptions,
@@ -91,20 +79,11 @@ pub fn schedules_explored<R: Threads + Sync, P: Progress>(
     requires all { options.now.until.items ≡ [] }
     ensures { IfOk result (AreSchedulesExplored options.now (plan_of script.now)) }
 {
-    let jobs = options.jobs.unwrap_or(1) as usize;
-    match explored_first(rt, jobs, alloc, script, options, progress)? {
+    match explored_first(alloc, script, options, progress)? {
         Some(explored) => Ok(explored),
         None => {
             let detail = explore_detail(options.outcomes);
-            explore_by_jobs(
-                rt,
-                jobs,
-                alloc,
-                script,
-                detail,
-                options.most as usize,
-                progress,
-            )
+            explore(alloc, script, detail, options.most as usize, progress)
         }
     }
 }

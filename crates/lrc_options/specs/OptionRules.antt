@@ -183,7 +183,7 @@ sample_option_rules locks details =
 -- `lrc explore`
 abbrev pub explore_option_rules : ValueParser → App
 explore_option_rules details =
-    with_rule (with_rule (with_rule (with_rule (with_rule (file_option_rules (codes "explore")) most_option_rule) until_option_rule) (outcomes_option_rule details)) jobs_option_rule) json_option_rule
+    with_rule (with_rule (with_rule (with_rule (file_option_rules (codes "explore")) most_option_rule) until_option_rule) (outcomes_option_rule details)) json_option_rule
 
 -- `lrc check`
 abbrev pub race_is_error_option_rule : Rule
@@ -403,7 +403,6 @@ pub record AreOptionsByRulesOfExplore (rows : List Row) (o : ExploreOptions) : T
   pub most : IsNumberByOptionRule 0 option_rule_most_seed option_rule_default_most (one_of (codes "most") rows) o.most
   pub until : AreUntilWordsByOptionRule (first_of (codes "until") rows) o.until.items
   pub outcomes : o.outcomes ≡ option_rule_detail_given rows
-  pub jobs : IsSizeByOptionRule option_rule_most_jobs (one_of (codes "jobs") rows) o.jobs
   pub json : IsFlagByOptionRule (one_of (codes "json") rows) o.json
 
 -- the options that the rows of `draw` give

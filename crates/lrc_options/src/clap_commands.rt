@@ -11,11 +11,11 @@ ghost use Rattle.lrc_options.specs.ScriptWords.{script_word_rules};
 
 use crate::help::{
     ABOUT, AFTER, AFTER_RUN_AND_STEP, DRAW, DRAWN_FLAGS, DRAWN_LENGTH, DRAWN_LOCKS, DRAWN_PAGES,
-    DRAWN_PROCESSORS, DRAWN_SEED, DRAWN_WORDS, EAGER, EVENTS, EXPLAIN, EXPLORE, EXPLORE_JOBS,
-    FOLLOWS, HTML, JOBS, JOURNAL, JSON, LAX, LOCKSETS, MODEL, MOST, OUTCOMES, PAGE_WORDS, PAGES,
-    PAGES_SVG, PATTERN, PROCESSORS, PROGRAM, RACE_IS_ERROR, RACES, SAMPLE, SCHEDULE, SCRIPT,
-    SCRIPT_FILE, SEED, SEEDS, STATE, STRICT, SUPPRESS, SVG, TOP, TRACE, TRACE_FILE, TRACED, TRIES,
-    UNFINISHED, UNTIL, VERSION,
+    DRAWN_PROCESSORS, DRAWN_SEED, DRAWN_WORDS, EAGER, EVENTS, EXPLAIN, EXPLORE, FOLLOWS, HTML,
+    JOBS, JOURNAL, JSON, LAX, LOCKSETS, MODEL, MOST, OUTCOMES, PAGE_WORDS, PAGES, PAGES_SVG,
+    PATTERN, PROCESSORS, PROGRAM, RACE_IS_ERROR, RACES, SAMPLE, SCHEDULE, SCRIPT, SCRIPT_FILE,
+    SEED, SEEDS, STATE, STRICT, SUPPRESS, SVG, TOP, TRACE, TRACE_FILE, TRACED, TRIES, UNFINISHED,
+    UNTIL, VERSION,
 };
 use crate::options::{MOST_JOBS, MOST_RACES, MOST_TOP};
 use clap::builder::ValueParser;
@@ -359,10 +359,6 @@ fn clap_explore_command<'a>(
     let command = with_clap_arg(command, clap_most_arg(alloc));
     let command = with_clap_arg(command, clap_text_arg(alloc, "until", "A=V,..", UNTIL));
     let command = with_clap_arg(command, clap_outcomes_arg(alloc, details));
-    let command = with_clap_arg(
-        command,
-        clap_number_arg(alloc, "jobs", 1, MOST_JOBS, EXPLORE_JOBS),
-    );
     with_clap_arg(command, clap_flag_arg(alloc, "json", JSON))
 }
 

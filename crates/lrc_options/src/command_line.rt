@@ -433,7 +433,6 @@ fn command_line_explore_options(
         most: command_line_most(matches),
         until,
         outcomes: command_line_detail(matches),
-        jobs: command_line_size(matches, "jobs", MOST_JOBS),
         json: command_line_wants_json(matches),
     })
 }
@@ -672,7 +671,7 @@ fn command_line_study_answer(
 /// `lrc explain [FILE] [--seed N | --schedule S] [--lock KIND] [--svg | --html] [--state] [--events A..B] [--processors P,..]`,
 /// `lrc explain [FILE] --trace [--model NAME] [--strict] [--lax] [--unfinished]` with the same to say what is shown,
 /// `lrc sample [FILE] [--seeds N] [--lock KIND] [--outcomes WHAT] [--jobs N] [--json]`,
-/// `lrc explore [FILE] [--most N] [--until A=V,..] [--outcomes WHAT] [--jobs N] [--json]`,
+/// `lrc explore [FILE] [--most N] [--until A=V,..] [--outcomes WHAT] [--json]`,
 /// `lrc check [FILE] [--model NAME] [--strict] [--lax] [--unfinished] [--race-is-error] [--locksets WHICH] [--json]` with
 /// `[--program [--most N] [--suppress FILE]]` for all races,
 /// `lrc draw [PATTERN] [--seed N] [--processors N] [--pages N] [--words N] [--locks N] [--flags N] [--length N]`,

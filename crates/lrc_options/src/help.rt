@@ -181,9 +181,6 @@ pub(crate) const SEEDS: &str =
 pub(crate) const JOBS: &str =
     "makes up to N runs beside each other, on threads; the answer is the same, and N is up to 64";
 
-pub(crate) const EXPLORE_JOBS: &str =
-    "looks at states on up to N threads; the answer is the same, and N is up to 64";
-
 pub(crate) const MOST: &str =
     "gives up after N states, or N beginnings of histories if the script races; N is up to 4294967295";
 

@@ -7,7 +7,7 @@ use clap::{ArgMatches, Command, Error};
 use std::alloc::{AllocError, Global};
 
 /// Each command with each option that it has. Of the commands that have an option the first one is named.
-const OPTIONS: [(&str, &str); 51] = [
+const OPTIONS: [(&str, &str); 50] = [
     ("run", "--tries"),
     ("run", "--lock"),
     ("run", "--journal"),
@@ -47,7 +47,6 @@ const OPTIONS: [(&str, &str); 51] = [
     ("explain", "--unfinished"),
     ("sample", "--outcomes"),
     ("sample", "--jobs"),
-    ("explore", "--jobs"),
     ("draw", "--seed"),
     ("draw", "--processors"),
     ("draw", "--pages"),

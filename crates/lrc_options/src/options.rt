@@ -165,8 +165,6 @@ pub struct ExploreOptions {
     pub until: Vec<(usize, u32)>,
     /// How much of a run its outcome tells.
     pub outcomes: OutcomeDetail,
-    /// How many jobs look at states beside each other at most, 1 to 64; one if None.
-    pub jobs: Option<u64>,
     /// Whether the answer is JSON, an object a line, and not text.
     pub json: bool,
 }
@@ -228,7 +226,7 @@ pub enum TraceModel {
 /// The most pages of each size that may be asked for.
 pub(crate) const MOST_TOP: u64 = 1000;
 
-/// The most jobs that may be at work beside each other.
+/// The most runs that may be made beside each other.
 pub(crate) const MOST_JOBS: u64 = 64;
 
 /// The most races that may be asked for.

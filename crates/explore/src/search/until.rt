@@ -17,7 +17,6 @@ use crate::outcomes::showing::{ExploredUntil, Showing, ShownRun};
 use crate::outcomes::telling::Detail;
 use crate::prefixes::{ScriptCall, script_calls_of_all};
 use crate::progress::Progress;
-use crate::search::opening::{ByJobs, InTurn, StateOpener};
 use crate::search::racing_history::{cut_racing_history, racing_history, racing_history_race};
 use crate::search::trials::{trials_for_words, trials_within};
 use crate::search::{Met, Search, SearchEnd};
@@ -26,7 +25,6 @@ use crate::state::room::state_room_at_most;
 use crate::text::facts::{TextFacts, text_facts};
 use lrc_script::script::Script;
 use std::alloc::{AllocError, Global};
-use std::thread::Threads;
 
 /// The run to the state at this place, which ends with these words; or its first race, if it has one.
 fn run_until_words(
@@ -83,7 +81,7 @@ fn until_showing_of(
 }
 
 /// Looks at the states of the script as `explore_until` does, from the first one on, which this search has.
-fn until_by_search<P: Progress, O: StateOpener>(
+fn until_by_search<P: Progress>(
     search: &mut Search,
     alloc: Global,
     script: &Script,
@@ -92,10 +90,8 @@ fn until_by_search<P: Progress, O: StateOpener>(
     detail: Detail,
     words: &[(usize, u32)],
     most: usize,
-    opener: &O,
     progress: &mut P,
 ) -> Result<ExploredUntil, AllocError>
-    requires ready { O.ready }
     requires steps { AreLawfulMachineSteps (plan_of script.now) steps.now }
     requires facts { AreFreeChoiceTextFacts steps.now facts.now }
     requires searched { FlatSearchedUpTo (plan_of script.now) search.old steps.now 0 }
@@ -105,7 +101,7 @@ fn until_by_search<P: Progress, O: StateOpener>(
 {
     let most = state_room_at_most(script, detail, most);
     let trials = trials_within(steps, most);
-    let end = search.look_to_the_end(steps, facts, Goal::Until(words), most, opener, progress)?;
+    let end = search.look_to_the_end(steps, facts, Goal::Until(words), most, progress)?;
     let showing = until_showing_of(alloc, script, steps, detail, words, search, end, trials)?;
     Ok(ExploredUntil {
         states: end.states,
@@ -114,18 +110,16 @@ fn until_by_search<P: Progress, O: StateOpener>(
 }
 
 /// Looks at the states of the script as `explore_until` does, by its steps.
-fn until_by_steps<P: Progress, O: StateOpener>(
+fn until_by_steps<P: Progress>(
     alloc: Global,
     script: &Script,
     steps: &[Vec<ScriptCall>],
     detail: Detail,
     words: &[(usize, u32)],
     most: usize,
-    opener: &O,
     progress: &mut P,
 ) -> Result<ExploredUntil, AllocError>
-    requires ready { O.ready }
-    requires steps { AreLawfulMachineSteps (plan_of script.now) steps.now }
+    requires { AreLawfulMachineSteps (plan_of script.now) steps.now }
     ensures { IfOk result (IsExploredUntil (plan_of script.now) detail words.now most) }
 {
     let facts = text_facts(alloc, script, steps)?;
@@ -139,7 +133,6 @@ fn until_by_steps<P: Progress, O: StateOpener>(
         detail,
         words,
         most,
-        opener,
         progress,
     );
     drop(search);
@@ -163,29 +156,5 @@ pub fn explore_until<P: Progress>(
     ensures { IfOk result (IsExploredUntil (plan_of script.now) detail words.now most) }
 {
     let steps = script_calls_of_all(alloc, script)?;
-    until_by_steps(
-        alloc, script, &steps, detail, words, most, &InTurn, progress,
-    )
-}
-
-/// Looks at the states of the script as `explore_until` does, of which so many jobs open some beside each other, as `explore_by_jobs` does.
-/// What it says is the same.
-pub fn explore_until_by_jobs<R: Threads + Sync, P: Progress>(
-    rt: &R,
-    jobs: usize,
-    alloc: Global,
-    script: &Script,
-    detail: Detail,
-    words: &[(usize, u32)],
-    most: usize,
-    progress: &mut P,
-) -> Result<ExploredUntil, AllocError>
-    requires { IsLawful (plan_of script.now) }
-    ensures { IfOk result (IsExploredUntil (plan_of script.now) detail words.now most) }
-{
-    let steps = script_calls_of_all(alloc, script)?;
-    let opener = ByJobs::of(rt, jobs, detail);
-    until_by_steps(
-        alloc, script, &steps, detail, words, most, &opener, progress,
-    )
+    until_by_steps(alloc, script, &steps, detail, words, most, progress)
 }

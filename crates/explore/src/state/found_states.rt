@@ -7,35 +7,36 @@ ghost use Rattle.explore.specs.declared.state.flat_state.FlatState.{FlatState as
 ghost use Rattle.explore.specs.declared.state.wait_code.ProcessorNumber.{ProcessorNumber as ANumber};
 ghost use Rattle.explore.specs.CallTables.{IsCallTableOf, IsStateOfCalls};
 ghost use Rattle.explore.specs.FoundStates.{AreEventsOfMakers, AreFoundStateMakers, AreFoundStates, AreFoundStatesKept, FoundStateAdded, HasRoomForStates, IsFoundStateAt, found_states};
-ghost use Rattle.explore.specs.KeptStates.{AreOfOneSearch, IsStateKeptBy};
+ghost use Rattle.explore.specs.KeptStates.{AreOfOneSearch};
 ghost use Rattle.explore.specs.NoFoundStates.{AreNoFoundStates};
 ghost use Rattle.explore.specs.Origins.{most_origin_makers, state_origins};
-ghost use Rattle.explore.specs.FollowedStates.{IsFollowedState, MayBeFollowedState};
-ghost use Rattle.explore.specs.Followers.{AreFollowersAdded, AreFollowersAt, IsFollowerAt, IsReachedState};
-ghost use Rattle.explore.specs.declared.prefixes.script_call.ScriptCall.{ScriptCall as AStep};
-ghost use Rattle.std.specs.Global.{Vec as AVec};
+ghost use Rattle.journal.specs.declared.event.Kind.{Kind as AKind};
+ghost use Rattle.explore.specs.FollowedStates.{AreFollowedStates, IsFollowedState, IsLastNext, MayBeFollowedState, MayBeFollowedStateByEach};
+ghost use Rattle.explore.specs.FreeChoice.{AreFreeChoiceTextFacts};
 ghost use Rattle.explore.specs.StatesOfScript.{HasStatesOfScript};
 ghost use Rattle.explore.specs.Machines.{AreLawfulMachineSteps, MachineKnows, MachinesInSameState};
 ghost use Rattle.explore.specs.declared.outcomes.telling.Detail.{Detail as ADetail};
 ghost use Rattle.explore.specs.OutcomeTelling.{outcome_telling_of_script};
 
 use crate::prefixes::ScriptCall;
+use crate::search::free_run::make_free_run;
 use crate::state::call_table::CallTable;
 use crate::state::flat_state::FlatState;
-use crate::state::follower::{Follower, Looking, ReachedState};
 use crate::state::hasher::StateSet;
 use crate::state::kept_state::{KeptState, StateParts};
-use crate::state::origins::Origins;
+use crate::state::origins::{MOST_MAKERS, Origins};
 use crate::state::wait_code::ProcessorNumber;
+use crate::text::facts::TextFacts;
+use arrayvec::ArrayVec;
 use indexmap::IndexSet;
-use journal::Event;
+use journal::{Event, Kind};
 use std::alloc::{AllocError, Global};
 use std::hash::BuildHasherDefault;
 
 /// States, each once, in the order in which they were found.
 #[derive(Drop)]
 pub struct FoundStates {
-    pub(crate) alloc: Global,
+    alloc: Global,
     /// The first state. By the makers of its events each other one can be made from it again.
     first: FlatState,
     parts: StateParts,
@@ -76,6 +77,19 @@ fn events_of_makers(
         events.push(Event { processor, kind })?;
     }
     Ok(events)
+}
+
+/// The last processor that may do something next.
+fn last_next(nexts: &[Option<Kind>]) -> Option<usize>
+    ensures { MatchOption result ((p : ℕ) (k : AKind) → slice_index_or nexts.now p None ≢ Some k) (IsLastNext nexts.now) }
+{
+    for behind in 0..nexts.len() {
+        let processor = nexts.len() - 1 - behind;
+        if let Some(_) = nexts[processor] {
+            return Some(processor);
+        }
+    }
+    None
 }
 
 impl FoundStates {
@@ -138,11 +152,6 @@ impl FoundStates {
         self.states.len()
     }
 
-    /// How many words the memory of each state has.
-    pub fn memory_words(&self) -> usize {
-        self.first.memory.len()
-    }
-
     /// The state at this place. The only error is running out of memory.
     pub fn at(&self, place: usize) -> Result<FlatState, AllocError>
         requires place { place < length (found_states self.now) }
@@ -177,100 +186,65 @@ impl FoundStates {
         Ok(())
     }
 
-    /// Adds a state as `add` does, whose parts are there.
-    fn add_kept(
+    /// Adds what the state at this place, which is given, comes to by the event, and then by free ones (`make_free_run`). The only
+    /// error is running out of memory, after which this may be of no use.
+    fn follow(
         &mut self,
-        kept: KeptState,
-        from: usize,
-        makers: &[ProcessorNumber],
-    ) -> Result<(), AllocError>
-        requires kept { AreFoundStatesKept self.old }
-        requires long { length (found_states self.old) ≡ length (state_origins self.old.origins) + 1 }
-        requires room { HasRoomForStates self.old 1 }
-        requires from { from < length (found_states self.old) }
-        requires makers { length makers.now ≤ most_origin_makers }
-        ensures { OnOk result ((m : AMachine) → IsStateKeptBy self.old.parts m kept → AreOfOneSearch self.old.first m
-            → FoundStateAdded self.old self.new m (record { from = from; makers = makers.now })) }
-    {
-        let (_, is_new) = self.states.insert_full(kept)?;
-        if is_new {
-            self.origins.push(from, makers)?;
-        }
-        Ok(())
-    }
-
-    /// The place of the state that is kept so, or how it is kept if it isn't there.
-    fn place_or_kept(&self, kept: KeptState) -> ReachedState
-        ensures { (m : AMachine) → IsStateKeptBy self.now.parts m kept → AreOfOneSearch self.now.first m → IsReachedState self.now m result }
-    {
-        match self.states.get_full(&kept) {
-            Some((place, there)) if kept == *there => ReachedState::Found(place),
-            _ => ReachedState::Kept(kept),
-        }
-    }
-
-    /// Looks for the state: its place, or how it is kept if its parts are there alone, or itself. The only error is running out of memory.
-    fn look_for_early(&self, state: FlatState) -> Result<ReachedState, AllocError>
-        requires known { IsStateOfCalls self.now.parts.calls state }
-        requires of_one { AreOfOneSearch self.now.first state }
-        ensures { IfOk result (IsReachedState self.now state) }
-    {
-        match self.parts.find(self.alloc, &state)? {
-            Some(kept) => Ok(self.place_or_kept(kept)),
-            None => Ok(ReachedState::New(Box::new(self.alloc, state)?)),
-        }
-    }
-
-    /// The state, which is looked for now or later. The only error is running out of memory.
-    pub fn look_for(&self, looking: Looking, state: FlatState) -> Result<ReachedState, AllocError>
-        requires known { IsStateOfCalls self.now.parts.calls state }
-        requires of_one { AreOfOneSearch self.now.first state }
-        ensures { IfOk result (IsReachedState self.now state) }
-    {
-        match looking {
-            Looking::Early => self.look_for_early(state),
-            Looking::Late => Ok(ReachedState::New(Box::new(self.alloc, state)?)),
-        }
-    }
-
-    /// Adds what the state at this place comes to, if it is a new state. The only error is running out of memory, after which this may be
-    /// of no use.
-    fn add_follower(&mut self, follower: Follower, place: usize) -> Result<(), AllocError>
-        requires room { HasRoomForStates self.old 1 }
-        requires may { (s : Plan) × (rows : List (AVec AStep)) × MayBeFollowedState s rows self.old place follower.event.processor follower.event.kind
-            × IsFollowerAt rows self.old place follower }
-        ensures { OnOk result ((s : Plan) (rows : List (AVec AStep))
-            → MayBeFollowedState s rows self.old place follower.event.processor follower.event.kind → IsFollowerAt rows self.old place follower
-            → IsFollowedState s rows self.old self.new place follower.event.processor follower.event.kind) }
-    {
-        let Follower {
-            reached,
-            makers,
-            ..
-        } = follower;
-        match reached {
-            ReachedState::New(state) => self.add(Box::into_inner(state), place, &makers),
-            ReachedState::Kept(kept) => self.add_kept(kept, place, &makers),
-            ReachedState::Found(_) => Ok(()),
-        }
-    }
-
-    /// Adds what the state at this place comes to by some events, in this order, as far as these are new states. The only error is running
-    /// out of memory, after which this may be of no use.
-    pub fn add_followers(
-        &mut self,
-        followers: Vec<Follower>,
+        state: FlatState,
+        steps: &[Vec<ScriptCall>],
+        facts: &TextFacts,
         place: usize,
+        event: Event,
     ) -> Result<(), AllocError>
-        requires room { HasRoomForStates self.old (length followers.items) }
-        requires may { (s : Plan) × (rows : List (AVec AStep)) × AreFollowersAt s rows self.old place followers.items }
-        ensures { OnOk result ((s : Plan) (rows : List (AVec AStep)) → AreFollowersAt s rows self.old place followers.items
-            → AreFollowersAdded s rows self.old self.new place followers.items) }
+        requires state { IsFoundStateAt self.old place state }
+        requires facts { AreFreeChoiceTextFacts steps.now facts.now }
+        requires room { HasRoomForStates self.old 1 }
+        requires may { (s : Plan) × MayBeFollowedState s steps.now self.old place event.processor event.kind }
+        ensures { OnOk result ((s : Plan) → MayBeFollowedState s steps.now self.old place event.processor event.kind
+            → IsFollowedState s steps.now self.old self.new place event.processor event.kind) }
     {
-        for follower in followers {
-            self.add_follower(follower, place)?;
+        let mut state = state;
+        state.step(steps, event.processor, event.kind)?;
+        let mut makers = ArrayVec::<ProcessorNumber, MOST_MAKERS>::new();
+        makers.push(ProcessorNumber::of(event.processor));
+        make_free_run(&mut state, &mut makers, steps, facts)?;
+        self.add(state, place, &makers)
+    }
+
+    /// Adds what the state at this place, which is given, comes to by each of these events, one of each processor, as `follow` does.
+    /// The only error is running out of memory, after which this may be of no use.
+    pub fn follow_all(
+        &mut self,
+        state: FlatState,
+        steps: &[Vec<ScriptCall>],
+        facts: &TextFacts,
+        place: usize,
+        nexts: &[Option<Kind>],
+    ) -> Result<(), AllocError>
+        requires state { IsFoundStateAt self.old place state }
+        requires facts { AreFreeChoiceTextFacts steps.now facts.now }
+        requires room { HasRoomForStates self.old (length nexts.now) }
+        requires may { (s : Plan) × MayBeFollowedStateByEach s steps.now self.old place nexts.now }
+        ensures { OnOk result ((s : Plan) → MayBeFollowedStateByEach s steps.now self.old place nexts.now
+            → AreFollowedStates s steps.now self.old self.new place nexts.now (length nexts.now)) }
+    {
+        let Some(last) = last_next(nexts) else {
+            return Ok(());
+        };
+        for processor in 0..last {
+            if let Some(kind) = nexts[processor] {
+                let event = Event { processor, kind };
+                self.follow(state.copy()?, steps, facts, place, event)?;
+            }
         }
-        Ok(())
+        let Some(kind) = nexts[last] else {
+            return Ok(());
+        };
+        let event = Event {
+            processor: last,
+            kind,
+        };
+        self.follow(state, steps, facts, place, event)
     }
 
     /// Of each event after which the state at this place was found, in order, the processor that makes it. The only error is

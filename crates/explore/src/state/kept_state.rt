@@ -1,8 +1,8 @@
 //! States as a search keeps them: a part that several states have in common is there once, and what the calls tell isn't kept.
-ghost use Rattle.std.specs.Prelude.{ℕ, IfOk, IfSome, IsTrue, ◌≡◌, ◌↔◌, ◌<◌, ◌≤◌, ◌-◌, length, slice_index_or, take};
+ghost use Rattle.std.specs.Prelude.{ℕ, IfOk, IsTrue, ◌≡◌, ◌↔◌, ◌<◌, ◌≤◌, ◌-◌, length, slice_index_or, take};
 ghost use Rattle.lrc_script.specs.Prelude.{Plan};
 ghost use Rattle.explore.specs.CallTables.{IsCallTableOf, IsStateOfCalls};
-ghost use Rattle.explore.specs.KeptStates.{AreFewStateParts, AreNoStateParts, IsKeptStateWithin, IsStateKept, IsStateKeptBy, IsStateMemoryPlaced, IsStatePartAt, IsStatePartPlaced, most_state_parts, opened_state, trimmed_words, words_over};
+ghost use Rattle.explore.specs.KeptStates.{AreFewStateParts, AreNoStateParts, IsKeptStateWithin, IsStateKept, IsStateMemoryPlaced, IsStatePartPlaced, most_state_parts, opened_state, trimmed_words, words_over};
 ghost use Rattle.explore.specs.Machines.{MachinesInSameState};
 
 use crate::state::call_table::CallTable;
@@ -79,16 +79,6 @@ fn place_state_part<T: Eq + Hash + Drop>(
     }
     let (place, _) = parts.insert_full(part)?;
     Ok(place as u32)
-}
-
-/// The place of a part, if it is there.
-fn find_state_part<T: Eq + Hash + Drop>(parts: &StateSet<T>, part: &T) -> Option<u32>
-    ensures { IfSome result (IsStatePartAt T.eq parts.now.keys part.now) }
-{
-    match parts.get_full(part) {
-        Some((place, there)) if *part == *there => u32::try_from(place).ok(),
-        _ => None,
-    }
 }
 
 /// Whether these words are all 0. To find the greatest one takes less time than to look for one that isn't 0.
@@ -215,32 +205,6 @@ impl StateParts {
             replies,
             asks,
         })
-    }
-
-    /// How the state is kept, if all its parts are there. The only error is running out of memory.
-    pub fn find(&self, alloc: Global, state: &FlatState) -> Result<Option<KeptState>, AllocError>
-        requires { IsStateOfCalls self.now.calls state.now }
-        ensures { IfOk result (λ o. IfSome o (IsStateKeptBy self.now state.now)) }
-    {
-        let length = trimmed_length(
-            &state.memory,
-            likely_length(&self.memories, self.last.memory),
-        );
-        let words = Vec::from_slice(alloc, &state.memory[..length])?;
-        let replies = state.replies()?;
-        let asked = state.waiting.asked()?;
-        let memory = find_state_part(&self.memories, &StateMemory { words });
-        let replies = find_state_part(&self.replies, &StateReplies { replies });
-        let asks = find_state_part(&self.asks, &StateAsks { asked });
-        match (memory, replies, asks) {
-            (Some(memory), Some(replies), Some(asks)) => Ok(Some(KeptState {
-                done: state.done,
-                memory,
-                replies,
-                asks,
-            })),
-            _ => Ok(None),
-        }
     }
 
     /// The state that is kept so; what outcomes tell is told by the first one, and its words are 0. The only error is running out of memory.

@@ -184,13 +184,6 @@ impl Waiting {
         asked
     }
 
-    /// The same, of which another one has a copy. The only error is running out of memory.
-    pub fn asked(&self) -> Result<Vec<usize>, AllocError>
-        ensures { IfOk result (λ v. v.items ≡ self.now.asked.items) }
-    {
-        self.asked.clone()
-    }
-
     /// These wait for a lock, in this order; nothing else is told yet.
     pub fn of_asked(asked: Vec<usize>) -> Waiting
         ensures { result ≡ kept_waiting_asked asked }

@@ -1,7 +1,7 @@
 use Rattle.std.proofs.Common.{codes}
 use Rattle.clap.specs.Words.{with_rule}
 use Rattle.clap.specs.declared.builder.value_parser.ValueParser.TheVariants as vp
-use Rattle.lrc_options.specs.OptionRules.{file_option_rules, jobs_option_rule, most_option_rule, outcomes_option_rule, until_option_rule}
+use Rattle.lrc_options.specs.OptionRules.{file_option_rules, most_option_rule, outcomes_option_rule, until_option_rule}
 use Rattle.lrc_options.proofs.MatchedOptions.{matched_option_with_rule}
 use Rattle.lrc_options.proofs.clap_commands.clap_explore_command.Goals as goal
 
@@ -14,6 +14,4 @@ returns c =
     let one = matched_option_with_rule _ file _ _ c.clap_most_arg.ensures.rule (c.with_clap_arg-command.ensures file c.clap_file_command-command.ensures) in
     let two = matched_option_with_rule _ most _ _ c.clap_text_arg.ensures.rule (c.with_clap_arg-command-2.ensures most one) in
     let three = matched_option_with_rule _ until _ _ c.clap_outcomes_arg.ensures.rule (c.with_clap_arg-command-3.ensures until two) in
-    let jobs = with_rule outcomes jobs_option_rule in
-    let four = matched_option_with_rule _ outcomes _ _ c.clap_number_arg.ensures.rule (c.with_clap_arg-command-4.ensures outcomes three) in
-    matched_option_with_rule _ jobs _ _ c.clap_flag_arg.ensures.rule (c.with_clap_arg.ensures jobs four)
+    matched_option_with_rule _ outcomes _ _ c.clap_flag_arg.ensures.rule (c.with_clap_arg.ensures outcomes three)

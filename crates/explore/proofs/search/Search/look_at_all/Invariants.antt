@@ -1,4 +1,4 @@
-use Rattle.std.proofs.Common.{◌≡◌, ◌+◌, ◌-◌, ◌≤◌, ℕ, length}
+use Rattle.std.proofs.Common.{◌≡◌, ◌+◌, ◌≤◌, length}
 use Rattle.lrc_script.specs.Plan.{Plan}
 use Rattle.explore.specs.FoundStates.{found_states}
 use Rattle.explore.specs.Machines.{AreLawfulMachineSteps}
@@ -9,14 +9,10 @@ use Rattle.explore.proofs.search.Search.look_at_all.Given as goal
 
 abbrev pub invariant-loop-place : goal.invariant-loop-place
 invariant-loop-place g l = record {
-  some : (s : Plan) → AreLawfulMachineSteps s l.steps → FlatSearchedUpTo s l.initial.self l.steps 0 → (n : ℕ) × FlatSearchedUpTo s l.self l.steps n;
   searched : (s : Plan) → AreLawfulMachineSteps s l.steps → FlatSearchedUpTo s l.initial.self l.steps 0
-      → length (found_states l.self.found) ≤ l.most → FlatSearchedWithout s l.self l.steps (IsRunOfGoal s l.goal) l.place;
+      → FlatSearchedWithout s l.self l.steps (IsRunOfGoal s l.goal) l.place;
   few : (s : Plan) → AreLawfulMachineSteps s l.steps → FlatSearchedUpTo s l.initial.self l.steps 0
       → length (found_states l.initial.self.found) ≤ 1 → length (found_states l.self.found) ≤ l.most + 16;
   telling : (s : Plan) → AreLawfulMachineSteps s l.steps → FlatSearchedUpTo s l.initial.self l.steps 0
       → l.self.found.first.telling ≡ l.initial.self.found.first.telling;
 }
-
-abbrev pub decreases-loop-place : goal.decreases-loop-place
-decreases-loop-place g l = l.most - l.place

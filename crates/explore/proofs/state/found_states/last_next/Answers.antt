@@ -3,7 +3,7 @@ use Rattle.std.specs.Prelude.{None}
 use Rattle.std.proofs.lemmas.Bool.{cases_eq, cases_lt}
 use Rattle.std.proofs.lemmas.List.{get_or_past}
 use Rattle.std.proofs.lemmas.Option.{none-some}
-use Rattle.explore.proofs.state.follower.last_next.Goals as goal
+use Rattle.explore.proofs.state.found_states.last_next.Goals as goal
 
 pub loop-behind-init : goal.loop-behind-init
 loop-behind-init c = λ p k past is. none-some k (sym (get_or_past c.args.nexts.now p None (omega (arith, past))) ∙ is)
