@@ -50,14 +50,13 @@ pub(crate) struct Last {
 fn final_event_of(events: &[Event], by: usize) -> Option<Last>
     ensures { MatchOption result (FinalWaitWithoutEvents events.now by) (λ x. LastIs events.now by x.place x.kind) }
 {
-    let mut last = None;
-    for place in 0..events.len() {
+    for place in (0..events.len()).rev() {
         let Event { processor, kind } = events[place];
         if processor == by {
-            last = Some(Last { place, kind });
+            return Some(Last { place, kind });
         }
     }
-    last
+    None
 }
 
 /// Whether the processor's ask of the lock is open and stands before this place.
@@ -172,7 +171,8 @@ fn final_wait_of(
 
 /// What each processor waits for at the end of the history. The only error is running out of memory.
 ///
-/// It takes time in the order of the number of events times the square of the number of processors.
+/// It looks for the last event of each processor from the end on. It takes time in the order of the number of events times the square of
+/// the number of processors, if all wait and some did nothing for long.
 pub fn final_waits(alloc: Global, history: &History<'_>) -> Result<Vec<Wait>, AllocError>
     ensures long { IfOk result (λ v. vec_len v ≡ history.now.sizes.processors) }
     ensures waits { IfOk result (λ v. AreFinalWaits history.now.sizes.processors history.now.events v.items) }
