@@ -1,5 +1,5 @@
 -- What a processor did last, what it holds and what it waits for.
-use Rattle.std.proofs.Common.{◌≡◌, ◌≢◌, ◌⊎◌, ◌↔◌, ℕ, ◌+◌, ◌<◌, ◌≤◌, Bool, IsTrue, inl, inr, List, [], ◌∷◌, ◌++◌, Option, Some, MatchOption, length, subst, sym, refl, ap, ◌∙◌, arith}
+use Rattle.std.proofs.Common.{◌≡◌, ◌≢◌, ◌⊎◌, ◌↔◌, ℕ, ◌+◌, ◌<◌, ◌≤◌, Bool, IsTrue, inl, inr, List, [], ◌∷◌, ◌++◌, Some, length, subst, sym, refl, ap, ◌∙◌, arith}
 use Rattle.std.proofs.lemmas.Bool.{cases_eq}
 use Rattle.std.proofs.lemmas.Option.{none-some, slice_get_within}
 use Rattle.base.specs.InOrderOnce.{Has, InOrder}
@@ -11,18 +11,8 @@ use Rattle.journal.specs.DidEvent.{event}
 use Rattle.journal.specs.Events.{EventAt}
 use Rattle.journal.specs.WellFormed.{Does, Holds}
 use Rattle.journal.proofs.Order.EventPlacesAndCounts.{event_place_inside, event_place_same}
-use Rattle.causes.specs.declared.waits_at_end.Last.{Last}
 use Rattle.causes.specs.declared.waits_at_end.Wait.{Wait}
 use Rattle.causes.specs.FinalWaits.{AreThoseInFinalWait, AreFinalWaits, IsFinalWait}
-
--- p's last event below place n
-pub record IsStandingWaitLastBelow (j : List Event) (p n : ℕ) (x : Last) : Type 0 where
-  pub does : Does j x.place p x.kind
-  pub last : (m : ℕ) (f : Event) → x.place < m → m < n → EventAt j m f → f.processor ≢ p
-
--- where it has one
-abbrev pub StandingWaitLastBelow : List Event → ℕ → ℕ → Option Last → Type 0
-StandingWaitLastBelow j p n o = MatchOption o ((m : ℕ) (f : Event) → m < n → EventAt j m f → f.processor ≢ p) (IsStandingWaitLastBelow j p n)
 
 -- p has acquired l below place n, and not released it since
 pub record StandingWaitHoldsBelow (j : List Event) (p l n : ℕ) : Type 0 where

@@ -1,5 +1,5 @@
 //! Which locks a processor holds, and who holds one.
-ghost use Rattle.std.specs.Prelude.{◌≡◌, ◌≢◌, ◌↔◌, ℕ, ◌<◌, IsTrue, IfOk, MatchOption, false, length, slice_index_or, take, vec_len};
+ghost use Rattle.std.specs.Prelude.{◌≡◌, ◌≢◌, ◌↔◌, ℕ, ◌<◌, IsTrue, IfOk, MatchOption, Some, true, false, length, slice_index_or, take, vec_len};
 ghost use Rattle.journal.specs.declared.event.Event.{Event};
 ghost use Rattle.journal.specs.declared.event.Kind.TheVariants.{Acquire, Release};
 ghost use Rattle.journal.specs.Events.{EventAt};
@@ -9,31 +9,32 @@ ghost use Rattle.causes.specs.Prelude.{AreThoseInFinalWait};
 use journal::{Event, Kind};
 use std::alloc::{AllocError, Global};
 
-/// Whether the processor holds the lock after this event, which it held or not before.
-fn is_lock_holder_after(held: bool, event: Event, by: usize, lock: usize) -> bool
-    ensures acquired { event ≡ an_event by (Acquire lock) → IsTrue result }
-    ensures released { event ≡ an_event by (Release lock) → ¬ IsTrue result }
-    ensures kept { event ≢ an_event by (Acquire lock) → event ≢ an_event by (Release lock) → result ≡ held }
+/// Whether the processor holds the lock right after this event; None where the event is neither an acquire nor a release of it
+/// by the processor.
+fn is_lock_held_by(event: Event, by: usize, lock: usize) -> Option<bool>
+    ensures acquired { event ≡ an_event by (Acquire lock) ↔ (result ≡ Some true) }
+    ensures released { event ≡ an_event by (Release lock) ↔ (result ≡ Some false) }
 {
     if event.processor != by {
-        return held;
+        return None;
     }
     match event.kind {
-        Kind::Acquire(acquired) => held || acquired == lock,
-        Kind::Release(released) => held && released != lock,
-        _ => held,
+        Kind::Acquire(acquired) if acquired == lock => Some(true),
+        Kind::Release(released) if released == lock => Some(false),
+        _ => None,
     }
 }
 
-/// Whether the processor holds the lock.
+/// Whether the processor holds the lock. It looks from the end on.
 fn is_lock_holder(events: &[Event], by: usize, lock: usize) -> bool
     ensures { IsTrue result ↔ Holds events.now by lock }
 {
-    let mut held = false;
-    for place in 0..events.len() {
-        held = is_lock_holder_after(held, events[place], by, lock);
+    for place in (0..events.len()).rev() {
+        if let Some(held) = is_lock_held_by(events[place], by, lock) {
+            return held;
+        }
     }
-    held
+    false
 }
 
 /// Marks the lock that the processor acquires by this event, or takes the mark away from what it releases.

@@ -171,8 +171,8 @@ fn final_wait_of(
 
 /// What each processor waits for at the end of the history. The only error is running out of memory.
 ///
-/// It looks for the last event of each processor from the end on. It takes time in the order of the number of events times the square of
-/// the number of processors, if all wait and some did nothing for long.
+/// It looks from the end on for each processor's last event and for who holds a lock. It takes time in the order of the number
+/// of events times the square of the number of processors, if all wait and some did nothing for long.
 pub fn final_waits(alloc: Global, history: &History<'_>) -> Result<Vec<Wait>, AllocError>
     ensures long { IfOk result (λ v. vec_len v ≡ history.now.sizes.processors) }
     ensures waits { IfOk result (λ v. AreFinalWaits history.now.sizes.processors history.now.events v.items) }

@@ -14,15 +14,26 @@ fn does_wait_after(kind: Kind) -> bool {
     matches!(kind, Kind::Ask(_) | Kind::Arrive | Kind::Watch(_))
 }
 
-/// Whether some processor waits at the end of these events.
-fn does_anybody_wait(events: &[Event]) -> bool {
-    let mut waits = [false; MOST_JUDGED_PROCESSORS];
-    for event in events {
-        if let Some(wait) = waits.get_mut(event.processor) {
-            *wait = does_wait_after(event.kind);
+/// Whether one of the processors waits at the end of these events. It looks from the end on, until it saw all of them.
+fn does_anybody_wait(events: &[Event], processors: usize) -> bool {
+    let mut is_seen = [false; MOST_JUDGED_PROCESSORS];
+    let mut unseen = processors;
+    for event in events.iter().rev() {
+        if unseen == 0 {
+            return false;
+        }
+        let Some(seen) = is_seen.get_mut(event.processor) else {
+            continue;
+        };
+        if !*seen {
+            if does_wait_after(event.kind) {
+                return true;
+            }
+            *seen = true;
+            unseen -= 1;
         }
     }
-    waits.contains(&true)
+    false
 }
 
 /// Whether what is waited for can't come before another processor does something.
@@ -62,7 +73,7 @@ pub(crate) fn waits_at_end_of_trace(
     let TraceVerdict::Faithful { .. } = verdict else {
         return Ok(Vec::new(alloc));
     };
-    if events.len() > MOST_HELD || !does_anybody_wait(events) {
+    if events.len() > MOST_HELD || !does_anybody_wait(events, sizes.processors) {
         return Ok(Vec::new(alloc));
     }
     match History::new(trace_history_sizes(sizes), events) {
